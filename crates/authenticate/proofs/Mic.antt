@@ -35,15 +35,15 @@ absorb true false s = refl
 absorb false r s = refl
 
 -- every field leaves room for what ends at k; and some field is nonempty
-abbrev room : ℕ → List (ℕ × Field) → Bool
+abbrev pub room : ℕ → List (ℕ × Field) → Bool
 room k [] = true
 room k (f ∷ fs) = begins k (f .1) && room k fs
 
-abbrev some : List (ℕ × Field) → Bool
+abbrev pub some : List (ℕ × Field) → Bool
 some [] = false
 some (f ∷ fs) = not (isEmpty (f .1)) || some fs
 
-lowest : (k : ℕ) (fs : List (ℕ × Field)) (n : ℕ) → leb k (lowestOffset fs n) ≡ (room k fs && (some fs || leb k n))
+pub lowest : (k : ℕ) (fs : List (ℕ × Field)) (n : ℕ) → leb k (lowestOffset fs n) ≡ (room k fs && (some fs || leb k n))
 lowest k [] n = refl
 lowest k (f ∷ fs) n = go (isEmpty (f .1)) (lowest k fs n) (lowest k fs (f .1 .offset)) where
   go : (e : Bool) → leb k (lowestOffset fs n) ≡ (room k fs && (some fs || leb k n)) →

@@ -1,0 +1,10 @@
+-- All bench cases hold, by computation.
+use mathlib.Core.Path.{refl}
+use Rattle.wire.specs.Field.{fieldAt}
+use Rattle.wire.specs.Head.{signatureHolds, readHead}
+use Rattle.authenticate.specs.Authenticate.{fieldsAt, checkEnds, checkBegins, checkNames, checkShared, checkFields, micPresent, readingOf, readAuthenticate}
+use Rattle.demands.specs.Bench.{BenchHolds}
+
+pub bench-holds : BenchHolds
+unfolding readAuthenticate readingOf readHead signatureHolds fieldsAt fieldAt checkFields checkEnds checkBegins checkNames checkShared micPresent
+bench-holds = refl

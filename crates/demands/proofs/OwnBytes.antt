@@ -1,0 +1,106 @@
+-- Each field handed out is that field's own bytes.
+use Prim.Native.Nat.{ℕ, _+_, _≤_, _<_}
+use mathlib.Core.Path.{_≡_, refl, sym, ap, _∙_, subst}
+use mathlib.Core.Bool.{Bool, true, false, cond}
+use mathlib.Core.List.{List, []}
+use native.Mathlib.Omega.{arith}
+use lib.ListN.{length, take, drop, replicate}
+use Rattle.wire.specs.declared.field.Field.{Field}
+use Rattle.wire.specs.declared.flags.NegotiateFlags.{NegotiateFlags}
+use Rattle.wire.specs.declared.head.Head.{Head}
+use Rattle.wire.specs.declared.head.Head.the-variants.{Flags}
+use Rattle.wire.specs.Field.{isEmpty, noField, fieldBytes}
+use Rattle.wire.specs.Head.{flagsAt, readHead}
+use Rattle.wire.proofs.Fields.{own-bytes}
+use Rattle.authenticate.specs.declared.Authenticate.{Authenticate}
+use Rattle.authenticate.specs.declared.Reading.{Reading}
+use Rattle.authenticate.specs.declared.Reading.the-variants.{Taken, Refused}
+use Rattle.authenticate.specs.Authenticate.{layout, fieldsAt, micPresent, micBytes, readingOf, readAuthenticate}
+use Rattle.authenticate.proofs.Laws.{TakenBy, taken-by}
+use Rattle.demands.specs.Authenticate.{lenOf, offsetOf, Nonempty, MicThere, Fails}
+use Rattle.demands.specs.OwnBytes.{OwnField, OwnAnswer, AuthenticateOwn, AuthenticateRefusedMic}
+use Rattle.demands.specs.TakenExactly.{IsTaken}
+use Rattle.demands.proofs.Authenticate.{Stands, both-ways, true-not-false}
+use Rattle.demands.proofs.TakenExactly.{six, JudgedH, head-judged, authenticate-taken}
+use Rattle.demands.proofs.Mic.{mic-there}
+
+module _ (s : List ℕ) (i : ℕ) (f : Field) (w : Stands s i f) where
+  pub is-full : Nonempty s i → isEmpty f ≡ false
+  is-full ne = go (isEmpty f) refl where
+    go : (e : Bool) → isEmpty f ≡ e → isEmpty f ≡ false
+    go true p = absurd (w .empty p ne)
+    go false p = p
+
+  is-empty : (Nonempty s i → ⊥) → isEmpty f ≡ true
+  is-empty no-bytes = go (isEmpty f) refl where
+    go : (e : Bool) → isEmpty f ≡ e → isEmpty f ≡ true
+    go true p = p
+    go false p = absurd (no-bytes (w .full p))
+
+  own-field : (Fails s 6 i → ⊥) → OwnField s i f
+  own-field ends =
+      record {
+        place = λ ne. (w .offset (is-full ne), w .len (is-full ne));
+        whole = whole;
+        bytes = λ ne.
+            own-bytes s f (omega (arith, whole ne, w .offset (is-full ne), w .len (is-full ne)))
+            ∙ simp (w .offset (is-full ne), w .len (is-full ne));
+        none = λ empty.
+            let e = w .none (is-empty empty) in (
+              ap (λ (x : Field). x .offset) e,
+              ap (λ (x : Field). x .len) e,
+              ap (λ (x : Field). fieldBytes s x) e ∙ own-bytes s noField (omega arith),
+            );
+      }
+    where
+      whole : Nonempty s i → offsetOf s i + lenOf s i ≤ length s
+      whole ne = go (λ l. ends (ne, l)) where
+        go : (length s < offsetOf s i + lenOf s i → ⊥) → offsetOf s i + lenOf s i ≤ length s
+        go h = omega (arith, h)
+
+-- what a taken message is answered with
+pub taken-answer : (s : List ℕ) (a : Authenticate) → readAuthenticate s .reading ≡ Taken a →
+    a ≡ record { flags = flagsAt s 60; fields = fieldsAt s (flagsAt s 60); «mic_present» = micPresent (length s) (fieldsAt s (flagsAt s 60)) }
+unfolding readAuthenticate
+taken-answer s a h =
+    let t = taken-by s a h in
+    t .answer ∙ simp (subst (JudgedH s) (t .head) (head-judged s) .0)
+
+-- a taken message fails no check
+pub none-fails : (s : List ℕ) (a : Authenticate) → readAuthenticate s .reading ≡ Taken a → (n i : ℕ) → Fails s n i → ⊥
+none-fails s a h = authenticate-taken s .0 (subst IsTaken (sym h) tt)
+
+not-there : (s : List ℕ) → (micPresent (length s) (fieldsAt s (flagsAt s 60)) ≡ true → ⊥) → micPresent (length s) (fieldsAt s (flagsAt s 60)) ≡ false
+not-there s h = go (micPresent (length s) (fieldsAt s (flagsAt s 60))) refl where
+  go : (b : Bool) → micPresent (length s) (fieldsAt s (flagsAt s 60)) ≡ b → micPresent (length s) (fieldsAt s (flagsAt s 60)) ≡ false
+  go true p = absurd (h p)
+  go false p = p
+
+-- the MIC's bytes of a taken message, by whether it is there
+mic-is : (s : List ℕ) (a : Authenticate) → readAuthenticate s .reading ≡ Taken a →
+    (b : Bool) → micPresent (length s) (fieldsAt s (flagsAt s 60)) ≡ b →
+    readAuthenticate s .mic ≡ cond b (take 16 (drop 72 s)) (replicate 16 0)
+unfolding readAuthenticate
+mic-is s a h b p = simp (h, taken-answer s a h, p)
+
+pub authenticate-own : AuthenticateOwn
+unfolding readAuthenticate
+authenticate-own s a h =
+    rw (taken-answer s a h)
+    (let x = six s (λ i f. (Fails s 6 i → ⊥) → OwnField s i f) (own-field s) in
+    record {
+      flags = refl;
+      lm = x .0 (none-fails s a h 6 1);
+      nt = x .1 (none-fails s a h 6 2);
+      domain = x .2 (none-fails s a h 6 3);
+      user = x .3 (none-fails s a h 6 4);
+      workstation = x .4 (none-fails s a h 6 5);
+      key = x .5 (none-fails s a h 6 6);
+      mic-present = mic-there s;
+      mic-bytes = λ m. mic-is s a h true (mic-there s .1 m);
+      mic-zeros = λ absent. mic-is s a h false (not-there s (λ p. absent (mic-there s .0 p)));
+    })
+
+pub authenticate-refused-mic : AuthenticateRefusedMic
+unfolding readAuthenticate
+authenticate-refused-mic s e h = ap (λ (r : Reading). micBytes r s) h

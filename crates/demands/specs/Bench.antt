@@ -1,0 +1,89 @@
+-- Document 01, "Bench cases": one list of the marked ones, over the definitions, with one claim that all hold.
+use Prim.Native.Nat.{ℕ}
+use mathlib.Core.Path.{_≡_}
+use mathlib.Core.Bool.{Bool, true, false, _&&_, not}
+use mathlib.Core.List.{List, [], _∷_}
+use lib.Dec.{eqb}
+use lib.ListN.{take}
+use lib.Seq.{sets}
+use Rattle.wire.specs.Field.{fieldAt}
+use Rattle.wire.specs.Head.{signatureHolds, readHead}
+use Rattle.wire.specs.Refusal.{numberOf, fieldOf}
+use Rattle.authenticate.specs.declared.Reading.{Reading}
+use Rattle.authenticate.specs.declared.Reading.the-variants.{Taken, Refused}
+use Rattle.authenticate.specs.Authenticate.{fieldsAt, checkEnds, checkBegins, checkNames, checkShared, checkFields, micPresent, readingOf, readAuthenticate}
+
+-- what reading gives: taken, with a MIC or without, or refused with a number and a field
+pub data Expected : Type 0 where
+  taken : Bool → Expected
+  refused : ℕ → ℕ → Expected
+
+pub data Case : Type 0 where
+  -- these bytes, read as AUTHENTICATE
+  authenticate : List ℕ → Expected → Case
+
+abbrev same : Bool → Bool → Bool
+same true b = b
+same false b = not b
+
+abbrev pub gives : Reading → Expected → Bool
+gives (Taken a) (taken mic) = same (a .«mic_present») mic
+gives (Taken a) (refused n f) = false
+gives (Refused e) (taken mic) = false
+gives (Refused e) (refused n f) = eqb (numberOf e) n && eqb (fieldOf e) f
+
+abbrev pub holds : Case → Bool
+unfolding readAuthenticate readingOf readHead signatureHolds fieldsAt fieldAt checkFields checkEnds checkBegins checkNames checkShared micPresent
+holds (authenticate s expected) = gives (readAuthenticate s .reading) expected
+
+abbrev pub allHold : List Case → Bool
+unfolding readAuthenticate readingOf readHead signatureHolds fieldsAt fieldAt checkFields checkEnds checkBegins checkNames checkShared micPresent
+allHold [] = true
+allHold (c ∷ cs) = holds c && allHold cs
+
+-- P1's 120 bytes
+abbrev pub p1 : List ℕ
+p1 =
+    0x4E ∷ 0x54 ∷ 0x4C ∷ 0x4D ∷ 0x53 ∷ 0x53 ∷ 0x50 ∷ 0x00 ∷ 0x03 ∷ 0x00 ∷ 0x00 ∷ 0x00 ∷
+    0x00 ∷ 0x00 ∷ 0x00 ∷ 0x00 ∷ 0x60 ∷ 0x00 ∷ 0x00 ∷ 0x00 ∷ 0x18 ∷ 0x00 ∷ 0x18 ∷ 0x00 ∷ 0x60 ∷ 0x00 ∷ 0x00 ∷ 0x00 ∷
+    0x00 ∷ 0x00 ∷ 0x00 ∷ 0x00 ∷ 0x58 ∷ 0x00 ∷ 0x00 ∷ 0x00 ∷ 0x08 ∷ 0x00 ∷ 0x08 ∷ 0x00 ∷ 0x58 ∷ 0x00 ∷ 0x00 ∷ 0x00 ∷
+    0x00 ∷ 0x00 ∷ 0x00 ∷ 0x00 ∷ 0x60 ∷ 0x00 ∷ 0x00 ∷ 0x00 ∷ 0x00 ∷ 0x00 ∷ 0x00 ∷ 0x00 ∷ 0x78 ∷ 0x00 ∷ 0x00 ∷ 0x00 ∷
+    0x01 ∷ 0x02 ∷ 0x00 ∷ 0x00 ∷
+    0x00 ∷ 0x00 ∷ 0x00 ∷ 0x00 ∷ 0x00 ∷ 0x00 ∷ 0x00 ∷ 0x00 ∷ 0x00 ∷ 0x00 ∷ 0x00 ∷ 0x00 ∷
+    0x00 ∷ 0x00 ∷ 0x00 ∷ 0x00 ∷ 0x00 ∷ 0x00 ∷ 0x00 ∷ 0x00 ∷ 0x00 ∷ 0x00 ∷ 0x00 ∷ 0x00 ∷
+    0x62 ∷ 0x00 ∷ 0x6F ∷ 0x00 ∷ 0x78 ∷ 0x00 ∷ 0x37 ∷ 0x00 ∷
+    0xAA ∷ 0xAA ∷ 0xAA ∷ 0xAA ∷ 0xAA ∷ 0xAA ∷ 0xAA ∷ 0xAA ∷ 0xAA ∷ 0xAA ∷ 0xAA ∷ 0xAA ∷
+    0xAA ∷ 0xAA ∷ 0xAA ∷ 0xAA ∷ 0xAA ∷ 0xAA ∷ 0xAA ∷ 0xAA ∷ 0xAA ∷ 0xAA ∷ 0xAA ∷ 0xAA ∷ []
+
+-- P1 with another user length, or another user offset (below 65,536)
+abbrev userLen : ℕ → List ℕ
+userLen n = sets p1 36 (n ∷ 0 ∷ [])
+
+abbrev userOffset : ℕ → List ℕ
+userOffset n = sets p1 40 (n ∷ 0 ∷ 0 ∷ 0 ∷ [])
+
+abbrev pub cases : List Case
+cases =
+    -- P1's reading
+    authenticate p1 (taken true) ∷
+    -- P2: user offset 113, and 112
+    authenticate (userOffset 113) (refused 6 4) ∷
+    authenticate (userOffset 112) (refused 9 4) ∷
+    -- P3: user offset 62, and 64
+    authenticate (userOffset 62) (refused 7 4) ∷
+    authenticate (userOffset 64) (taken false) ∷
+    -- P4: user length 7, and 10
+    authenticate (userLen 7) (refused 8 4) ∷
+    authenticate (userLen 10) (refused 9 4) ∷
+    -- P5: user length 0, offset 0xFFFFFFFF
+    authenticate (sets (userLen 0) 40 (0xFF ∷ 0xFF ∷ 0xFF ∷ 0xFF ∷ [])) (taken true) ∷
+    -- P6: user offset 113, and LM length 1 at offset 10
+    authenticate (sets (sets (userOffset 113) 12 (1 ∷ 0 ∷ [])) 16 (10 ∷ 0 ∷ 0 ∷ 0 ∷ [])) (refused 6 4) ∷
+    -- the unmarked three: the first 63 bytes only, type 2, flags 0x200
+    authenticate (take 63 p1) (refused 2 0) ∷
+    authenticate (sets p1 8 (2 ∷ [])) (refused 4 0) ∷
+    authenticate (sets p1 60 (0x00 ∷ [])) (refused 5 0) ∷
+    []
+
+abbrev pub BenchHolds : Type 0
+BenchHolds = allHold cases ≡ true
