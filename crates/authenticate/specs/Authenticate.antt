@@ -1,7 +1,7 @@
 -- AUTHENTICATE_MESSAGE (MS-NLMP 2.2.1.3), read as document 01 sets it out.
 use Prim.Native.Nat.{ℕ, _≤_, min}
 use mathlib.Core.Path.{_≡_}
-use mathlib.Core.Bool.{Bool, true, false, _||_, not, cond}
+use mathlib.Core.Bool.{Bool, true, _||_, not, cond}
 use mathlib.Core.List.{List, [], _∷_}
 use lib.Dec.{leb}
 use lib.ListN.{length, take, drop, replicate}
@@ -11,14 +11,12 @@ use Rattle.wire.specs.declared.check.Verdict.the-variants.{Refused as Not}
 use Rattle.wire.specs.declared.field.Field.{Field}
 use Rattle.wire.specs.declared.flags.NegotiateFlags.{NegotiateFlags}
 use Rattle.wire.specs.declared.head.Layout.{Layout}
-use Rattle.wire.specs.declared.refusal.Refusal.{Refusal}
 use Rattle.wire.specs.declared.refusal.Refusal.the-variants.{PastEnd, InFixedPart, OddName, NameOverSecret}
 use Rattle.wire.specs.Check.{checked, overAll, onClear}
 use Rattle.wire.specs.Field.{isEmpty, fieldAt, endsInside, beginsAfter, evenName, share}
 use Rattle.wire.specs.Flags.{unicode, keyExch}
 use Rattle.wire.specs.Head.{readHead, onFlags}
 use Rattle.authenticate.specs.declared.Fields.{Fields}
-use Rattle.authenticate.specs.declared.Authenticate.{Authenticate}
 use Rattle.authenticate.specs.declared.Reading.{Reading}
 use Rattle.authenticate.specs.declared.Reading.the-variants.{Taken, Refused}
 use Rattle.authenticate.specs.declared.Answer.{Answer}

@@ -1,8 +1,10 @@
 pub mod Order
-pub mod Authenticate
+pub mod Message
+pub mod Chain
 pub mod TakenExactly
 pub mod Mic
 pub mod OwnBytes
 pub mod Alike
+pub mod Unchanged
 pub mod Ignored
 pub mod Bench

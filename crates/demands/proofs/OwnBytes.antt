@@ -2,42 +2,40 @@
 use Prim.Native.Nat.{ℕ, _+_, _≤_, _<_}
 use mathlib.Core.Path.{_≡_, refl, sym, ap, _∙_, subst}
 use mathlib.Core.Bool.{Bool, true, false, cond}
-use mathlib.Core.List.{List, []}
+use mathlib.Core.List.{List}
 use native.Mathlib.Omega.{arith}
 use lib.ListN.{length, take, drop, replicate}
 use Rattle.wire.specs.declared.field.Field.{Field}
-use Rattle.wire.specs.declared.flags.NegotiateFlags.{NegotiateFlags}
-use Rattle.wire.specs.declared.head.Head.{Head}
-use Rattle.wire.specs.declared.head.Head.the-variants.{Flags}
 use Rattle.wire.specs.Field.{isEmpty, noField, fieldBytes}
-use Rattle.wire.specs.Head.{flagsAt, readHead}
+use Rattle.wire.specs.Head.{flagsAt}
 use Rattle.wire.proofs.Fields.{own-bytes}
 use Rattle.authenticate.specs.declared.Authenticate.{Authenticate}
 use Rattle.authenticate.specs.declared.Reading.{Reading}
-use Rattle.authenticate.specs.declared.Reading.the-variants.{Taken, Refused}
-use Rattle.authenticate.specs.Authenticate.{layout, fieldsAt, micPresent, micBytes, readingOf, readAuthenticate}
-use Rattle.authenticate.proofs.Laws.{TakenBy, taken-by}
-use Rattle.demands.specs.Authenticate.{lenOf, offsetOf, Nonempty, MicThere, Fails}
-use Rattle.demands.specs.OwnBytes.{OwnField, OwnAnswer, AuthenticateOwn, AuthenticateRefusedMic}
+use Rattle.authenticate.specs.declared.Reading.the-variants.{Taken}
+use Rattle.authenticate.specs.Authenticate.{fieldsAt, micPresent, micBytes, readAuthenticate}
+use Rattle.authenticate.proofs.Laws.{taken-by}
+use Rattle.demands.specs.Message.{Kind, authenticate, lenOf, offsetOf, Nonempty, Fails}
+use Rattle.demands.specs.OwnBytes.{OwnField, AuthenticateOwn, AuthenticateRefusedMic}
 use Rattle.demands.specs.TakenExactly.{IsTaken}
-use Rattle.demands.proofs.Authenticate.{Stands, both-ways, true-not-false}
-use Rattle.demands.proofs.TakenExactly.{six, JudgedH, head-judged, authenticate-taken}
+use Rattle.demands.proofs.Chain.{JudgedH, head-judged}
+use Rattle.demands.proofs.Message.{Stands}
+use Rattle.demands.proofs.TakenExactly.{six, authenticate-taken}
 use Rattle.demands.proofs.Mic.{mic-there}
 
-module _ (s : List ℕ) (i : ℕ) (f : Field) (w : Stands s i f) where
-  pub is-full : Nonempty s i → isEmpty f ≡ false
+module _ (k : Kind) (s : List ℕ) (i : ℕ) (f : Field) (w : Stands k s i f) where
+  pub is-full : Nonempty k s i → isEmpty f ≡ false
   is-full ne = go (isEmpty f) refl where
     go : (e : Bool) → isEmpty f ≡ e → isEmpty f ≡ false
     go true p = absurd (w .empty p ne)
     go false p = p
 
-  is-empty : (Nonempty s i → ⊥) → isEmpty f ≡ true
+  is-empty : (Nonempty k s i → ⊥) → isEmpty f ≡ true
   is-empty no-bytes = go (isEmpty f) refl where
     go : (e : Bool) → isEmpty f ≡ e → isEmpty f ≡ true
     go true p = p
     go false p = absurd (no-bytes (w .full p))
 
-  own-field : (Fails s 6 i → ⊥) → OwnField s i f
+  pub own-field : (Fails k s 6 i → ⊥) → OwnField k s i f
   own-field ends =
       record {
         place = λ ne. (w .offset (is-full ne), w .len (is-full ne));
@@ -53,9 +51,9 @@ module _ (s : List ℕ) (i : ℕ) (f : Field) (w : Stands s i f) where
             );
       }
     where
-      whole : Nonempty s i → offsetOf s i + lenOf s i ≤ length s
+      whole : Nonempty k s i → offsetOf k s i + lenOf k s i ≤ length s
       whole ne = go (λ l. ends (ne, l)) where
-        go : (length s < offsetOf s i + lenOf s i → ⊥) → offsetOf s i + lenOf s i ≤ length s
+        go : (length s < offsetOf k s i + lenOf k s i → ⊥) → offsetOf k s i + lenOf k s i ≤ length s
         go h = omega (arith, h)
 
 -- what a taken message is answered with
@@ -64,10 +62,10 @@ pub taken-answer : (s : List ℕ) (a : Authenticate) → readAuthenticate s .rea
 unfolding readAuthenticate
 taken-answer s a h =
     let t = taken-by s a h in
-    t .answer ∙ simp (subst (JudgedH s) (t .head) (head-judged s) .0)
+    t .answer ∙ simp (subst (JudgedH authenticate s) (t .head) (head-judged authenticate s (omega arith)) .0)
 
 -- a taken message fails no check
-pub none-fails : (s : List ℕ) (a : Authenticate) → readAuthenticate s .reading ≡ Taken a → (n i : ℕ) → Fails s n i → ⊥
+pub none-fails : (s : List ℕ) (a : Authenticate) → readAuthenticate s .reading ≡ Taken a → (n i : ℕ) → Fails authenticate s n i → ⊥
 none-fails s a h = authenticate-taken s .0 (subst IsTaken (sym h) tt)
 
 not-there : (s : List ℕ) → (micPresent (length s) (fieldsAt s (flagsAt s 60)) ≡ true → ⊥) → micPresent (length s) (fieldsAt s (flagsAt s 60)) ≡ false
@@ -87,7 +85,7 @@ pub authenticate-own : AuthenticateOwn
 unfolding readAuthenticate
 authenticate-own s a h =
     rw (taken-answer s a h)
-    (let x = six s (λ i f. (Fails s 6 i → ⊥) → OwnField s i f) (own-field s) in
+    (let x = six s (λ i f. (Fails authenticate s 6 i → ⊥) → OwnField authenticate s i f) (own-field authenticate s) in
     record {
       flags = refl;
       lm = x .0 (none-fails s a h 6 1);

@@ -1,5 +1,5 @@
 pub mod Order
-pub mod Authenticate
+pub mod Message
 pub mod TakenExactly
 pub mod OwnBytes
 pub mod Ignored

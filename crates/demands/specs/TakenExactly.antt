@@ -9,7 +9,7 @@ use Rattle.authenticate.specs.declared.Reading.{Reading}
 use Rattle.authenticate.specs.declared.Reading.the-variants.{Taken, Refused}
 use Rattle.authenticate.specs.Authenticate.{readAuthenticate}
 use Rattle.demands.specs.Order.{First}
-use Rattle.demands.specs.Authenticate.{Fails}
+use Rattle.demands.specs.Message.{Fails, authenticate}
 
 abbrev pub IsTaken : Reading → Type 0
 IsTaken (Taken a) = Unit
@@ -21,8 +21,8 @@ RefusedWith (Refused e) n i = (numberOf e ≡ n) × (fieldOf e ≡ i)
 
 -- AUTHENTICATE is taken if and only if no check fails at any field
 abbrev pub AuthenticateTaken : Type 0
-AuthenticateTaken = (s : List ℕ) → IsTaken (readAuthenticate s .reading) ↔ ((n i : ℕ) → Fails s n i → ⊥)
+AuthenticateTaken = (s : List ℕ) → IsTaken (readAuthenticate s .reading) ↔ ((n i : ℕ) → Fails authenticate s n i → ⊥)
 
 -- and refused with number n and field i if and only if that is the first failure, in document 01's order
 abbrev pub AuthenticateRefused : Type 0
-AuthenticateRefused = (s : List ℕ) (n i : ℕ) → RefusedWith (readAuthenticate s .reading) n i ↔ First (Fails s) n i
+AuthenticateRefused = (s : List ℕ) (n i : ℕ) → RefusedWith (readAuthenticate s .reading) n i ↔ First (Fails authenticate s) n i

@@ -1,7 +1,7 @@
 -- A payload field: its head of eight bytes in the fixed part, and its bytes at an offset from the start of the message.
 use Prim.Native.Nat.{ℕ, _+_, _%_}
 use mathlib.Core.Path.{_≡_}
-use mathlib.Core.Bool.{Bool, true, false, _||_, _&&_, not, cond}
+use mathlib.Core.Bool.{Bool, _||_, _&&_, not, cond}
 use mathlib.Core.List.{List, []}
 use lib.Dec.{leb, ltb, eqb}
 use lib.ListN.{length, take, drop}

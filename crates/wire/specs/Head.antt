@@ -1,5 +1,5 @@
 -- The head of an NTLM message: Signature at 0, MessageType at 8, NegotiateFlags where the layout puts them. Checks 1 to 5.
-use Prim.Native.Nat.{ℕ, _+_}
+use Prim.Native.Nat.{ℕ}
 use mathlib.Core.List.{List, [], _∷_, _++_}
 use lib.Dec.{leb, eqb}
 use lib.ListN.{length}

@@ -1,5 +1,5 @@
--- The reader's fields of an AUTHENTICATE message against the heads' own bytes, and each check's test at one field.
-use Prim.Native.Nat.{ℕ, _+_, _*_, _%_, _≤_, _<_, max}
+-- A reader's fields against the heads' own bytes, and each check's test at one field, for every kind of message.
+use Prim.Native.Nat.{ℕ, _+_, _%_, _≤_, max}
 use mathlib.Core.Path.{_≡_, refl, sym, ap, _∙_}
 use mathlib.Core.Logic.{_⊎_, inl, inr, ⊎-elim}
 use mathlib.Core.Bool.{Bool, true, false, _||_, _&&_, not, cond}
@@ -8,14 +8,12 @@ use native.Mathlib.Omega.{arith}
 use lib.Dec.{leb, ltb, eqb}
 use lib.ListN.{length}
 use borrow.Author.Tests.{leb-true, leb-false, ltb-true, lt-ltb, eqb-true, eqb-false}
-use Rattle.wire.specs.declared.check.Checked.{Checked}
 use Rattle.wire.specs.declared.check.Checked.the-variants.{Held, Failed}
 use Rattle.wire.specs.declared.field.Field.{Field}
 use Rattle.wire.specs.Check.{checked}
 use Rattle.wire.specs.Field.{headAt, isEmpty, noField, fieldAt, endsInside, beginsAfter, evenName, share}
-use Rattle.wire.specs.Number.{u16At}
 use Rattle.wire.proofs.Stands.{and-left, and-right, and-both}
-use Rattle.demands.specs.Authenticate.{headOf, lenOf, offsetOf, Set, Counts, Nonempty, IsName, IsSecret, Covers, Fails}
+use Rattle.demands.specs.Message.{Kind, lenOf, offsetOf, Set, Counts, Nonempty, Covers, Fails}
 
 pub true-not-false : true ≡ false → ⊥
 true-not-false h = let z : _≡_ {A = ℕ} 0 1 = cc in omega arith
@@ -32,22 +30,22 @@ held-true true h = refl
 held-true false h = cc
 
 -- f is what the reader makes of the head of field i
-pub record Stands (s : List ℕ) (i : ℕ) (f : Field) : Type 0 where
-  pub empty : isEmpty f ≡ true → Nonempty s i → ⊥
+pub record Stands (k : Kind) (s : List ℕ) (i : ℕ) (f : Field) : Type 0 where
+  pub empty : isEmpty f ≡ true → Nonempty k s i → ⊥
   pub none : isEmpty f ≡ true → f ≡ noField
-  pub full : isEmpty f ≡ false → Nonempty s i
-  pub offset : isEmpty f ≡ false → f .offset ≡ offsetOf s i
-  pub len : isEmpty f ≡ false → f .len ≡ lenOf s i
+  pub full : isEmpty f ≡ false → Nonempty k s i
+  pub offset : isEmpty f ≡ false → f .offset ≡ offsetOf k s i
+  pub len : isEmpty f ≡ false → f .len ≡ lenOf k s i
 
-pub stands : (s : List ℕ) (i : ℕ) (b : Bool) → 1 ≤ i → i ≤ 6 → (b ≡ true → Counts s i) → (b ≡ false → Counts s i → ⊥) →
-    Stands s i (fieldAt s (headOf i) b)
+pub stands : (k : Kind) (s : List ℕ) (i : ℕ) (b : Bool) → 1 ≤ i → i ≤ k .last → (b ≡ true → Counts k s i) → (b ≡ false → Counts k s i → ⊥) →
+    Stands k s i (fieldAt s (k .head i) b)
 unfolding fieldAt
-stands s i b h1 h6 on off = go b (eqb (lenOf s i) 0) refl on off where
-  go : (b e : Bool) → eqb (lenOf s i) 0 ≡ e → (b ≡ true → Counts s i) → (b ≡ false → Counts s i → ⊥) →
-      Stands s i (cond (b && not e) (headAt s (headOf i)) noField)
+stands k s i b h1 h6 on off = go b (eqb (lenOf k s i) 0) refl on off where
+  go : (b e : Bool) → eqb (lenOf k s i) 0 ≡ e → (b ≡ true → Counts k s i) → (b ≡ false → Counts k s i → ⊥) →
+      Stands k s i (cond (b && not e) (headAt s (k .head i)) noField)
   go true true p y n =
       record {
-        empty = λ h w. omega (arith, eqb-true (lenOf s i) 0 p, w .some);
+        empty = λ h w. omega (arith, eqb-true (lenOf k s i) 0 p, w .some);
         none = λ h. refl;
         full = λ h. absurd (true-not-false h);
         offset = λ h. absurd (true-not-false h);
@@ -57,7 +55,7 @@ stands s i b h1 h6 on off = go b (eqb (lenOf s i) 0) refl on off where
       record {
         empty = λ h. absurd (both-ways _ h p);
         none = λ h. absurd (both-ways _ h p);
-        full = λ h. record { first = h1; last = h6; counts = y refl; some = omega (arith, eqb-false (lenOf s i) 0 p) };
+        full = λ h. record { first = h1; last = h6; counts = y refl; some = omega (arith, eqb-false (lenOf k s i) 0 p) };
         offset = λ h. refl;
         len = λ h. refl;
       }
@@ -71,12 +69,12 @@ stands s i b h1 h6 on off = go b (eqb (lenOf s i) 0) refl on off where
       }
 
 -- a test that an empty field passes
-module _ (s : List ℕ) (i : ℕ) (f : Field) (w : Stands s i f) where
+module _ (k : Kind) (s : List ℕ) (i : ℕ) (f : Field) (w : Stands k s i f) where
   -- what a nonempty field is, with the test's answer
   pub record Tested (b : Bool) : Type 0 where
-    pub field : Nonempty s i
-    pub offset : f .offset ≡ offsetOf s i
-    pub len : f .len ≡ lenOf s i
+    pub field : Nonempty k s i
+    pub offset : f .offset ≡ offsetOf k s i
+    pub len : f .len ≡ lenOf k s i
     pub answer : b ≡ false
 
   pub test-failed : (b : Bool) → (isEmpty f || b) ≡ false → Tested b
@@ -85,36 +83,36 @@ module _ (s : List ℕ) (i : ℕ) (f : Field) (w : Stands s i f) where
     go true p q = absurd (true-not-false q)
     go false p q = record { field = w .full p; offset = w .offset p; len = w .len p; answer = q }
 
-  pub test-held : (b : Bool) → (isEmpty f || b) ≡ true → Nonempty s i → (f .offset ≡ offsetOf s i) × (f .len ≡ lenOf s i) × (b ≡ true)
+  pub test-held : (b : Bool) → (isEmpty f || b) ≡ true → Nonempty k s i → (f .offset ≡ offsetOf k s i) × (f .len ≡ lenOf k s i) × (b ≡ true)
   test-held b h ne = go (isEmpty f) refl h where
-    go : (e : Bool) → isEmpty f ≡ e → (e || b) ≡ true → (f .offset ≡ offsetOf s i) × (f .len ≡ lenOf s i) × (b ≡ true)
+    go : (e : Bool) → isEmpty f ≡ e → (e || b) ≡ true → (f .offset ≡ offsetOf k s i) × (f .len ≡ lenOf k s i) × (b ≡ true)
     go true p q = absurd (w .empty p ne)
     go false p q = (w .offset p, w .len p, q)
 
   -- check 6
-  pub ends-failed : endsInside (length s) f ≡ Failed → Fails s 6 i
+  pub ends-failed : endsInside (length s) f ≡ Failed → Fails k s 6 i
   ends-failed h =
       let t = test-failed (leb (f .offset + f .len) (length s)) (failed-false _ h) in
       (t .field, omega (arith, leb-false (f .offset + f .len) (length s) (t .answer), t .offset, t .len))
 
-  pub ends-held : endsInside (length s) f ≡ Held → Fails s 6 i → ⊥
+  pub ends-held : endsInside (length s) f ≡ Held → Fails k s 6 i → ⊥
   ends-held h fails =
       let t = test-held (leb (f .offset + f .len) (length s)) (held-true _ h) (fails .0) in
       omega (arith, leb-true (f .offset + f .len) (length s) (t .2), t .0, t .1, fails .1)
 
   -- check 7
-  pub begins-failed : beginsAfter 64 f ≡ Failed → Fails s 7 i
+  pub begins-failed : beginsAfter (k .fixed) f ≡ Failed → Fails k s 7 i
   begins-failed h =
-      let t = test-failed (leb 64 (f .offset)) (failed-false _ h) in
-      (t .field, omega (arith, leb-false 64 (f .offset) (t .answer), t .offset))
+      let t = test-failed (leb (k .fixed) (f .offset)) (failed-false _ h) in
+      (t .field, omega (arith, leb-false (k .fixed) (f .offset) (t .answer), t .offset))
 
-  pub begins-held : beginsAfter 64 f ≡ Held → Fails s 7 i → ⊥
+  pub begins-held : beginsAfter (k .fixed) f ≡ Held → Fails k s 7 i → ⊥
   begins-held h fails =
-      let t = test-held (leb 64 (f .offset)) (held-true _ h) (fails .0) in
-      omega (arith, leb-true 64 (f .offset) (t .2), t .0, fails .1)
+      let t = test-held (leb (k .fixed) (f .offset)) (held-true _ h) (fails .0) in
+      omega (arith, leb-true (k .fixed) (f .offset) (t .2), t .0, fails .1)
 
   -- check 8
-  pub even-failed : (u : Bool) → (u ≡ true → Set s 0x1) → IsName i → evenName u f ≡ Failed → Fails s 8 i
+  pub even-failed : (u : Bool) → (u ≡ true → Set k s 0x1) → k .Name i → evenName u f ≡ Failed → Fails k s 8 i
   even-failed u unicode name h = go u refl (failed-false _ h) where
     even : (a c : ℕ) → (eqb (a % 2) 0 && eqb (c % 2) 0) ≡ false → (a % 2 ≡ 1) ⊎ (c % 2 ≡ 1)
     even a c = odd (eqb (a % 2) 0) (eqb (c % 2) 0) refl refl where
@@ -123,13 +121,13 @@ module _ (s : List ℕ) (i : ℕ) (f : Field) (w : Stands s i f) where
       odd true false p q e = inr (omega (arith, eqb-false (c % 2) 0 q))
       odd false y p q e = inl (omega (arith, eqb-false (a % 2) 0 p))
 
-    go : (v : Bool) → u ≡ v → (not v || (isEmpty f || (eqb (f .offset % 2) 0 && eqb (f .len % 2) 0))) ≡ false → Fails s 8 i
+    go : (v : Bool) → u ≡ v → (not v || (isEmpty f || (eqb (f .offset % 2) 0 && eqb (f .len % 2) 0))) ≡ false → Fails k s 8 i
     go true p q =
         let t = test-failed (eqb (f .offset % 2) 0 && eqb (f .len % 2) 0) q in
         (t .field, name, unicode p, rw (← (t .offset), ← (t .len)) (even (f .offset) (f .len) (t .answer)))
     go false p q = absurd (true-not-false q)
 
-  pub even-held : (u : Bool) → (Set s 0x1 → u ≡ true) → evenName u f ≡ Held → Fails s 8 i → ⊥
+  pub even-held : (u : Bool) → (Set k s 0x1 → u ≡ true) → evenName u f ≡ Held → Fails k s 8 i → ⊥
   even-held u unicode h fails = go u (unicode (fails .2)) (held-true _ h) where
     go : (v : Bool) → v ≡ true → (not v || (isEmpty f || (eqb (f .offset % 2) 0 && eqb (f .len % 2) 0))) ≡ true → ⊥
     go true p q =
@@ -140,12 +138,12 @@ module _ (s : List ℕ) (i : ℕ) (f : Field) (w : Stands s i f) where
     go false p q = true-not-false (sym p)
 
 -- check 9's question, of the reader's fields f and g for i and j: whether a byte lies in both
-module _ (s : List ℕ) (i j : ℕ) (f g : Field) (w : Stands s i f) (v : Stands s j g) where
-  pub share-true : share f g ≡ true → Nonempty s i × Nonempty s j × ((p : ℕ) × Covers s i p × Covers s j p)
+module _ (k : Kind) (s : List ℕ) (i j : ℕ) (f g : Field) (w : Stands k s i f) (v : Stands k s j g) where
+  pub share-true : share f g ≡ true → Nonempty k s i × Nonempty k s j × ((p : ℕ) × Covers k s i p × Covers k s j p)
   share-true h = go (isEmpty f) (isEmpty g) refl refl h where
     go : (a b : Bool) → isEmpty f ≡ a → isEmpty g ≡ b →
         (((not a && not b) && ltb (f .offset) (g .offset + g .len)) && ltb (g .offset) (f .offset + f .len)) ≡ true →
-        Nonempty s i × Nonempty s j × ((p : ℕ) × Covers s i p × Covers s j p)
+        Nonempty k s i × Nonempty k s j × ((p : ℕ) × Covers k s i p × Covers k s j p)
     go true b p q e = absurd (true-not-false (sym e))
     go false true p q e = absurd (true-not-false (sym e))
     go false false p q e =
@@ -154,13 +152,13 @@ module _ (s : List ℕ) (i j : ℕ) (f g : Field) (w : Stands s i f) (v : Stands
           w .full p,
           v .full q,
           (
-            max (offsetOf s i) (offsetOf s j),
+            max (offsetOf k s i) (offsetOf k s j),
             (omega arith, omega (arith, l, r, w .offset p, w .len p, v .offset q, v .len q, w .full p .some)),
             (omega arith, omega (arith, l, r, w .offset p, w .len p, v .offset q, v .len q, v .full q .some)),
           ),
         )
 
-  pub share-false : share f g ≡ false → Nonempty s i → Nonempty s j → (p : ℕ) → Covers s i p → Covers s j p → ⊥
+  pub share-false : share f g ≡ false → Nonempty k s i → Nonempty k s j → (p : ℕ) → Covers k s i p → Covers k s j p → ⊥
   share-false h ni nj p ci cj = go (isEmpty f) (isEmpty g) refl refl h where
     go : (a b : Bool) → isEmpty f ≡ a → isEmpty g ≡ b →
         (((not a && not b) && ltb (f .offset) (g .offset + g .len)) && ltb (g .offset) (f .offset + f .len)) ≡ false → ⊥
