@@ -150,6 +150,3 @@ module _ (id : AvId) (s : List ℕ) (at : ℕ) (r : Step) (w : Sought id s at) (
           walked = past s at r e (w .passed) (w .walked) p h;
           none = λ ps. simp (append-snoc, w .none, ← q, y);
         }
-
-pub refusal-is : (v w : Search) (f : Refusal) → v ≡ w → f ≡ searchRefusal w → f ≡ searchRefusal v
-refusal-is v w f p q = rw p q

@@ -108,3 +108,8 @@ findPair id s = onClear Unsearched (checkPairs s) (Done (firstPair id s))
 abbrev pub searchRefusal : Search → Refusal
 searchRefusal (Done f) = TooLong
 searchRefusal (Unsearched e) = e
+
+-- whether a search found a pair
+abbrev pub isThere : Found → Bool
+isThere (At p) = true
+isThere Nothing = false

@@ -1,7 +1,7 @@
 // TargetInfo (MS-NLMP 2.2.2.1): a list of AvPairs, each an id, a length and a value, up to the end pair.
 ghost use mathlib.Core.Path.{_≡_};
 ghost use Prim.Native.Nat.{_+_, _<_, _^_};
-ghost use Rattle.av_pairs.specs.AvPairs.{left, pairThere, endPairHolds, valueInside, sizeHolds, pairOf, stepAt, countPairs, checkPairs, firstPair, findPair, searchRefusal};
+ghost use Rattle.av_pairs.specs.AvPairs.{left, pairThere, endPairHolds, valueInside, sizeHolds, pairOf, stepAt, countPairs, checkPairs, firstPair, findPair, searchRefusal, isThere};
 use wire::av_id::AvId;
 use wire::check::Checked;
 use wire::check::Verdict;
@@ -175,6 +175,17 @@ pub fn find_pair(list: &[u8], id: AvId) -> Search
         return Search::Refused(verdict.refusal());
     };
     Search::Done(first_pair(list, id))
+}
+
+impl Found {
+    pub fn is_there(self) -> bool
+        ensures { λ r. ⌜ r ≡ isThere self ⌝ }
+    {
+        match self {
+            Found::At(_) => true,
+            Found::Nothing => false,
+        }
+    }
 }
 
 impl Search {
