@@ -92,6 +92,11 @@ checkPairs s = stopFrom (suc (length s)) s 0
 unfoldable pub countPairs : List ℕ → Count
 countPairs s = onClear Uncounted (checkPairs s) (Pairs (length (pairsOf s)))
 
+-- whether a search found a pair
+abbrev pub isThere : Found → Bool
+isThere (At p) = true
+isThere Nothing = false
+
 -- the first pair whose id answers a question with yes
 abbrev pub firstBy : (AvId → Bool) → List AvPair → Found
 firstBy is [] = Nothing
@@ -108,8 +113,3 @@ findPair id s = onClear Unsearched (checkPairs s) (Done (firstPair id s))
 abbrev pub searchRefusal : Search → Refusal
 searchRefusal (Done f) = TooLong
 searchRefusal (Unsearched e) = e
-
--- whether a search found a pair
-abbrev pub isThere : Found → Bool
-isThere (At p) = true
-isThere Nothing = false

@@ -3,8 +3,9 @@ use Prim.Native.Nat.{ℕ, _+_, _≤_}
 use mathlib.Core.Path.{_≡_, refl, sym, ap, _∙_}
 use mathlib.Core.Bool.{Bool, true, false}
 use mathlib.Core.List.{List}
+use native.Mathlib.Nat.{le-trans}
 use native.Mathlib.Omega.{arith}
-use lib.Dec.{eqb}
+use lib.Dec.{T, leb, eqb, leb→le}
 use lib.ListN.{length, take, drop, replicate}
 use borrow.Author.Tests.{eqb-true}
 use Rattle.wire.specs.declared.av_id.AvId.{AvId}
@@ -106,8 +107,8 @@ unfolding readingOf
 long s (Taken c) e = fields-long s c (was-taken (fieldsOf s) (λ b. checkPairs (infoOf s b)) c (sym e))
 long s (Refused d) e = tt
 
-pub room : (n : ℕ) (r : Reading) (c : Challenge) → r ≡ Taken c → Long r n → 32 ≤ n
-room n r c p m = rw p at m
+pub room : (k n : ℕ) (r : Reading) (c : Challenge) → r ≡ Taken c → Long r n → T (leb k 32) → k ≤ n
+room k n r c p m h = le-trans (leb→le k 32 h) (rw p at m)
 
 -- ServerChallenge's bytes, by what the reading is known to be
 pub bytes-there : (s b : List ℕ) (r : Reading) (c : Challenge) → r ≡ Taken c → b ≡ take 8 (drop 24 s) → b ≡ serverChallenge r s
