@@ -1,6 +1,7 @@
 pub mod Order
 pub mod Message
 pub mod Chain
+pub mod PairList
 pub mod TakenExactly
 pub mod Mic
 pub mod OwnBytes

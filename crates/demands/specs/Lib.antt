@@ -1,5 +1,6 @@
 pub mod Order
 pub mod Message
+pub mod PairList
 pub mod TakenExactly
 pub mod OwnBytes
 pub mod Ignored

@@ -1,15 +1,20 @@
 -- Demand 2: "A message is taken exactly when every check there holds", and demand 1: "It answers, or refuses by a
 -- number from document 01 in the order given there."
-use Prim.Native.Nat.{ℕ}
+use Prim.Native.Nat.{ℕ, _<_}
 use mathlib.Core.Path.{_≡_}
 use mathlib.Core.Logic.{_↔_}
 use mathlib.Core.List.{List}
+use lib.ListN.{length}
 use Rattle.wire.specs.Refusal.{numberOf, fieldOf}
 use Rattle.authenticate.specs.declared.Reading.{Reading}
 use Rattle.authenticate.specs.declared.Reading.the-variants.{Taken, Refused}
 use Rattle.authenticate.specs.Authenticate.{readAuthenticate}
+use Rattle.av_pairs.specs.declared.Count.{Count}
+use Rattle.av_pairs.specs.declared.Count.the-variants.{Pairs, Refused as Uncounted}
+use Rattle.av_pairs.specs.AvPairs.{countPairs}
 use Rattle.demands.specs.Order.{First}
 use Rattle.demands.specs.Message.{Fails, authenticate}
+use Rattle.demands.specs.PairList.{Holds, FirstFault}
 
 abbrev pub IsTaken : Reading → Type 0
 IsTaken (Taken a) = Unit
@@ -26,3 +31,15 @@ AuthenticateTaken = (s : List ℕ) → IsTaken (readAuthenticate s .reading) ↔
 -- and refused with number n and field i if and only if that is the first failure, in document 01's order
 abbrev pub AuthenticateRefused : Type 0
 AuthenticateRefused = (s : List ℕ) (n i : ℕ) → RefusedWith (readAuthenticate s .reading) n i ↔ First (Fails authenticate s) n i
+
+abbrev pub CountRefused : Count → ℕ → ℕ → Type 0
+CountRefused (Pairs n) number field = ⊥
+CountRefused (Uncounted e) number field = (numberOf e ≡ number) × (fieldOf e ≡ field)
+
+-- a pair list is taken, with its count, if and only if it is empty or well-formed
+abbrev pub PairsTaken : Type 0
+PairsTaken = (s : List ℕ) (n : ℕ) → (countPairs s ≡ Pairs n) ↔ Holds s n
+
+-- and refused with a number, and field 2, if and only if the earliest faulty pair has that fault
+abbrev pub PairsRefused : Type 0
+PairsRefused = (s : List ℕ) (n i : ℕ) → CountRefused (countPairs s) n i ↔ ((0 < length s) × (i ≡ 2) × FirstFault s n 0)
