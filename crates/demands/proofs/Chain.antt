@@ -1,14 +1,15 @@
 -- The chain of checks 1 to 5, and a check over numbered fields, against document 01's table, for every kind of message.
 use Prim.Native.Nat.{ℕ, _+_, _≤_, _<_}
 use mathlib.Core.Path.{_≡_, refl, sym, ap, _∙_, subst}
-use mathlib.Core.Logic.{⊎-elim}
+use mathlib.Core.Logic.{inl, ⊎-elim}
 use mathlib.Core.Bool.{Bool, true, false, _||_}
 use mathlib.Core.List.{List, [], _∷_}
 use native.Mathlib.Nat.{zero-add}
 use native.Mathlib.Omega.{arith}
+use lib.Dec.{ltb}
 use lib.ListN.{length, take, getD, length-take}
 use lib.Seq.{ext-getD, getD-take}
-use borrow.Author.Tests.{leb-true, leb-false, eqb-true, eqb-false}
+use borrow.Author.Tests.{leb-true, leb-false, eqb-true, eqb-false, ne-eqb, ltb-true, ltb-false}
 use Rattle.wire.specs.declared.check.Checked.{Checked}
 use Rattle.wire.specs.declared.check.Checked.the-variants.{Held, Failed}
 use Rattle.wire.specs.declared.check.Verdict.{Verdict}
@@ -132,3 +133,12 @@ module _ (k : Kind) (s : List ℕ) where
   pub then : (m next : ℕ) (v x : Verdict) → JudgedV k s m v → (Free (Fails k s) m 0 → JudgedV k s next x) → JudgedV k s next (onClear Not v x)
   then m next Clear x j f = f j
   then m next (Not e) x j f = j
+
+  -- the table ends at 9
+  pub beyond : Free (Fails k s) 10 0 → (n i : ℕ) → Fails k s n i → ⊥
+  beyond free n i h = go (ltb n 10) refl where
+    go : (t : Bool) → ltb n 10 ≡ t → ⊥
+    go true p = free n i (inl (ltb-true n 10 p)) h
+    go false p =
+        let l = ltb-false n 10 p in
+        simp (ne-eqb n 1 (λ e. omega arith), ne-eqb n 2 (λ e. omega arith), ne-eqb n 3 (λ e. omega arith), ne-eqb n 4 (λ e. omega arith), ne-eqb n 5 (λ e. omega arith), ne-eqb n 6 (λ e. omega arith), ne-eqb n 7 (λ e. omega arith), ne-eqb n 8 (λ e. omega arith), ne-eqb n 9 (λ e. omega arith)) at h

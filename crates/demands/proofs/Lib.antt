@@ -2,6 +2,7 @@ pub mod Order
 pub mod Message
 pub mod Chain
 pub mod PairList
+pub mod Challenge
 pub mod TakenExactly
 pub mod Mic
 pub mod OwnBytes

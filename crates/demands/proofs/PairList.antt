@@ -278,7 +278,7 @@ module _ (s : List ℕ) where
   no-fault (pair e p v) (here f) = pair-or-fault _ _ e f
   no-fault (pair e p v) (later w f) = no-fault v f
 
-  one-first : {at n m : ℕ} → FirstFault s n at → FirstFault s m at → n ≡ m
+  pub one-first : {at n m : ℕ} → FirstFault s n at → FirstFault s m at → n ≡ m
   one-first (here f) (here g) = one-fault _ _ _ f g
   one-first (here f) (later w g) = absurd (pair-or-fault _ _ w f)
   one-first (later v f) (here g) = absurd (pair-or-fault _ _ v g)
@@ -290,7 +290,7 @@ module _ (s : List ℕ) where
   one-holds n m (listed l w) (empty e p) = absurd (omega arith)
   one-holds n m (listed l w) (listed r v) = one-count w v
 
-  holds-or-fault : (n m : ℕ) → Holds s n → 0 < length s → FirstFault s m 0 → ⊥
+  pub holds-or-fault : (n m : ℕ) → Holds s n → 0 < length s → FirstFault s m 0 → ⊥
   holds-or-fault n m (empty e p) h f = omega arith
   holds-or-fault n m (listed l w) h f = no-fault w f
 

@@ -33,7 +33,7 @@ use Rattle.demands.specs.TakenExactly.{IsTaken, RefusedWith, Authenticat
 use Rattle.demands.proofs.Order.{Free, only-first, skip}
 use Rattle.demands.proofs.Message.{Stands, true-not-false, failed-false, held-true, ends-failed, ends-held, begins-failed, begins-held, even-failed, even-held, share-true, share-false}
 use Rattle.demands.proofs.Message as fields
-use Rattle.demands.proofs.Chain.{JudgedV, JudgedH, Links, over-judged, head-judged, then}
+use Rattle.demands.proofs.Chain.{JudgedV, JudgedH, Links, over-judged, head-judged, then, beyond}
 
 module _ (s : List ℕ) where
   -- each field of the reader is its head's
@@ -170,15 +170,6 @@ module _ (s : List ℕ) where
       then authenticate s 8 10 (checkBegins f) (onClear Not (checkNames u f) (checkShared f)) (begins-judged c7) (λ c8.
       then authenticate s 9 10 (checkNames u f) (checkShared f) (names-judged c8) shared-judged))
 
-  -- the table ends at 9
-  beyond : Free (Fails authenticate s) 10 0 → (n i : ℕ) → Fails authenticate s n i → ⊥
-  beyond free n i h = go (ltb n 10) refl where
-    go : (t : Bool) → ltb n 10 ≡ t → ⊥
-    go true p = free n i (inl (ltb-true n 10 p)) h
-    go false p =
-        let l = ltb-false n 10 p in
-        simp (ne-eqb n 1 (λ e. omega arith), ne-eqb n 2 (λ e. omega arith), ne-eqb n 3 (λ e. omega arith), ne-eqb n 4 (λ e. omega arith), ne-eqb n 5 (λ e. omega arith), ne-eqb n 6 (λ e. omega arith), ne-eqb n 7 (λ e. omega arith), ne-eqb n 8 (λ e. omega arith), ne-eqb n 9 (λ e. omega arith)) at h
-
   -- the whole reading
   abbrev Judged : Reading → Type 0
   Judged (Taken a) = (n i : ℕ) → Fails authenticate s n i → ⊥
@@ -194,7 +185,7 @@ module _ (s : List ℕ) where
     rest w = onClear Refused (checkFields (length s) (unicode w) (fieldsAt s w)) (Taken (answer w))
 
     last : (v : Verdict) (a : Authenticate) → JudgedV authenticate s 10 v → Judged (onClear Refused v (Taken a))
-    last Clear a free = beyond free
+    last Clear a free = beyond authenticate s free
     last (Not e) a f = f
 
     go : (h : Head) → JudgedH authenticate s h → Judged (onFlags Refused h rest)

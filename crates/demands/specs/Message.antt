@@ -1,6 +1,6 @@
 -- NTLM messages by their bytes alone: what tells one kind from another, what the heads say, and when each of document
 -- 01's checks 1 to 9 fails. Nothing here names a reader's definition.
-use Prim.Native.Nat.{ℕ, _+_, _*_, _/_, _%_, _≤_, _<_}
+use Prim.Native.Nat.{ℕ, _+_, _-_, _*_, _/_, _%_, _≤_, _<_}
 use mathlib.Core.Path.{_≡_}
 use mathlib.Core.Logic.{_⊎_}
 use mathlib.Core.List.{List, [], _∷_, _++_}
@@ -41,6 +41,22 @@ authenticate =
       Secret = λ i. (i ≡ 1) ⊎ ((i ≡ 2) ⊎ (i ≡ 6));
       Unused = λ p. ⊥;
       HasMic = Unit;
+    }
+
+-- CHALLENGE: heads at 12 and 40; Reserved from 32 to 39
+abbrev pub challenge : Kind
+challenge =
+    record {
+      fixed = 48;
+      number = 2;
+      flags = 20;
+      last = 2;
+      head = λ i. 28 * i - 16;
+      Counts = λ Set i. (i ≡ 1 → Set 0x4) × (i ≡ 2 → Set 0x800000);
+      Name = λ i. i ≡ 1;
+      Secret = λ i. ⊥;
+      Unused = λ p. (32 ≤ p) × (p < 40);
+      HasMic = ⊥;
     }
 
 -- a flag is set, by its mask

@@ -2,9 +2,9 @@
 -- number from document 01 in the order given there."
 use Prim.Native.Nat.{ℕ, _<_}
 use mathlib.Core.Path.{_≡_}
-use mathlib.Core.Logic.{_↔_}
-use mathlib.Core.List.{List}
-use lib.ListN.{length}
+use mathlib.Core.Logic.{_⊎_, _↔_}
+use mathlib.Core.List.{List, []}
+use lib.ListN.{length, take, drop}
 use Rattle.wire.specs.Refusal.{numberOf, fieldOf}
 use Rattle.authenticate.specs.declared.Reading.{Reading}
 use Rattle.authenticate.specs.declared.Reading.the-variants.{Taken, Refused}
@@ -12,8 +12,11 @@ use Rattle.authenticate.specs.Authenticate.{readAuthenticate}
 use Rattle.av_pairs.specs.declared.Count.{Count}
 use Rattle.av_pairs.specs.declared.Count.the-variants.{Pairs, Refused as Uncounted}
 use Rattle.av_pairs.specs.AvPairs.{countPairs}
+use Rattle.challenge.specs.declared.Reading.{Reading as ChallengeReading}
+use Rattle.challenge.specs.declared.Reading.the-variants.{Taken as ChallengeTaken, Refused as ChallengeRefused}
+use Rattle.challenge.specs.Challenge.{readChallenge}
 use Rattle.demands.specs.Order.{First}
-use Rattle.demands.specs.Message.{Fails, authenticate}
+use Rattle.demands.specs.Message.{Fails, authenticate, challenge, Nonempty, lenOf, offsetOf}
 use Rattle.demands.specs.PairList.{Holds, FirstFault}
 
 abbrev pub IsTaken : Reading → Type 0
@@ -43,3 +46,29 @@ PairsTaken = (s : List ℕ) (n : ℕ) → (countPairs s ≡ Pairs n) ↔ Holds s
 -- and refused with a number, and field 2, if and only if the earliest faulty pair has that fault
 abbrev pub PairsRefused : Type 0
 PairsRefused = (s : List ℕ) (n i : ℕ) → CountRefused (countPairs s) n i ↔ ((0 < length s) × (i ≡ 2) × FirstFault s n 0)
+
+abbrev pub IsTakenChallenge : ChallengeReading → Type 0
+IsTakenChallenge (ChallengeTaken c) = Unit
+IsTakenChallenge (ChallengeRefused e) = ⊥
+
+abbrev pub ChallengeRefusedWith : ChallengeReading → ℕ → ℕ → Type 0
+ChallengeRefusedWith (ChallengeTaken c) n i = ⊥
+ChallengeRefusedWith (ChallengeRefused e) n i = (numberOf e ≡ n) × (fieldOf e ≡ i)
+
+-- b are the bytes of TargetInfo, field 2
+pub record InfoBytes (s b : List ℕ) : Type 0 where
+  pub there : Nonempty challenge s 2 → b ≡ take (lenOf challenge s 2) (drop (offsetOf challenge s 2) s)
+  pub absent : (Nonempty challenge s 2 → ⊥) → b ≡ []
+
+-- CHALLENGE is taken if and only if no check of 1 to 8 fails at any field and TargetInfo is a well-formed list
+abbrev pub ChallengeIsTaken : Type 0
+ChallengeIsTaken =
+    (s b : List ℕ) → InfoBytes s b →
+    IsTakenChallenge (readChallenge s .reading) ↔ (((n i : ℕ) → Fails challenge s n i → ⊥) × ((n : ℕ) × Holds b n))
+
+-- and refused by the first of these that fails, and where none does by TargetInfo's earliest faulty pair, with field 2
+abbrev pub ChallengeIsRefused : Type 0
+ChallengeIsRefused =
+    (s b : List ℕ) → InfoBytes s b → (n i : ℕ) →
+    ChallengeRefusedWith (readChallenge s .reading) n i ↔
+    (First (Fails challenge s) n i ⊎ (((m j : ℕ) → Fails challenge s m j → ⊥) × (0 < length b) × (i ≡ 2) × FirstFault b n 0))

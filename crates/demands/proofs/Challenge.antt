@@ -1,0 +1,188 @@
+-- CHALLENGE is taken exactly when every check holds, and refused by the first that fails.
+use Prim.Native.Nat.{ℕ, _+_, _≤_, _<_}
+use mathlib.Core.Path.{_≡_, refl, sym, ap, _∙_, subst}
+use mathlib.Core.Logic.{_⊎_, inl, inr, ⊎-elim, _↔_}
+use mathlib.Core.Bool.{Bool, true, false}
+use mathlib.Core.List.{List, []}
+use native.Mathlib.Omega.{arith}
+use lib.ListN.{length}
+use borrow.Author.Tests.{eqb-true, eqb-false, eq-eqb}
+use Rattle.wire.specs.declared.check.Checked.{Checked}
+use Rattle.wire.specs.declared.check.Checked.the-variants.{Held, Failed}
+use Rattle.wire.specs.declared.check.Verdict.{Verdict}
+use Rattle.wire.specs.declared.check.Verdict.the-variants.{Clear, Refused as Not}
+use Rattle.wire.specs.declared.field.Field.{Field}
+use Rattle.wire.specs.declared.flags.NegotiateFlags.{NegotiateFlags}
+use Rattle.wire.specs.declared.head.Head.{Head}
+use Rattle.wire.specs.declared.head.Head.the-variants.{Flags, Refused as Stopped}
+use Rattle.wire.specs.declared.refusal.Refusal.the-variants.{PastEnd, InFixedPart, OddName}
+use Rattle.wire.specs.Check.{onClear}
+use Rattle.wire.specs.Field.{isEmpty, fieldAt, endsInside, beginsAfter, evenName, fieldBytes}
+use Rattle.wire.specs.Flags.{unicode, requestTarget, targetInfo}
+use Rattle.wire.specs.Head.{flagsAt, readHead, onFlags}
+use Rattle.wire.specs.Refusal.{numberOf, fieldOf}
+use Rattle.av_pairs.specs.declared.Count.the-variants.{Pairs, Refused as Uncounted}
+use Rattle.av_pairs.specs.AvPairs.{checkPairs, countPairs, pairsOf}
+use Rattle.challenge.specs.declared.Challenge.{Challenge}
+use Rattle.challenge.specs.declared.Fields.{Fields}
+use Rattle.challenge.specs.declared.Reading.{Reading}
+use Rattle.challenge.specs.declared.Reading.the-variants.{Taken, Refused}
+use Rattle.challenge.specs.Challenge.{layout, fieldsAt, allFields, names, checkEnds, checkBegins, checkNames, checkFields, fieldsOf, onTaken, infoOf, readingOf, readChallenge}
+use Rattle.demands.specs.Order.{First}
+use Rattle.demands.specs.Message.{challenge, Nonempty, Fails}
+use Rattle.demands.specs.PairList.{Holds, FirstFault}
+use Rattle.demands.specs.OwnBytes.{OwnField}
+use Rattle.demands.specs.TakenExactly.{IsTakenChallenge, ChallengeRefusedWith, InfoBytes, ChallengeIsTaken, ChallengeIsRefused}
+use Rattle.demands.proofs.Order.{Free, only-first, next-check, skip}
+use Rattle.demands.proofs.Message.{Stands, true-not-false, ends-failed, ends-held, begins-failed, begins-held, even-failed, even-held}
+use Rattle.demands.proofs.Message as fields
+use Rattle.demands.proofs.Chain.{JudgedV, JudgedH, Links, over-judged, head-judged, then, beyond}
+use Rattle.demands.proofs.OwnBytes.{own-field, is-full}
+use Rattle.demands.proofs.PairList.{JudgedC, count-judged, holds-or-fault, one-first}
+
+module _ (s : List ℕ) where
+  -- each field of the reader is its head's
+  target-name : Stands challenge s 1 (fieldAt s 12 (requestTarget (flagsAt s 20)))
+  target-name =
+      fields.stands challenge s 1 (requestTarget (flagsAt s 20)) (omega arith) (omega arith)
+      (λ h. (λ e. eqb-true _ 1 h, λ e. absurd (omega arith))) (λ h c. eqb-false _ 1 h (c .0 refl))
+
+  target-info : Stands challenge s 2 (fieldAt s 40 (targetInfo (flagsAt s 20)))
+  target-info =
+      fields.stands challenge s 2 (targetInfo (flagsAt s 20)) (omega arith) (omega arith)
+      (λ h. (λ e. absurd (omega arith), λ e. eqb-true _ 1 h)) (λ h c. eqb-false _ 1 h (c .1 refl))
+
+  pub two : (P : ℕ → Field → Type 0) → ((i : ℕ) (f : Field) → Stands challenge s i f → P i f) →
+      P 1 (fieldsAt s (flagsAt s 20) .«target_name») × P 2 (fieldsAt s (flagsAt s 20) .«target_info»)
+  unfolding fieldsAt
+  two P h = (h 1 _ target-name, h 2 _ target-info)
+
+  abbrev Link : ℕ → (Field → Checked) → ℕ → Field → Type 0
+  Link n ok i f = (ok f ≡ Failed → Fails challenge s n i) × (ok f ≡ Held → Fails challenge s n i → ⊥)
+
+  all-links : (n : ℕ) (ok : Field → Checked) → ((i : ℕ) (f : Field) → Stands challenge s i f → Link n ok i f) →
+      Links challenge s n ok 1 (allFields (fieldsAt s (flagsAt s 20)))
+  all-links n ok l = let x = two (Link n ok) l in (refl, x .0 .0, x .0 .1, (refl, x .1 .0, x .1 .1, tt))
+
+  -- checks 6, 7 and 8; check 9 has no row for a kind with no secrets
+  ends-judged : Free (Fails challenge s) 6 0 → JudgedV challenge s 7 (checkEnds (length s) (fieldsAt s (flagsAt s 20)))
+  unfolding checkEnds
+  ends-judged free =
+      over-judged challenge s 6 7 (endsInside (length s)) PastEnd refl (λ j. (refl, refl)) (allFields (fieldsAt s (flagsAt s 20))) 1
+      (all-links 6 (endsInside (length s)) (λ i f w. (ends-failed challenge s i f w, ends-held challenge s i f w)))
+      (skip (Fails challenge s) 6 1 free (λ j l h. omega (arith, h .0 .first)))
+      (λ j l h. omega (arith, h .0 .last))
+
+  begins-judged : Free (Fails challenge s) 7 0 → JudgedV challenge s 8 (checkBegins (fieldsAt s (flagsAt s 20)))
+  unfolding checkBegins
+  begins-judged free =
+      over-judged challenge s 7 8 (beginsAfter 48) InFixedPart refl (λ j. (refl, refl)) (allFields (fieldsAt s (flagsAt s 20))) 1
+      (all-links 7 (beginsAfter 48) (λ i f w. (begins-failed challenge s i f w, begins-held challenge s i f w)))
+      (skip (Fails challenge s) 7 1 free (λ j l h. omega (arith, h .0 .first)))
+      (λ j l h. omega (arith, h .0 .last))
+
+  names-judged : Free (Fails challenge s) 8 0 → JudgedV challenge s 9 (checkNames (unicode (flagsAt s 20)) (fieldsAt s (flagsAt s 20)))
+  unfolding checkNames
+  names-judged free =
+      let x = two (λ i f. challenge .Name i → Link 8 (evenName (unicode (flagsAt s 20))) i f)
+          (λ i f w n. (even-failed challenge s i f w _ (eqb-true _ 1) n, even-held challenge s i f w _ (eq-eqb _ 1))) in
+      over-judged challenge s 8 9 (evenName (unicode (flagsAt s 20))) OddName refl (λ j. (refl, refl)) (names (fieldsAt s (flagsAt s 20))) 1
+      (refl, x .0 refl .0, x .0 refl .1, tt)
+      (skip (Fails challenge s) 8 1 free (λ j l h. omega (arith, h .0 .first)))
+      (λ j l h. omega (arith, h .1))
+
+  fields-judged : Free (Fails challenge s) 6 0 → JudgedV challenge s 9 (checkFields (length s) (unicode (flagsAt s 20)) (fieldsAt s (flagsAt s 20)))
+  unfolding checkFields
+  fields-judged free =
+      let f = fieldsAt s (flagsAt s 20) in
+      let u = unicode (flagsAt s 20) in
+      then challenge s 7 9 (checkEnds (length s) f) (onClear Not (checkBegins f) (checkNames u f)) (ends-judged free) (λ c7.
+      then challenge s 8 9 (checkBegins f) (checkNames u f) (begins-judged c7) names-judged)
+
+  -- checks 1 to 8
+  abbrev pub JudgedF : Reading → Type 0
+  JudgedF (Taken c) = ((n i : ℕ) → Fails challenge s n i → ⊥) × (c ≡ record { flags = flagsAt s 20; fields = fieldsAt s (flagsAt s 20) })
+  JudgedF (Refused e) = First (Fails challenge s) (numberOf e) (fieldOf e)
+
+  pub fields-of-judged : JudgedF (fieldsOf s)
+  unfolding fieldsOf
+  fields-of-judged = go (readHead layout s) (head-judged challenge s (omega arith)) where
+    rest : NegotiateFlags → Reading
+    rest w = onClear Refused (checkFields (length s) (unicode w) (fieldsAt s w)) (Taken (record { flags = w; fields = fieldsAt s w }))
+    last : (v : Verdict) → JudgedV challenge s 9 v → JudgedF (onClear Refused v (Taken (record { flags = flagsAt s 20; fields = fieldsAt s (flagsAt s 20) })))
+    last Clear free = (beyond challenge s (next-check (Fails challenge s) 9 0 10 refl free (λ j l h. absurd (h .2 .3))), refl)
+    last (Not e) f = f
+    go : (h : Head) → JudgedH challenge s h → JudgedF (onFlags Refused h rest)
+    go (Flags w) j = subst (λ (x : NegotiateFlags). JudgedF (rest x)) (sym (j .0)) (last (checkFields (length s) (unicode (flagsAt s 20)) (fieldsAt s (flagsAt s 20))) (fields-judged (j .1)))
+    go (Stopped e) j = j
+
+  -- TargetInfo's bytes of a message that passed them
+  pub info-is : (b : List ℕ) → InfoBytes s b → ((n i : ℕ) → Fails challenge s n i → ⊥) → fieldBytes s (fieldsAt s (flagsAt s 20) .«target_info») ≡ b
+  info-is b info none = go (two (λ i f. Stands challenge s i f) (λ i f w. w) .1) where
+    f : Field
+    f = fieldsAt s (flagsAt s 20) .«target_info»
+    go : Stands challenge s 2 f → fieldBytes s f ≡ b
+    go w = by (isEmpty f) refl where
+      by : (e : Bool) → isEmpty f ≡ e → fieldBytes s f ≡ b
+      by true p = own-field challenge s 2 f w (none 6 2) .none (w .empty p) .2 ∙ sym (info .absent (w .empty p))
+      by false p = own-field challenge s 2 f w (none 6 2) .bytes (w .full p) ∙ sym (info .there (w .full p))
+
+-- checks 10 to 13 over a list
+abbrev pub JudgedP : List ℕ → Verdict → Type 0
+JudgedP b Clear = (n : ℕ) × Holds b n
+JudgedP b (Not e) = (0 < length b) × (fieldOf e ≡ 2) × FirstFault b (numberOf e) 0
+
+pub pairs-judged : (b : List ℕ) → JudgedP b (checkPairs b)
+unfolding countPairs
+pairs-judged b = go (checkPairs b) (count-judged b) where
+  go : (v : Verdict) → JudgedC b (onClear Uncounted v (Pairs (length (pairsOf b)))) → JudgedP b v
+  go Clear j = (length (pairsOf b), j)
+  go (Not e) j = j
+
+module _ (s b : List ℕ) (info : InfoBytes s b) where
+  abbrev Judged : Reading → Type 0
+  Judged (Taken c) = ((n i : ℕ) → Fails challenge s n i → ⊥) × ((n : ℕ) × Holds b n)
+  Judged (Refused e) =
+      First (Fails challenge s) (numberOf e) (fieldOf e)
+      ⊎ (((n i : ℕ) → Fails challenge s n i → ⊥) × (0 < length b) × (fieldOf e ≡ 2) × FirstFault b (numberOf e) 0)
+
+  judged : Judged (readChallenge s .reading)
+  unfolding readChallenge readingOf
+  judged = go (fieldsOf s) (fields-of-judged s) where
+    last : (c : Challenge) (v : Verdict) → ((n i : ℕ) → Fails challenge s n i → ⊥) → JudgedP b v → Judged (onClear Refused v (Taken c))
+    last c Clear none j = (none, j)
+    last c (Not e) none j = inr (none, j .0, j .1, j .2)
+    go : (r : Reading) → JudgedF s r → Judged (onTaken Refused r (λ c. onClear Refused (checkPairs (infoOf s c)) (Taken c)))
+    go (Taken c) j =
+        rw (j .1, info-is s b info (j .0)) (last (record { flags = flagsAt s 20; fields = fieldsAt s (flagsAt s 20) }) (checkPairs b) (j .0) (pairs-judged b))
+    go (Refused e) j = inl j
+
+pub challenge-taken : ChallengeIsTaken
+challenge-taken s b info = go (readChallenge s .reading) (judged s b info) where
+  go : (r : Reading) → Judged s b info r → IsTakenChallenge r ↔ (((n i : ℕ) → Fails challenge s n i → ⊥) × ((n : ℕ) × Holds b n))
+  go (Taken c) j = (λ t. j, λ h. tt)
+  go (Refused e) j =
+      (λ t. absurd t,
+      λ h. ⊎-elim (λ f. h .0 (numberOf e) (fieldOf e) (f .fails)) (λ f. holds-or-fault b (h .1 .0) (numberOf e) (h .1 .1) (f .1) (f .3)) j)
+
+-- why a message is refused with number m and field j; there is one such reason only
+abbrev Why : List ℕ → List ℕ → ℕ → ℕ → Type 0
+Why s b m j =
+    First (Fails challenge s) m j
+    ⊎ (((x y : ℕ) → Fails challenge s x y → ⊥) × (0 < length b) × (j ≡ 2) × FirstFault b m 0)
+
+one-reason : (s b : List ℕ) (m j n i : ℕ) → Why s b m j → Why s b n i → (m ≡ n) × (j ≡ i)
+one-reason s b m j n i (inl f) (inl g) = only-first (Fails challenge s) m j n i f g
+one-reason s b m j n i (inl f) (inr g) = absurd (g .0 m j (f .fails))
+one-reason s b m j n i (inr f) (inl g) = absurd (f .0 n i (g .fails))
+one-reason s b m j n i (inr f) (inr g) = (one-first b (f .3) (g .3), f .2 ∙ sym (g .2))
+
+pub challenge-refused : ChallengeIsRefused
+challenge-refused s b info n i = go (readChallenge s .reading) (judged s b info) where
+  go : (r : Reading) → Judged s b info r → ChallengeRefusedWith r n i ↔ Why s b n i
+  go (Taken c) j =
+      (λ t. absurd t,
+      λ w. ⊎-elim (λ f. j .0 n i (f .fails)) (λ f. holds-or-fault b (j .1 .0) n (j .1 .1) (f .1) (f .3)) w)
+  go (Refused e) j =
+      (λ t. subst (λ (x : ℕ). Why s b n x) (t .1) (subst (λ (x : ℕ). Why s b x (fieldOf e)) (t .0) j),
+      λ w. one-reason s b (numberOf e) (fieldOf e) n i j w)
