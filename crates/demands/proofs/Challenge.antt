@@ -1,9 +1,9 @@
 -- CHALLENGE is taken exactly when every check holds, and refused by the first that fails.
-use Prim.Native.Nat.{ℕ, _+_, _≤_, _<_}
-use mathlib.Core.Path.{_≡_, refl, sym, ap, _∙_, subst}
+use Prim.Native.Nat.{ℕ, _<_}
+use mathlib.Core.Path.{_≡_, refl, sym, _∙_, subst}
 use mathlib.Core.Logic.{_⊎_, inl, inr, ⊎-elim, _↔_}
 use mathlib.Core.Bool.{Bool, true, false}
-use mathlib.Core.List.{List, []}
+use mathlib.Core.List.{List}
 use native.Mathlib.Omega.{arith}
 use lib.ListN.{length}
 use borrow.Author.Tests.{eqb-true, eqb-false, eq-eqb}
@@ -24,20 +24,18 @@ use Rattle.wire.specs.Refusal.{numberOf, fieldOf}
 use Rattle.av_pairs.specs.declared.Count.the-variants.{Pairs, Refused as Uncounted}
 use Rattle.av_pairs.specs.AvPairs.{checkPairs, countPairs, pairsOf}
 use Rattle.challenge.specs.declared.Challenge.{Challenge}
-use Rattle.challenge.specs.declared.Fields.{Fields}
 use Rattle.challenge.specs.declared.Reading.{Reading}
 use Rattle.challenge.specs.declared.Reading.the-variants.{Taken, Refused}
 use Rattle.challenge.specs.Challenge.{layout, fieldsAt, allFields, names, checkEnds, checkBegins, checkNames, checkFields, fieldsOf, onTaken, infoOf, readingOf, readChallenge}
 use Rattle.demands.specs.Order.{First}
-use Rattle.demands.specs.Message.{challenge, Nonempty, Fails}
+use Rattle.demands.specs.Message.{challenge, Fails}
 use Rattle.demands.specs.PairList.{Holds, FirstFault}
-use Rattle.demands.specs.OwnBytes.{OwnField}
 use Rattle.demands.specs.TakenExactly.{IsTakenChallenge, ChallengeRefusedWith, InfoBytes, ChallengeIsTaken, ChallengeIsRefused}
 use Rattle.demands.proofs.Order.{Free, only-first, next-check, skip}
-use Rattle.demands.proofs.Message.{Stands, true-not-false, ends-failed, ends-held, begins-failed, begins-held, even-failed, even-held}
+use Rattle.demands.proofs.Message.{Stands, ends-failed, ends-held, begins-failed, begins-held, even-failed, even-held}
 use Rattle.demands.proofs.Message as fields
 use Rattle.demands.proofs.Chain.{JudgedV, JudgedH, Links, over-judged, head-judged, then, beyond}
-use Rattle.demands.proofs.OwnBytes.{own-field, is-full}
+use Rattle.demands.proofs.OwnBytes.{own-field}
 use Rattle.demands.proofs.PairList.{JudgedC, count-judged, holds-or-fault, one-first}
 
 module _ (s : List ℕ) where
@@ -85,7 +83,7 @@ module _ (s : List ℕ) where
   unfolding checkNames
   names-judged free =
       let x = two (λ i f. challenge .Name i → Link 8 (evenName (unicode (flagsAt s 20))) i f)
-          (λ i f w n. (even-failed challenge s i f w _ (eqb-true _ 1) n, even-held challenge s i f w _ (eq-eqb _ 1))) in
+      (λ i f w n. (even-failed challenge s i f w _ (eqb-true _ 1) n, even-held challenge s i f w _ (eq-eqb _ 1))) in
       over-judged challenge s 8 9 (evenName (unicode (flagsAt s 20))) OddName refl (λ j. (refl, refl)) (names (fieldsAt s (flagsAt s 20))) 1
       (refl, x .0 refl .0, x .0 refl .1, tt)
       (skip (Fails challenge s) 8 1 free (λ j l h. omega (arith, h .0 .first)))
@@ -109,9 +107,11 @@ module _ (s : List ℕ) where
   fields-of-judged = go (readHead layout s) (head-judged challenge s (omega arith)) where
     rest : NegotiateFlags → Reading
     rest w = onClear Refused (checkFields (length s) (unicode w) (fieldsAt s w)) (Taken (record { flags = w; fields = fieldsAt s w }))
+
     last : (v : Verdict) → JudgedV challenge s 9 v → JudgedF (onClear Refused v (Taken (record { flags = flagsAt s 20; fields = fieldsAt s (flagsAt s 20) })))
     last Clear free = (beyond challenge s (next-check (Fails challenge s) 9 0 10 refl free (λ j l h. absurd (h .2 .3))), refl)
     last (Not e) f = f
+
     go : (h : Head) → JudgedH challenge s h → JudgedF (onFlags Refused h rest)
     go (Flags w) j = subst (λ (x : NegotiateFlags). JudgedF (rest x)) (sym (j .0)) (last (checkFields (length s) (unicode (flagsAt s 20)) (fieldsAt s (flagsAt s 20))) (fields-judged (j .1)))
     go (Stopped e) j = j
@@ -121,6 +121,7 @@ module _ (s : List ℕ) where
   info-is b info none = go (two (λ i f. Stands challenge s i f) (λ i f w. w) .1) where
     f : Field
     f = fieldsAt s (flagsAt s 20) .«target_info»
+
     go : Stands challenge s 2 f → fieldBytes s f ≡ b
     go w = by (isEmpty f) refl where
       by : (e : Bool) → isEmpty f ≡ e → fieldBytes s f ≡ b
@@ -152,6 +153,7 @@ module _ (s b : List ℕ) (info : InfoBytes s b) where
     last : (c : Challenge) (v : Verdict) → ((n i : ℕ) → Fails challenge s n i → ⊥) → JudgedP b v → Judged (onClear Refused v (Taken c))
     last c Clear none j = (none, j)
     last c (Not e) none j = inr (none, j .0, j .1, j .2)
+
     go : (r : Reading) → JudgedF s r → Judged (onTaken Refused r (λ c. onClear Refused (checkPairs (infoOf s c)) (Taken c)))
     go (Taken c) j =
         rw (j .1, info-is s b info (j .0)) (last (record { flags = flagsAt s 20; fields = fieldsAt s (flagsAt s 20) }) (checkPairs b) (j .0) (pairs-judged b))
@@ -161,9 +163,10 @@ pub challenge-taken : ChallengeIsTaken
 challenge-taken s b info = go (readChallenge s .reading) (judged s b info) where
   go : (r : Reading) → Judged s b info r → IsTakenChallenge r ↔ (((n i : ℕ) → Fails challenge s n i → ⊥) × ((n : ℕ) × Holds b n))
   go (Taken c) j = (λ t. j, λ h. tt)
-  go (Refused e) j =
-      (λ t. absurd t,
-      λ h. ⊎-elim (λ f. h .0 (numberOf e) (fieldOf e) (f .fails)) (λ f. holds-or-fault b (h .1 .0) (numberOf e) (h .1 .1) (f .1) (f .3)) j)
+  go (Refused e) j = (
+    λ t. absurd t,
+    λ h. ⊎-elim (λ f. h .0 (numberOf e) (fieldOf e) (f .fails)) (λ f. holds-or-fault b (h .1 .0) (numberOf e) (h .1 .1) (f .1) (f .3)) j,
+  )
 
 -- why a message is refused with number m and field j; there is one such reason only
 abbrev Why : List ℕ → List ℕ → ℕ → ℕ → Type 0
@@ -180,9 +183,11 @@ one-reason s b m j n i (inr f) (inr g) = (one-first b (f .3) (g .3), f .2 ∙ sy
 pub challenge-refused : ChallengeIsRefused
 challenge-refused s b info n i = go (readChallenge s .reading) (judged s b info) where
   go : (r : Reading) → Judged s b info r → ChallengeRefusedWith r n i ↔ Why s b n i
-  go (Taken c) j =
-      (λ t. absurd t,
-      λ w. ⊎-elim (λ f. j .0 n i (f .fails)) (λ f. holds-or-fault b (j .1 .0) n (j .1 .1) (f .1) (f .3)) w)
-  go (Refused e) j =
-      (λ t. subst (λ (x : ℕ). Why s b n x) (t .1) (subst (λ (x : ℕ). Why s b x (fieldOf e)) (t .0) j),
-      λ w. one-reason s b (numberOf e) (fieldOf e) n i j w)
+  go (Taken c) j = (
+    λ t. absurd t,
+    λ w. ⊎-elim (λ f. j .0 n i (f .fails)) (λ f. holds-or-fault b (j .1 .0) n (j .1 .1) (f .1) (f .3)) w,
+  )
+  go (Refused e) j = (
+    λ t. subst (λ (x : ℕ). Why s b n x) (t .1) (subst (λ (x : ℕ). Why s b x (fieldOf e)) (t .0) j),
+    λ w. one-reason s b (numberOf e) (fieldOf e) n i j w,
+  )

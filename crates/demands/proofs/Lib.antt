@@ -3,6 +3,9 @@ pub mod Message
 pub mod Chain
 pub mod PairList
 pub mod Challenge
+pub mod Found
+pub mod ChallengeOwn
+pub mod ChallengeIgnored
 pub mod TakenExactly
 pub mod Mic
 pub mod OwnBytes

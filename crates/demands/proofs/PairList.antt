@@ -2,29 +2,24 @@
 use Prim.Native.Nat.{ℕ, zero, suc, _+_, _-_, _%_, _≤_, _<_}
 use mathlib.Core.Path.{_≡_, refl, sym, ap, _∙_, subst}
 use mathlib.Core.Logic.{_⊎_, inl, inr, ⊎-elim, _↔_}
-use mathlib.Core.Bool.{Bool, true, false, _&&_, _||_, not, cond}
+use mathlib.Core.Bool.{Bool, true, false, _&&_, _||_, cond}
 use mathlib.Core.List.{List, [], _∷_}
 use native.Mathlib.Omega.{arith}
-use lib.Dec.{leb, eqb}
+use lib.Dec.{eqb}
 use lib.ListN.{length}
 use borrow.Author.Tests.{leb-true, leb-false, eqb-true, eqb-false, eq-eqb, ne-eqb}
 use Rattle.wire.specs.declared.av_id.AvId.{AvId}
-use Rattle.wire.specs.declared.check.Checked.{Checked}
-use Rattle.wire.specs.declared.check.Checked.the-variants.{Held, Failed}
 use Rattle.wire.specs.declared.check.Verdict.{Verdict}
 use Rattle.wire.specs.declared.check.Verdict.the-variants.{Clear, Refused as Not}
-use Rattle.wire.specs.declared.refusal.Refusal.{Refusal}
-use Rattle.wire.specs.declared.refusal.Refusal.the-variants.{PairPastEnd, PairMissing, WrongEndPair, WrongPairSize}
 use Rattle.wire.specs.AvId.{isEnd, isText, sizeAllowed, implies}
-use Rattle.wire.specs.Check.{checked, after, onClear}
+use Rattle.wire.specs.Check.{onClear}
 use Rattle.wire.specs.Refusal.{numberOf, fieldOf}
-use Rattle.av_pairs.specs.declared.AvPair.{AvPair}
 use Rattle.av_pairs.specs.declared.Step.{Step}
 use Rattle.av_pairs.specs.declared.Step.the-variants.{Pair, End, Refused}
 use Rattle.av_pairs.specs.declared.Count.{Count}
 use Rattle.av_pairs.specs.declared.Count.the-variants.{Pairs, Refused as Uncounted}
 use Rattle.av_pairs.specs.AvPairs.{left, idAt, pairOf, stepAt, endOf, onStep, pairsFrom, stopFrom, pairsOf, checkPairs, countPairs}
-use Rattle.demands.specs.PairList.{idOf, sizeOf, nextOf, SizeAllowed, PairAt, EndAt, WellFormed, end, pair, Holds, empty, listed, Fails10, Fails11, Fails12, Fails13, FaultAt, fault10, fault11, fault12, fault13, FirstFault, here, later}
+use Rattle.demands.specs.PairList.{idOf, sizeOf, nextOf, SizeAllowed, PairAt, EndAt, WellFormed, end, pair, Holds, empty, listed, Fails10, Fails11, Fails12, FaultAt, fault10, fault11, fault12, fault13, FirstFault, here, later}
 use Rattle.demands.specs.TakenExactly.{CountRefused, PairsTaken, PairsRefused}
 use Rattle.demands.proofs.Message.{true-not-false, both-ways, failed-false, held-true}
 use Rattle.demands.proofs.Chain.{chained}
@@ -130,10 +125,11 @@ module _ (s : List ℕ) (at : ℕ) where
   unfolding left
   end-failed l h = go (eqb (idOf s at) 0) refl h where
     go : (e : Bool) → eqb (idOf s at) 0 ≡ e → implies e (eqb (sizeOf s at) 0 && eqb (length s - at) 4) ≡ false → Fails12 s at
-    go true p q =
-        (eqb-true (idOf s at) 0 p,
-        ⊎-elim (λ f. inl (eqb-false (sizeOf s at) 0 f)) (λ f. inr (longer (eqb-false (length s - at) 4 f)))
-        (not-both (eqb (sizeOf s at) 0) (eqb (length s - at) 4) q))
+    go true p q = (
+      eqb-true (idOf s at) 0 p,
+      ⊎-elim (λ f. inl (eqb-false (sizeOf s at) 0 f)) (λ f. inr (longer (eqb-false (length s - at) 4 f)))
+          (not-both (eqb (sizeOf s at) 0) (eqb (length s - at) 4) q),
+    )
       where
         longer : (length s - at ≡ 4 → ⊥) → at + 4 < length s
         longer n = omega (arith, n)
@@ -175,12 +171,16 @@ module _ (s : List ℕ) (at : ℕ) where
     where
       short : length s - at < 4 → length s < at + 4
       short l = omega arith
+
       room : 4 ≤ length s - at → at + 4 ≤ length s
       room l = omega arith
+
       past : length s - at < 4 + sizeOf s at → length s < nextOf s at
       past l = omega arith
+
       inside : 4 + sizeOf s at ≤ length s - at → at + 4 ≤ length s → nextOf s at ≤ length s
       inside l r = omega arith
+
       last : (e : Bool) → eqb (idOf s at) 0 ≡ e → implies (isEnd (idAt s at)) (eqb (sizeOf s at) 0 && eqb (left s at) 4) ≡ true →
           nextOf s at ≤ length s → SizeAllowed (idOf s at) (sizeOf s at) →
           JudgedS s at (cond e End (Pair (record { id = idAt s at; at = at + 4; len = sizeOf s at })))
@@ -209,7 +209,7 @@ list-judged (suc k) s at h l = go (stepAt s at) (step-judged s at h) (λ f. list
   go (Refused e) j rest = (here (j .0), j .1)
 
 -- an empty list is at its end
-empty-step : (s : List ℕ) (at : ℕ) → length s ≡ 0 → stepAt s at ≡ End
+pub empty-step : (s : List ℕ) (at : ℕ) → length s ≡ 0 → stepAt s at ≡ End
 unfolding stepAt
 empty-step s at e = simp (eq-eqb (length s) 0 e)
 
@@ -224,6 +224,7 @@ count-judged s = go (length s) refl where
   of-list : (n : ℕ) (v : Verdict) → 0 < length s → JudgedL s 0 n v → JudgedC s (onClear Uncounted v (Pairs n))
   of-list n Clear h j = listed h j
   of-list n (Not e) h j = (h, j .1, j .0)
+
   go : (k : ℕ) → length s ≡ k → JudgedC s (onClear Uncounted (stopFrom (suc (length s)) s 0) (Pairs (length (pairsFrom (suc (length s)) s 0))))
   go zero p = simp (empty-step s 0 p) (empty p refl)
   go (suc k) p =
@@ -232,10 +233,10 @@ count-judged s = go (length s) refl where
 
 -- a place has one answer only
 module _ (s : List ℕ) where
-  pair-or-end : (at : ℕ) → PairAt s at → EndAt s at → ⊥
+  pub pair-or-end : (at : ℕ) → PairAt s at → EndAt s at → ⊥
   pair-or-end at p e = p .not-end (e .id)
 
-  pair-or-fault : (at n : ℕ) → PairAt s at → FaultAt s at n → ⊥
+  pub pair-or-fault : (at n : ℕ) → PairAt s at → FaultAt s at n → ⊥
   pair-or-fault at n p (fault11 e f) = omega (arith, p .whole, f)
   pair-or-fault at n p (fault12 e a f) = p .not-end (f .0)
   pair-or-fault at n p (fault10 e a b f) = omega (arith, p .whole, f)
@@ -304,6 +305,7 @@ pub pairs-refused : PairsRefused
 pairs-refused s n i = go (countPairs s) (count-judged s) where
   go : (c : Count) → JudgedC s c → CountRefused c n i ↔ ((0 < length s) × (i ≡ 2) × FirstFault s n 0)
   go (Pairs m) j = (λ t. absurd t, λ f. holds-or-fault s m n j (f .0) (f .2))
-  go (Uncounted e) j =
-      (λ t. (j .0, sym (t .1) ∙ j .1, subst (λ (x : ℕ). FirstFault s x 0) (t .0) (j .2)),
-      λ f. (one-first s (j .2) (f .2), j .1 ∙ sym (f .1)))
+  go (Uncounted e) j = (
+    λ t. (j .0, sym (t .1) ∙ j .1, subst (λ (x : ℕ). FirstFault s x 0) (t .0) (j .2)),
+    λ f. (one-first s (j .2) (f .2), j .1 ∙ sym (f .1)),
+  )

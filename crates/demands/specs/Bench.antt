@@ -9,6 +9,9 @@ use lib.Seq.{sets}
 use Rattle.wire.specs.Field.{fieldAt}
 use Rattle.wire.specs.Head.{signatureHolds, readHead}
 use Rattle.wire.specs.Refusal.{numberOf, fieldOf}
+use Rattle.av_pairs.specs.declared.Count.{Count}
+use Rattle.av_pairs.specs.declared.Count.the-variants.{Pairs, Refused as Uncounted}
+use Rattle.av_pairs.specs.AvPairs.{countPairs, checkPairs, pairsOf, stepAt, pairOf, left}
 use Rattle.authenticate.specs.declared.Reading.{Reading}
 use Rattle.authenticate.specs.declared.Reading.the-variants.{Taken, Refused}
 use Rattle.authenticate.specs.Authenticate.{fieldsAt, checkEnds, checkBegins, checkNames, checkShared, checkFields, micPresent, readingOf, readAuthenticate}
@@ -21,6 +24,9 @@ pub data Expected : Type 0 where
 pub data Case : Type 0 where
   -- these bytes, read as AUTHENTICATE
   authenticate : List ℕ → Expected → Case
+  -- these bytes as a TargetInfo list: so many pairs, or refused with a number
+  pairs : List ℕ → ℕ → Case
+  pairsRefused : List ℕ → ℕ → Case
 
 abbrev same : Bool → Bool → Bool
 same true b = b
@@ -32,12 +38,23 @@ gives (Taken a) (refused n f) = false
 gives (Refused e) (taken mic) = false
 gives (Refused e) (refused n f) = eqb (numberOf e) n && eqb (fieldOf e) f
 
+-- a list's count, or its refusal with field 2
+abbrev counts : Count → ℕ → Bool
+counts (Pairs m) n = eqb m n
+counts (Uncounted e) n = false
+
+abbrev refuses : Count → ℕ → Bool
+refuses (Pairs m) n = false
+refuses (Uncounted e) n = eqb (numberOf e) n && eqb (fieldOf e) 2
+
 abbrev pub holds : Case → Bool
-unfolding readAuthenticate readingOf readHead signatureHolds fieldsAt fieldAt checkFields checkEnds checkBegins checkNames checkShared micPresent
+unfolding readAuthenticate readingOf readHead signatureHolds fieldsAt fieldAt checkFields checkEnds checkBegins checkNames checkShared micPresent countPairs checkPairs pairsOf stepAt pairOf left
 holds (authenticate s expected) = gives (readAuthenticate s .reading) expected
+holds (pairs s n) = counts (countPairs s) n
+holds (pairsRefused s n) = refuses (countPairs s) n
 
 abbrev pub allHold : List Case → Bool
-unfolding readAuthenticate readingOf readHead signatureHolds fieldsAt fieldAt checkFields checkEnds checkBegins checkNames checkShared micPresent
+unfolding readAuthenticate readingOf readHead signatureHolds fieldsAt fieldAt checkFields checkEnds checkBegins checkNames checkShared micPresent countPairs checkPairs pairsOf stepAt pairOf left
 allHold [] = true
 allHold (c ∷ cs) = holds c && allHold cs
 
@@ -83,6 +100,12 @@ cases =
     authenticate (take 63 p1) (refused 2 0) ∷
     authenticate (sets p1 8 (2 ∷ [])) (refused 4 0) ∷
     authenticate (sets p1 60 (0x00 ∷ [])) (refused 5 0) ∷
+    -- P7 to P11: TargetInfo lists
+    pairs (0x00 ∷ 0x00 ∷ 0x00 ∷ 0x00 ∷ []) 0 ∷
+    pairsRefused (0x00 ∷ 0x00 ∷ 0x00 ∷ []) 11 ∷
+    pairsRefused (0x01 ∷ 0x00 ∷ 0x06 ∷ 0x00 ∷ 0x41 ∷ 0x00 ∷ []) 10 ∷
+    pairsRefused (0x00 ∷ 0x00 ∷ 0x00 ∷ 0x00 ∷ 0x00 ∷ []) 12 ∷
+    pairsRefused (0x06 ∷ 0x00 ∷ 0x02 ∷ 0x00 ∷ 0x00 ∷ 0x00 ∷ 0x00 ∷ 0x00 ∷ 0x00 ∷ 0x00 ∷ []) 13 ∷
     []
 
 abbrev pub BenchHolds : Type 0

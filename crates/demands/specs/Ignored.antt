@@ -8,7 +8,10 @@ use Rattle.authenticate.specs.declared.Authenticate.{Authenticate}
 use Rattle.authenticate.specs.declared.Fields.{Fields}
 use Rattle.authenticate.specs.declared.Reading.the-variants.{Taken}
 use Rattle.authenticate.specs.Authenticate.{readAuthenticate}
-use Rattle.demands.specs.Message.{authenticate, DifferInIgnored}
+use Rattle.challenge.specs.declared.Challenge.{Challenge}
+use Rattle.challenge.specs.declared.Reading.the-variants.{Taken as ChallengeTaken}
+use Rattle.challenge.specs.Challenge.{readChallenge, timestampOf, serverNamesOf}
+use Rattle.demands.specs.Message.{authenticate, challenge, DifferInIgnored}
 
 -- a field has the same bytes in both
 abbrev pub SameBytes : List ℕ → List ℕ → Field → Type 0
@@ -30,3 +33,14 @@ pub record SameAnswer (s t : List ℕ) : Type 0 where
 
 abbrev pub AuthenticateIgnored : Type 0
 AuthenticateIgnored = (s t : List ℕ) → DifferInIgnored authenticate s t → SameAnswer s t
+
+-- for CHALLENGE also the timestamp and the server's names
+pub record SameChallenge (s t : List ℕ) : Type 0 where
+  pub answer : readChallenge s ≡ readChallenge t
+  pub timestamp : timestampOf s ≡ timestampOf t
+  pub server-names : serverNamesOf s ≡ serverNamesOf t
+  pub target-name : (c : Challenge) → readChallenge s .reading ≡ ChallengeTaken c → SameBytes s t (c .fields .«target_name»)
+  pub target-info : (c : Challenge) → readChallenge s .reading ≡ ChallengeTaken c → SameBytes s t (c .fields .«target_info»)
+
+abbrev pub ChallengeIgnored : Type 0
+ChallengeIgnored = (s t : List ℕ) → DifferInIgnored challenge s t → SameChallenge s t

@@ -5,14 +5,28 @@ use mathlib.Core.Bool.{true}
 use mathlib.Core.Logic.{_↔_}
 use mathlib.Core.List.{List, []}
 use lib.ListN.{length, take, drop, replicate}
+use Rattle.wire.specs.declared.av_id.AvId.{AvId}
 use Rattle.wire.specs.declared.field.Field.{Field}
 use Rattle.wire.specs.declared.refusal.Refusal.{Refusal}
 use Rattle.wire.specs.Field.{fieldBytes}
-use Rattle.wire.specs.Number.{u32At}
+use Rattle.wire.specs.Number.{u32At, u64At}
 use Rattle.authenticate.specs.declared.Authenticate.{Authenticate}
 use Rattle.authenticate.specs.declared.Reading.the-variants.{Taken, Refused}
 use Rattle.authenticate.specs.Authenticate.{readAuthenticate}
-use Rattle.demands.specs.Message.{Kind, authenticate, lenOf, offsetOf, Nonempty, MicThere}
+use Rattle.av_pairs.specs.declared.AvPair.{AvPair}
+use Rattle.av_pairs.specs.declared.Found.the-variants.{At, Nothing}
+use Rattle.av_pairs.specs.declared.Search.the-variants.{Done}
+use Rattle.av_pairs.specs.AvPairs.{findPair}
+use Rattle.challenge.specs.declared.Challenge.{Challenge}
+use Rattle.challenge.specs.declared.Reading.the-variants.{Taken as ChallengeTaken, Refused as ChallengeRefused}
+use Rattle.challenge.specs.declared.Timestamp.the-variants.{Time, Nothing as NoTime}
+use Rattle.challenge.specs.declared.TimestampReading.the-variants.{Taken as TimeTaken}
+use Rattle.challenge.specs.declared.ServerNames.{ServerNames}
+use Rattle.challenge.specs.declared.ServerNamesReading.the-variants.{Taken as NamesTaken}
+use Rattle.challenge.specs.Challenge.{readChallenge, timestampOf, serverNamesOf}
+use Rattle.demands.specs.Message.{Kind, authenticate, challenge, lenOf, offsetOf, Nonempty, MicThere}
+use Rattle.demands.specs.PairList.{sizeOf, FirstWith}
+use Rattle.demands.specs.TakenExactly.{InfoBytes}
 
 -- field i of s is handed out as f: the Len bytes from its offset on and nothing else; a field that is empty or doesn't
 -- count has none, and place 0
@@ -42,3 +56,50 @@ AuthenticateOwn = (s : List ℕ) (a : Authenticate) → readAuthenticate s .read
 abbrev pub AuthenticateRefusedMic : Type 0
 AuthenticateRefusedMic =
     (s : List ℕ) (e : Refusal) → readAuthenticate s .reading ≡ Refused e → readAuthenticate s .mic ≡ replicate 16 0
+
+-- what a taken CHALLENGE message is answered with
+pub record OwnChallenge (s : List ℕ) (c : Challenge) : Type 0 where
+  pub flags : c .flags .bits ≡ u32At s 20
+  pub target-name : OwnField challenge s 1 (c .fields .«target_name»)
+  pub target-info : OwnField challenge s 2 (c .fields .«target_info»)
+  pub server-challenge : readChallenge s .«server_challenge» ≡ take 8 (drop 24 s)
+
+abbrev pub ChallengeOwn : Type 0
+ChallengeOwn = (s : List ℕ) (c : Challenge) → readChallenge s .reading ≡ ChallengeTaken c → OwnChallenge s c
+
+abbrev pub ChallengeRefusedZeros : Type 0
+ChallengeRefusedZeros =
+    (s : List ℕ) (e : Refusal) → readChallenge s .reading ≡ ChallengeRefused e → readChallenge s .«server_challenge» ≡ replicate 8 0
+
+-- a pair that a search hands out is the first with its id, with that pair's own place and length
+pub record OwnPair (s : List ℕ) (id : ℕ) (p : AvPair) : Type 0 where
+  pub place : ℕ
+  pub first : FirstWith s id place 0
+  pub id-same : p .id .id ≡ id
+  pub value : p .at ≡ place + 4
+  pub size : p .len ≡ sizeOf s place
+  pub whole : p .at + p .len ≤ length s
+
+abbrev pub FoundOwn : Type 0
+FoundOwn = (s : List ℕ) (a : AvId) (p : AvPair) → findPair a s ≡ Done (At p) → OwnPair s (a .id) p
+
+-- and where it hands out none, none has the id
+abbrev pub NothingThere : Type 0
+NothingThere = (s : List ℕ) (a : AvId) → findPair a s ≡ Done Nothing → (place : ℕ) → FirstWith s (a .id) place 0 → ⊥
+
+-- the timestamp is the value of TargetInfo's first pair 7, as a number; where there is none, there is no pair 7
+abbrev pub TimestampOwn : Type 0
+TimestampOwn =
+    (s b : List ℕ) → InfoBytes s b → (time : ℕ) → timestampOf s ≡ TimeTaken (Time time) →
+    (place : ℕ) × FirstWith b 7 place 0 × (time ≡ u64At b (place + 4))
+
+abbrev pub NoTimestampThere : Type 0
+NoTimestampThere =
+    (s b : List ℕ) → InfoBytes s b → timestampOf s ≡ TimeTaken NoTime → (place : ℕ) → FirstWith b 7 place 0 → ⊥
+
+-- pairs 1 and 2 are said to be there exactly when they are
+abbrev pub ServerNamesOwn : Type 0
+ServerNamesOwn =
+    (s b : List ℕ) → InfoBytes s b → (names : ServerNames) → serverNamesOf s ≡ NamesTaken names →
+    ((names .«nb_computer_name» ≡ true) ↔ ((place : ℕ) × FirstWith b 1 place 0))
+    × ((names .«nb_domain_name» ≡ true) ↔ ((place : ℕ) × FirstWith b 2 place 0))
