@@ -23,10 +23,9 @@ use Rattle.av_pairs.specs.declared.Step.the-variants.{Pair, End, Refused
 use Rattle.av_pairs.specs.declared.Count.{Count}
 use Rattle.av_pairs.specs.declared.Count.the-variants.{Pairs, Refused as Uncounted}
 use Rattle.av_pairs.specs.declared.Found.the-variants.{At, Nothing}
-use Rattle.av_pairs.specs.declared.Search.{Search}
-use Rattle.av_pairs.specs.AvPairs.{stepAt, endOf, onStep, askAt, pairsFrom, stopFrom, pairsOf, checkPairs, countPairs, firstBy, firstPair, searchRefusal}
+use Rattle.av_pairs.specs.AvPairs.{stepAt, endOf, onStep, askAt, pairsFrom, stopFrom, pairsOf, checkPairs, countPairs, firstBy, firstPair}
 use Rattle.av_pairs.proofs.Step.{the-type}
-use Rattle.av_pairs.proofs.Steps.{Gave, gave}
+use Rattle.av_pairs.proofs.Steps.{gave}
 
 -- the walk has passed the pairs ps and is at a place: what is left of the list's pairs and its verdict is found from there on
 pub record Walked (s : List ℕ) (at : ℕ) (ps : List AvPair) : Type 0 where

@@ -25,6 +25,12 @@ pub enum Step {
     Refused(Refusal),
 }
 
+// What asking at a place of a list gives, and the place to ask at next.
+pub struct Asked {
+    pub step: Step,
+    pub next: usize,
+}
+
 // How many pairs a list holds, the end pair left out.
 pub enum Count {
     Pairs(usize),
@@ -120,12 +126,6 @@ pub fn step_at(list: &[u8], at: usize) -> Step
     };
     let len = u16_at(list, at + 2);
     pair_of(id, len, at, left)
-}
-
-// What asking at a place of a list gives, and the place to ask at next.
-pub struct Asked {
-    pub step: Step,
-    pub next: usize,
 }
 
 // Asks at a place, and moves on past a pair; the end and a fault stay where they are.
