@@ -16,6 +16,7 @@ use Rattle.wire.specs.Number.{u16At}
 use Rattle.av_pairs.specs.declared.AvPair.{AvPair}
 use Rattle.av_pairs.specs.declared.Step.{Step}
 use Rattle.av_pairs.specs.declared.Step.the-variants.{Pair, End, Refused}
+use Rattle.av_pairs.specs.declared.Asked.{Asked}
 use Rattle.av_pairs.specs.declared.Count.{Count}
 use Rattle.av_pairs.specs.declared.Count.the-variants.{Pairs, Refused as Uncounted}
 use Rattle.av_pairs.specs.declared.Found.{Found}
@@ -69,6 +70,10 @@ abbrev pub onStep : {A : Type 0} → Step → (AvPair → A) → (Verdict → A)
 onStep (Pair p) pair stop = pair p
 onStep End pair stop = stop Clear
 onStep (Refused e) pair stop = stop (Not e)
+
+-- asking at a place: what stands there, and the place to ask at next, which is past a pair, and else the same
+unfoldable pub askAt : List ℕ → ℕ → Asked
+askAt s at = record { step = stepAt s at; next = onStep (stepAt s at) endOf (λ v. at) }
 
 -- the pairs from a place on, before the end or the first fault, in at most so many steps
 abbrev pub pairsFrom : ℕ → List ℕ → ℕ → List AvPair
