@@ -177,7 +177,7 @@ fn refusal_20_128_bit_demanded() {
 
 #[test]
 fn refusal_21_names_wanted() {
-    let lists: [(&[(u16, &[u8])], bool); 6] = [
+    let lists: [(&Pairs<'_>, bool); 6] = [
         (&[], false),
         (&[(1, b"S\0")], false),
         (&[(2, b"D\0")], false),

@@ -170,7 +170,7 @@ fn the_ntlm_program_chooses_by_the_type() {
 fn a_line_with_no_room_is_33_and_changes_nothing() {
     let time = list(&[(7, &[3; 8])]);
     let chal = challenge(UNICODE | REQUEST_TARGET | TARGET_INFO, &utf16("a b"), &time);
-    let calls: [(fn(&[u8], &mut [u8]) -> _, Vec<u8>); 5] = [
+    let calls: [(LineCall, Vec<u8>); 5] = [
         (ntlm_line, p1()),
         (ntlm_line, p1_with(USER, 8, 64)),
         (ntlm_line, b"short".to_vec()),

@@ -92,8 +92,11 @@ pub fn pair(id: u16, value: &[u8]) -> Vec<u8> {
     bytes
 }
 
+/// Ids and values.
+pub type Pairs<'a> = [(u16, &'a [u8])];
+
 /// A list of pairs and the end pair.
-pub fn list(pairs: &[(u16, &[u8])]) -> Vec<u8> {
+pub fn list(pairs: &Pairs<'_>) -> Vec<u8> {
     let mut bytes: Vec<u8> = pairs
         .iter()
         .flat_map(|(id, value)| pair(*id, value))
@@ -131,11 +134,13 @@ pub fn refused<T: std::fmt::Debug>(answer: Result<T, Refusal>) -> (u8, u8) {
     (refusal.number(), refusal.field)
 }
 
-type LineCall = fn(&[u8], &mut [u8]) -> Result<usize, Refusal>;
+/// A line call.
+pub type LineCall = fn(&[u8], &mut [u8]) -> Result<usize, Refusal>;
 
 /// The line of a line call with room enough for any.
 pub fn line(call: LineCall, message: &[u8]) -> String {
-    let mut room = vec![0; 1 << 20];
+    // Each byte may stand in three names and takes up to 4 characters.
+    let mut room = vec![0; 128 + 12 * message.len()];
     let len = call(message, &mut room).expect("room enough");
     String::from_utf8(room[..len].to_vec()).expect("ASCII")
 }
