@@ -89,29 +89,29 @@ impl<'a> Authenticate<'a> {
     }
 
     /// The six fields in field order.
-    const fn fields(&self) -> [(Field<'a>, u8); 6] {
+    const fn fields(&self) -> [(&Field<'a>, u8); 6] {
         [
-            (self.lm, Self::LM),
-            (self.nt, Self::NT),
-            (self.domain, Self::DOMAIN),
-            (self.user, Self::USER),
-            (self.workstation, Self::WORKSTATION),
-            (self.key, Self::KEY),
+            (&self.lm, Self::LM),
+            (&self.nt, Self::NT),
+            (&self.domain, Self::DOMAIN),
+            (&self.user, Self::USER),
+            (&self.workstation, Self::WORKSTATION),
+            (&self.key, Self::KEY),
         ]
     }
 
     /// "Fields 3, 4 and 5 are names."
-    const fn names(&self) -> [(Field<'a>, u8); 3] {
+    const fn names(&self) -> [(&Field<'a>, u8); 3] {
         [
-            (self.domain, Self::DOMAIN),
-            (self.user, Self::USER),
-            (self.workstation, Self::WORKSTATION),
+            (&self.domain, Self::DOMAIN),
+            (&self.user, Self::USER),
+            (&self.workstation, Self::WORKSTATION),
         ]
     }
 
     /// "1, 2 and 6 are secrets."
-    const fn secrets(&self) -> [Field<'a>; 3] {
-        [self.lm, self.nt, self.key]
+    const fn secrets(&self) -> [&Field<'a>; 3] {
+        [&self.lm, &self.nt, &self.key]
     }
 
     /// Check 7 over all fields in field order.

@@ -82,7 +82,7 @@ impl Line for Authenticate<'_> {
 
     fn put<S: Sink>(&self, sink: &mut S) {
         sink.put(b"auth flags=");
-        put_hex32(sink, self.flags.0);
+        put_hex(sink, self.flags.0.to_be_bytes());
         put_set(sink, self.set);
         sink.put(b" domain=");
         put_name(sink, self.set, self.domain.bytes);
@@ -123,7 +123,7 @@ impl Line for Challenge<'_> {
 
     fn put<S: Sink>(&self, sink: &mut S) {
         sink.put(b"chal flags=");
-        put_hex32(sink, self.flags.0);
+        put_hex(sink, self.flags.0.to_be_bytes());
         put_set(sink, self.set);
         sink.put(b" target=");
         put_name(sink, self.set, self.target_name.bytes);
@@ -131,7 +131,7 @@ impl Line for Challenge<'_> {
         put_decimal(sink, self.pairs.pairs);
         if let Some(time) = self.pairs.timestamp {
             sink.put(b" time=");
-            put_hex64(sink, time);
+            put_hex(sink, time.to_be_bytes());
         }
         sink.put(b"\n");
     }
@@ -151,7 +151,7 @@ impl Line for NlAuth<'_> {
         sink.put(b"nl type=");
         put_decimal(sink, self.message_type as usize);
         sink.put(b" flags=");
-        put_hex32(sink, self.flags.bits());
+        put_hex(sink, self.flags.bits().to_be_bytes());
         let words = WORDS.iter().zip(NlAuthFlags::STRINGS);
         for ((word, (bit, _)), string) in words.zip(&self.strings) {
             if self.flags.has(bit) {
@@ -197,28 +197,44 @@ const fn name_limit(name: &[u8]) -> usize {
 /// case."
 fn put_name<S: Sink>(sink: &mut S, set: CharacterSet, name: &[u8]) {
     match set {
-        CharacterSet::Unicode => {
+        CharacterSet::Unicode => put_units(
+            sink,
             // Check 8 has made the length even.
-            for &[low, high] in name.as_chunks::<2>().0 {
-                if high == 0 && is_plain(low) {
-                    sink.put(&[low]);
-                } else {
-                    let [a, b] = hex_digits(high);
-                    let [c, d] = hex_digits(low);
-                    sink.put(&[b'\\', b'u', a, b, c, d]);
-                }
-            }
-        }
-        CharacterSet::Oem => {
-            for &byte in name {
-                if is_plain(byte) {
-                    sink.put(&[byte]);
-                } else {
-                    let [a, b] = hex_digits(byte);
-                    sink.put(&[b'\\', b'x', a, b]);
-                }
-            }
-        }
+            name.as_chunks::<2>().0,
+            |&[low, high]| (high == 0 && is_plain(low)).then_some(low),
+            |&[low, high]| {
+                let [a, b] = hex_digits(high);
+                let [c, d] = hex_digits(low);
+                [b'\\', b'u', a, b, c, d]
+            },
+        ),
+        CharacterSet::Oem => put_units(
+            sink,
+            name,
+            |&byte| is_plain(byte).then_some(byte),
+            |&byte| {
+                let [a, b] = hex_digits(byte);
+                [b'\\', b'x', a, b]
+            },
+        ),
+    }
+}
+
+/// Puts the units that stand for themselves run by run, and each unit that
+/// ends a run as its escape.
+fn put_units<S: Sink, Unit, const N: usize>(
+    sink: &mut S,
+    mut units: &[Unit],
+    plain: impl Fn(&Unit) -> Option<u8>,
+    escape: impl Fn(&Unit) -> [u8; N],
+) {
+    loop {
+        let run = sink.put_each(units.iter().map_while(&plain));
+        let Some((other, rest)) = units.get(run..).and_then(<[Unit]>::split_first) else {
+            return;
+        };
+        sink.put(&escape(other));
+        units = rest;
     }
 }
 
@@ -228,46 +244,24 @@ const fn is_plain(byte: u8) -> bool {
 
 /// The two upper-case hex digits of a byte.
 const fn hex_digits(byte: u8) -> [u8; 2] {
-    [hex_digit(byte >> 4), hex_digit(byte & 0xF)]
+    [hex_digit(byte >> 4), hex_digit(byte)]
 }
 
+#[allow(clippy::indexing_slicing)] // the index is below 16
 const fn hex_digit(nibble: u8) -> u8 {
-    match nibble {
-        0..=9 => b'0' + nibble,
-        _ => b'A' - 10 + (nibble & 0xF),
-    }
+    b"0123456789ABCDEF"[(nibble & 0xF) as usize]
 }
 
-/// "H is eight upper-case hex digits."
-fn put_hex32<S: Sink>(sink: &mut S, number: u32) {
-    let mut digits = [[0; 2]; 4];
-    for (pair, byte) in digits.iter_mut().zip(number.to_be_bytes()) {
-        *pair = hex_digits(byte);
-    }
-    sink.put(digits.as_flattened());
-}
-
-/// "T is the timestamp, read as a number, in sixteen such digits."
-fn put_hex64<S: Sink>(sink: &mut S, number: u64) {
-    let mut digits = [[0; 2]; 8];
-    for (pair, byte) in digits.iter_mut().zip(number.to_be_bytes()) {
-        *pair = hex_digits(byte);
-    }
-    sink.put(digits.as_flattened());
+/// "H is eight upper-case hex digits", and T "sixteen such digits": two for
+/// each byte of a number, the highest byte first.
+fn put_hex<S: Sink, const N: usize>(sink: &mut S, number: [u8; N]) {
+    sink.put(number.map(hex_digits).as_flattened());
 }
 
 /// "D is decimal, without leading zeros."
 fn put_decimal<S: Sink>(sink: &mut S, number: usize) {
-    let mut digits = [0; 20]; // as many as a 64-bit number has
-    let mut first = digits.len();
-    let mut left = number;
-    for (at, digit) in digits.iter_mut().enumerate().rev() {
-        *digit = b'0' + (left % 10) as u8;
-        first = at;
-        left /= 10;
-        if left == 0 {
-            break;
-        }
+    if number >= 10 {
+        put_decimal(sink, number / 10);
     }
-    sink.put(digits.get(first..).unwrap_or_default());
+    sink.put_byte(b'0' + (number % 10) as u8);
 }
