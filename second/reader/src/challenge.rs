@@ -1,0 +1,71 @@
+//! Reading CHALLENGE.
+
+use crate::flags::{CharacterSet, NegotiateFlags};
+use crate::refusal::Refusal;
+use crate::target_info::{Summary, TargetInfo};
+use crate::wire::{number_at, open, part, Field, Head};
+
+/// A CHALLENGE message that every check holds for.
+#[derive(Clone, Copy, Debug, PartialEq, Eq)]
+pub struct Challenge<'a> {
+    /// NegotiateFlags
+    pub flags: NegotiateFlags,
+    /// The character set that the flags choose.
+    pub set: CharacterSet,
+    /// ServerChallenge
+    pub server_challenge: [u8; 8],
+    /// TargetName, empty without REQUEST_TARGET.
+    pub target_name: Field<'a>,
+    /// TargetInfo, empty without TARGET_INFO.
+    pub target_info: Field<'a>,
+    /// What the pairs of TargetInfo say.
+    pub pairs: Summary<'a>,
+}
+
+impl<'a> Challenge<'a> {
+    /// The number of the TargetName field.
+    pub const TARGET_NAME: u8 = 1;
+    /// The number of the TargetInfo field.
+    pub const TARGET_INFO: u8 = 2;
+
+    const TYPE: u32 = 2;
+    /// "House fixed part: 48 bytes."
+    const FIXED: usize = 48;
+
+    /// Reads `message` by checks 1 to 8 and 10 to 13, in that order.
+    pub fn read(message: &'a [u8]) -> Result<Self, Refusal> {
+        let fixed = open::<{ Challenge::FIXED }>(message, Self::TYPE)?;
+        let flags = NegotiateFlags(number_at::<20, { Challenge::FIXED }>(fixed));
+        let set = flags.character_set()?;
+
+        let target_name = Head::read::<12, { Challenge::FIXED }>(fixed)
+            .counted(flags.target_name_counts())
+            .locate(message, Self::TARGET_NAME)?;
+        let target_info = Head::read::<40, { Challenge::FIXED }>(fixed)
+            .counted(flags.target_info_counts())
+            .locate(message, Self::TARGET_INFO)?;
+        target_name.check_begin(Self::FIXED, Self::TARGET_NAME)?;
+        target_info.check_begin(Self::FIXED, Self::TARGET_INFO)?;
+        if set == CharacterSet::Unicode {
+            target_name.check_even(Self::TARGET_NAME)?;
+        }
+        let pairs = TargetInfo(target_info.bytes).summary()?;
+
+        Ok(Self {
+            flags,
+            set,
+            server_challenge: part::<24, 8, { Challenge::FIXED }>(fixed),
+            target_name,
+            target_info,
+            pairs,
+        })
+    }
+
+    /// Whether the NTLM program reads `message` as a CHALLENGE: "where 12
+    /// bytes are there and the type is 2".
+    pub(crate) fn is_chosen_for(message: &[u8]) -> bool {
+        message
+            .first_chunk::<12>()
+            .is_some_and(|start| number_at::<8, 12>(start) == Self::TYPE)
+    }
+}

@@ -1,0 +1,46 @@
+//! NTLM and NL_AUTH messages by the rules of document 01: reading CHALLENGE,
+//! AUTHENTICATE, NL_AUTH and TargetInfo, the log line of each message,
+//! answering a challenge, and writing AUTHENTICATE and NL_AUTH.
+//!
+//! Reading borrows from the message and allocates nothing. Every call ends
+//! for any input, takes time linear in what it is lent, and does not panic.
+//! A refused call leaves the caller's output as it was.
+
+#![forbid(unsafe_code)]
+#![warn(missing_docs)]
+#![warn(
+    clippy::indexing_slicing,
+    clippy::unwrap_used,
+    clippy::expect_used,
+    clippy::panic
+)]
+
+mod answer;
+mod authenticate;
+mod challenge;
+mod flags;
+mod line;
+mod nl_auth;
+mod output;
+mod program;
+mod refusal;
+mod target_info;
+mod wire;
+mod write_authenticate;
+mod write_nl_auth;
+
+pub use answer::{
+    answer, answer_for_bench, answer_for_old_servers, answer_for_relay, domain_to_send, Account,
+    Answer, Domain, Policy, Secrets, Settings,
+};
+pub use authenticate::Authenticate;
+pub use challenge::Challenge;
+pub use flags::{CharacterSet, NegotiateFlags, NlAuthFlags};
+pub use line::{authenticate_line, challenge_line, nl_auth_line, ntlm_line};
+pub use nl_auth::{NlAuth, NlAuthType};
+pub use program::{Program, LINE_LIMIT};
+pub use refusal::{Reason, Refusal};
+pub use target_info::{AvId, AvPair, Summary, TargetInfo, Walk};
+pub use wire::{Field, MAX_MESSAGE};
+pub use write_authenticate::{write_authenticate, AuthenticateParts};
+pub use write_nl_auth::{write_nl_auth_request, write_nl_auth_response};

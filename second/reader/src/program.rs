@@ -1,0 +1,30 @@
+//! The line that a program prints for its input.
+
+use crate::line::{nl_auth_line, ntlm_line, write_line};
+
+/// "A program whose line doesn't fit 65,536 bytes prints `refused 33 field=0`."
+/// The line's 0A is one of these bytes.
+pub const LINE_LIMIT: usize = 65_536;
+
+/// The two programs.
+#[derive(Clone, Copy, Debug, PartialEq, Eq)]
+pub enum Program {
+    /// Reads CHALLENGE or AUTHENTICATE.
+    Ntlm,
+    /// Reads NL_AUTH.
+    NlAuth,
+}
+
+impl Program {
+    /// The line printed for `message`, in the room lent for it.
+    pub fn line<'a>(self, message: &[u8], room: &'a mut [u8; LINE_LIMIT]) -> &'a [u8] {
+        let written = match self {
+            Self::Ntlm => ntlm_line(message, room),
+            Self::NlAuth => nl_auth_line(message, room),
+        };
+        let len = written
+            .or_else(|no_room| write_line(&no_room, room))
+            .unwrap_or_default();
+        room.get(..len).unwrap_or_default()
+    }
+}

@@ -1,0 +1,127 @@
+//! Reads NTLM or NL_AUTH messages from standard input and prints the log line
+//! of each.
+
+#![forbid(unsafe_code)]
+
+mod hex;
+
+use std::env;
+use std::ffi::OsString;
+use std::fmt;
+use std::io::{self, BufRead, BufReader, BufWriter, Read, Write};
+use std::process::ExitCode;
+
+use reader::{Program, LINE_LIMIT, MAX_MESSAGE};
+
+const USAGE: &str = "usage: second ntlm | second nl | second batch ntlm | second batch nl";
+
+/// How many bytes of input and output a batch holds at a time.
+const BATCH_BUFFER: usize = 1 << 18;
+
+fn main() -> ExitCode {
+    let args: Vec<OsString> = env::args_os().skip(1).collect();
+    let Some(command) = Command::parse(&args) else {
+        return fail(2, &USAGE);
+    };
+    let done = match command {
+        Command::One(program) => print_one(program),
+        Command::Batch(program) => print_batch(program),
+    };
+    match done {
+        Ok(()) => ExitCode::SUCCESS,
+        Err(failure) => fail(1, &failure),
+    }
+}
+
+/// One plain line on standard error. It never holds any of the input.
+fn fail(status: u8, message: &dyn fmt::Display) -> ExitCode {
+    // Where standard error is closed, the status still tells.
+    let _ = writeln!(io::stderr(), "{message}");
+    ExitCode::from(status)
+}
+
+enum Command {
+    One(Program),
+    Batch(Program),
+}
+
+impl Command {
+    fn parse(args: &[OsString]) -> Option<Self> {
+        match args {
+            [program] => Some(Self::One(parse_program(program)?)),
+            [batch, program] if batch == "batch" => Some(Self::Batch(parse_program(program)?)),
+            _ => None,
+        }
+    }
+}
+
+fn parse_program(name: &OsString) -> Option<Program> {
+    match name.to_str()? {
+        "ntlm" => Some(Program::Ntlm),
+        "nl" => Some(Program::NlAuth),
+        _ => None,
+    }
+}
+
+enum Failure {
+    Io(io::Error),
+    NotHex { line: usize },
+}
+
+impl From<io::Error> for Failure {
+    fn from(error: io::Error) -> Self {
+        Self::Io(error)
+    }
+}
+
+impl fmt::Display for Failure {
+    fn fmt(&self, f: &mut fmt::Formatter<'_>) -> fmt::Result {
+        match self {
+            Self::Io(error) => write!(f, "second: {error}"),
+            Self::NotHex { line } => write!(f, "second: line {line} is not a message in hex"),
+        }
+    }
+}
+
+/// Takes all of standard input as one message.
+fn print_one(program: Program) -> Result<(), Failure> {
+    let mut input = io::stdin().lock();
+    let mut message = Vec::new();
+    // One byte past the limit is enough for check 1.
+    let kept = MAX_MESSAGE as u64 + 1;
+    input.by_ref().take(kept).read_to_end(&mut message)?;
+    // The rest is read too, so that whoever writes it can finish.
+    io::copy(&mut input, &mut io::sink())?;
+
+    let mut room = Box::new([0; LINE_LIMIT]);
+    let mut output = io::stdout().lock();
+    output.write_all(program.line(&message, &mut room))?;
+    output.flush()?;
+    Ok(())
+}
+
+/// Takes each line of standard input as one message in hex.
+fn print_batch(program: Program) -> Result<(), Failure> {
+    let mut input = BufReader::with_capacity(BATCH_BUFFER, io::stdin().lock());
+    let mut output = BufWriter::with_capacity(BATCH_BUFFER, io::stdout().lock());
+    let mut room = Box::new([0; LINE_LIMIT]);
+    let mut digits = Vec::new();
+    let mut message = Vec::new();
+    let mut line = 0;
+    while input.read_until(b'\n', &mut digits)? != 0 {
+        line += 1;
+        if !hex::decode(without_line_end(&digits), &mut message) {
+            output.flush()?;
+            return Err(Failure::NotHex { line });
+        }
+        output.write_all(program.line(&message, &mut room))?;
+        digits.clear();
+    }
+    output.flush()?;
+    Ok(())
+}
+
+fn without_line_end(line: &[u8]) -> &[u8] {
+    let line = line.strip_suffix(b"\n").unwrap_or(line);
+    line.strip_suffix(b"\r").unwrap_or(line)
+}

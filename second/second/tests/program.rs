@@ -1,0 +1,154 @@
+//! The program: what it reads, prints and exits with.
+
+use std::io::Write;
+use std::process::{Command, Output, Stdio};
+
+const P1_LINE: &str =
+    "auth flags=00000201 set=U domain= user=box7 work= lm=0 nt=24 key=0 mic=1 kind=v1\n";
+
+const P1_HEX: &str = "4E544C4D535350000300000000000000600000001800180060000000\
+     0000000058000000080008005800000000000000600000000000000078000000\
+     01020000000000000000000000000000000000000000000000000000\
+     62006F0078003700AAAAAAAAAAAAAAAAAAAAAAAAAAAAAAAAAAAAAAAAAAAAAAAA";
+
+fn run(args: &[&str], input: &[u8]) -> Output {
+    let mut child = Command::new(env!("CARGO_BIN_EXE_second"))
+        .args(args)
+        .stdin(Stdio::piped())
+        .stdout(Stdio::piped())
+        .stderr(Stdio::piped())
+        .spawn()
+        .expect("the program starts");
+    let mut stdin = child.stdin.take().expect("a pipe");
+    std::thread::scope(|scope| {
+        // A program that stops early closes the pipe.
+        scope.spawn(move || drop(stdin.write_all(input)));
+        child.wait_with_output().expect("the program ends")
+    })
+}
+
+fn printed(args: &[&str], input: &[u8]) -> String {
+    let output = run(args, input);
+    assert!(output.status.success());
+    assert!(output.stderr.is_empty());
+    String::from_utf8(output.stdout).expect("ASCII")
+}
+
+fn bytes(hex: &str) -> Vec<u8> {
+    (0..hex.len())
+        .step_by(2)
+        .map(|at| u8::from_str_radix(&hex[at..at + 2], 16).expect("hex"))
+        .collect()
+}
+
+#[test]
+fn ntlm_prints_p1() {
+    let message = bytes(P1_HEX);
+    assert_eq!(message.len(), 120);
+    assert_eq!(printed(&["ntlm"], &message), P1_LINE);
+}
+
+#[test]
+fn ntlm_chooses_the_challenge_reader() {
+    let mut message = b"NTLMSSP\0\x02\0\0\0".to_vec();
+    message.resize(48, 0);
+    message[20] = 2;
+    assert_eq!(
+        printed(&["ntlm"], &message),
+        "chal flags=00000002 set=O target= pairs=0\n"
+    );
+}
+
+#[test]
+fn nl_prints_p12() {
+    let message = b"\0\0\0\0\x01\0\0\0LINE\0";
+    assert_eq!(
+        printed(&["nl"], message),
+        "nl type=0 flags=00000001 a=LINE\n"
+    );
+}
+
+#[test]
+fn refused_messages_print_and_succeed() {
+    assert_eq!(printed(&["ntlm"], b""), "refused 2 field=0\n");
+    assert_eq!(printed(&["nl"], b""), "refused 2 field=0\n");
+    assert_eq!(
+        printed(&["nl"], b"\0\0\0\0\0\0\0\0"),
+        "refused 14 field=0\n"
+    );
+}
+
+#[test]
+fn over_65535_bytes() {
+    let mut message = bytes(P1_HEX);
+    message.resize(65_535, 0);
+    assert_eq!(printed(&["ntlm"], &message), P1_LINE);
+    message.push(0);
+    assert_eq!(printed(&["ntlm"], &message), "refused 1 field=0\n");
+    let vast = vec![0; 5_000_000];
+    for program in ["ntlm", "nl"] {
+        assert_eq!(printed(&[program], &vast), "refused 1 field=0\n");
+    }
+}
+
+#[test]
+fn a_line_over_65536_bytes() {
+    let mut request = b"\0\0\0\0\x01\0\0\0".to_vec();
+    request.resize(30_000, 0xFF);
+    request.push(0);
+    assert_eq!(printed(&["nl"], &request), "refused 33 field=0\n");
+}
+
+#[test]
+fn batch_prints_a_line_for_each() {
+    let long = "00".repeat(65_536);
+    let input = format!("{P1_HEX}\n\n{}\r\n{long}\n4E54", P1_HEX.to_lowercase());
+    let expected =
+        format!("{P1_LINE}refused 2 field=0\n{P1_LINE}refused 1 field=0\nrefused 2 field=0\n");
+    assert_eq!(printed(&["batch", "ntlm"], input.as_bytes()), expected);
+    assert_eq!(
+        printed(&["batch", "nl"], b"010000000000000000"),
+        "nl type=1 flags=00000000\n"
+    );
+    assert_eq!(printed(&["batch", "nl"], b""), "");
+}
+
+#[test]
+fn batch_of_many_lines() {
+    let input = format!("{P1_HEX}\n").repeat(20_000);
+    let output = printed(&["batch", "ntlm"], input.as_bytes());
+    assert_eq!(output.len(), 20_000 * P1_LINE.len());
+    assert!(output.lines().all(|line| line == P1_LINE.trim_end()));
+}
+
+#[test]
+fn a_line_that_is_not_hex_ends_the_batch() {
+    for bad in ["4E5", "4E5G", "4E 54", "secret"] {
+        let output = run(&["batch", "nl"], format!("00\n{bad}\n00\n").as_bytes());
+        assert_eq!(output.status.code(), Some(1));
+        assert_eq!(output.stdout, b"refused 2 field=0\n");
+        assert_eq!(output.stderr, b"second: line 2 is not a message in hex\n");
+    }
+}
+
+#[test]
+fn wrong_arguments() {
+    let cases: [&[&str]; 8] = [
+        &[],
+        &["other"],
+        &["batch"],
+        &["batch", "other"],
+        &["ntlm", "nl"],
+        &["nl", "batch"],
+        &["batch", "ntlm", "nl"],
+        &["NTLM"],
+    ];
+    for args in cases {
+        let output = run(args, b"");
+        assert_eq!(output.status.code(), Some(2));
+        assert!(output.stdout.is_empty());
+        let error = String::from_utf8(output.stderr).expect("ASCII");
+        assert_eq!(error.lines().count(), 1);
+        assert!(error.starts_with("usage: ") && error.ends_with('\n'));
+    }
+}
