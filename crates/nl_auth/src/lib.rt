@@ -2,3 +2,4 @@
 pub mod flags;
 pub mod reading;
 mod string;
+pub mod writing;

@@ -54,3 +54,9 @@ of-size n m r e h = h ∙ ap checked (go (leb n 65535) refl)
 -- and a length that passed it is counted in full
 pub counted-full : (n m : ℕ) (r : Checked) → m ≡ counted n → r ≡ sizeHolds m → r ≡ Held → m ≡ n
 counted-full n m r e h k = omega (arith, leb-true m 65535 (held-true (leb m 65535) (sym h ∙ k)))
+
+-- so that check 33 comes out the same too
+pub of-room : (n m room : ℕ) (z r : Checked) → m ≡ counted n → z ≡ sizeHolds m → z ≡ Held → r ≡ roomHolds m room → r ≡ roomHolds n room
+of-room n m room z r e h k f = f ∙ ap (λ (x : ℕ). roomHolds x room) (counted-full n m z e h k)
+
+pub ruleset measured = (of-size, of-room)
