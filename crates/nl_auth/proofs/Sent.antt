@@ -1,8 +1,8 @@
 -- Laws of what is written: the strings of set bits, a message's length, and its checks.
 use Prim.Native.Nat.{ℕ, _+_, _-_, _≤_}
-use mathlib.Core.Path.{_≡_, refl, sym, ap, _∙_}
+use mathlib.Core.Path.{_≡_, refl, sym, _∙_}
 use mathlib.Core.Bool.{Bool, true, false, not}
-use mathlib.Core.List.{List, [], _∷_, _++_}
+use mathlib.Core.List.{List, [], _∷_}
 use native.Mathlib.Nat.{add-zero}
 use native.Mathlib.Omega.{arith}
 use lib.Dec.{leb, ltb}
@@ -14,17 +14,18 @@ use Rattle.wire.specs.declared.check.Verdict.{Verdict}
 use Rattle.wire.specs.declared.check.Verdict.the-variants.{Clear, Refused}
 use Rattle.wire.specs.declared.refusal.Refusal.the-variants.{NoStrings, TooLongToWrite, NoRoom}
 use Rattle.wire.specs.Check.{checked, after, onClear}
-use Rattle.wire.proofs.Laws.{chain, groups, held-true, after-clear}
+use Rattle.wire.proofs.Laws.{chain, held-true}
 use Rattle.place.specs.declared.written.Written.{Written}
+use Rattle.place.specs.declared.written.Written.the-variants.{Length}
 use Rattle.place.specs.Place.{Wrote}
-use Rattle.place.specs.Written.{sizeHolds, roomHolds, counted}
-use Rattle.place.proofs.Laws.{nothing}
+use Rattle.place.specs.Written.{sizeHolds, roomHolds, counted, atFront}
+use Rattle.place.proofs.Laws.{and-then, nothing, kept}
 use Rattle.place.proofs.Numbers.{length-le32}
-use Rattle.place.proofs.Writings.{writing}
+use Rattle.place.proofs.Writings.{whole-length, whole-content}
 use Rattle.nl_auth.specs.declared.flags.NlAuthFlags.{NlAuthFlags}
-use Rattle.nl_auth.specs.Flags.{nbDomain, nbComputer, dnsDomain, dnsHost, utf8Computer, stringsHold}
+use Rattle.nl_auth.specs.Flags.{nbDomain, nbComputer, dnsDomain, dnsHost, utf8Computer, noFlags, stringsHold}
 use Rattle.nl_auth.specs.NlAuth.{beforeZero}
-use Rattle.nl_auth.specs.Writing.{headBytes, stringBytes, bytesUnder, utf8Bytes, requestBytes, responseBytes, noZero, checkZeros, checkRequest, checkResponse, requestAnswer, requestOut, responseAnswer, responseOut, requestSize}
+use Rattle.nl_auth.specs.Writing.{headBytes, stringBytes, bytesUnder, utf8Bytes, requestBytes, responseBytes, noZero, checkZeros, checkRequest, requestAnswer, requestOut, requestSize}
 
 -- the string of a bit d that was told to be set
 module _ (s : List ℕ) (b d : Bool) (q : b ≡ d) (h : b ≡ true) where
@@ -113,13 +114,31 @@ module _ (flags : NlAuthFlags) (a b c d e : List ℕ) (room : ℕ) (v : Verdict)
 pub of-response : (room : ℕ) (r : Checked) → r ≡ roomHolds 9 room → r ≡ roomHolds (length responseBytes) room
 of-response room r e = rw length-response e
 
-module _ (room : ℕ) (v : Verdict) (p : v ≡ checkResponse room) (h : v ≡ Clear) where
-  pub response-fits : length responseBytes ≤ room
-  unfolding checkResponse
-  response-fits = leb-true (length responseBytes) room (after-clear _ NoRoom _ (sym p ∙ h) .0)
+module _ (l : List ℕ) (r : Checked) (e : r ≡ roomHolds 9 (length l)) (h : r ≡ Held) where
+  nine : 9 ≤ length l
+  nine = leb-true 9 (length l) (held-true (leb 9 (length l)) (sym e ∙ h))
 
-  pub response-room : 9 ≤ room
-  response-room = rw length-response at response-fits
+  pub head-room : 8 ≤ length l
+  head-room = omega (arith, nine)
+
+  pub last-room : (k xs : List ℕ) (p : ℕ) → Wrote l k 0 p xs → p ≡ 8 → p + 1 ≤ length k
+  last-room k xs p w q = omega (arith, nine, kept l k xs 0 p w)
+
+  pub response-fits : length responseBytes ≤ length l
+  response-fits = rw length-response nine
+
+module _ (l k m : List ℕ) (p q : ℕ) (v : Wrote l k 0 p (headBytes 1 noFlags)) (w : Wrote k m p q (0 ∷ [])) where
+  both : Wrote l m 0 q responseBytes
+  unfolding responseBytes
+  both = and-then l k m _ _ 0 p q v w
+
+  pub response-length : Length q ≡ Length (length responseBytes)
+  response-length = whole-length l m responseBytes q both
+
+  pub response-content : length responseBytes ≤ length l → m ≡ atFront responseBytes l
+  response-content fits = whole-content l m responseBytes q both fits
+
+pub ruleset response = (chain, of-response, response-fits, response-length, response-content)
 
 -- flags that were made known first
 module _ (f g : NlAuthFlags) (q : f ≡ g) (a b c d e : List ℕ) where

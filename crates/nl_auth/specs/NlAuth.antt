@@ -12,7 +12,6 @@ use Rattle.wire.specs.Field.{noField}
 use Rattle.wire.specs.Head.{lengthHolds, fixedPartHolds}
 use Rattle.wire.specs.Number.{u32At}
 use Rattle.nl_auth.specs.declared.flags.NlAuthFlags.{NlAuthFlags}
-use Rattle.nl_auth.specs.declared.reading.NlAuth.{NlAuth}
 use Rattle.nl_auth.specs.declared.reading.Reading.{Reading}
 use Rattle.nl_auth.specs.declared.reading.Reading.the-variants.{Taken, Refused}
 use Rattle.nl_auth.specs.declared.reading.Strings.{Strings}

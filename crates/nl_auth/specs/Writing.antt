@@ -5,14 +5,15 @@ use mathlib.Core.List.{List, [], _∷_, _++_}
 use lib.ListN.{length}
 use Rattle.wire.specs.declared.check.Checked.{Checked}
 use Rattle.wire.specs.declared.check.Verdict.{Verdict}
-use Rattle.wire.specs.declared.check.Verdict.the-variants.{Clear, Refused}
+use Rattle.wire.specs.declared.check.Verdict.the-variants.{Clear, Refused as Not}
 use Rattle.wire.specs.declared.refusal.Refusal.the-variants.{NoStrings, TooLongToWrite, NoRoom, ZeroInString}
 use Rattle.wire.specs.Check.{checked, after, overAll, onClear}
 use Rattle.place.specs.declared.written.Written.{Written}
+use Rattle.place.specs.declared.written.Written.the-variants.{Length, Refused}
 use Rattle.place.specs.Place.{le32}
-use Rattle.place.specs.Written.{sizeHolds, roomHolds, answered, outAfter}
+use Rattle.place.specs.Written.{sizeHolds, roomHolds, atFront, answered, outAfter}
 use Rattle.nl_auth.specs.declared.flags.NlAuthFlags.{NlAuthFlags}
-use Rattle.nl_auth.specs.Flags.{nbDomain, nbComputer, dnsDomain, dnsHost, utf8Computer, known, noFlags, stringsHold}
+use Rattle.nl_auth.specs.Flags.{nbDomain, nbComputer, dnsDomain, dnsHost, utf8Computer, noFlags, stringsHold}
 use Rattle.nl_auth.specs.NlAuth.{holdsZero}
 
 -- ---- the bytes
@@ -67,15 +68,11 @@ checkZeros flags a b c d e =
 -- a request, for an output of so many bytes: 14, 34, 30, 33
 unfoldable pub checkRequest : ℕ → NlAuthFlags → List ℕ → List ℕ → List ℕ → List ℕ → List ℕ → Verdict
 checkRequest room flags a b c d e =
-    after (stringsHold flags) (Refused NoStrings) (
-    onClear Refused (checkZeros flags a b c d e) (
-    after (sizeHolds (length (requestBytes flags a b c d e))) (Refused TooLongToWrite) (
-    after (roomHolds (length (requestBytes flags a b c d e)) room) (Refused NoRoom)
+    after (stringsHold flags) (Not NoStrings) (
+    onClear Not (checkZeros flags a b c d e) (
+    after (sizeHolds (length (requestBytes flags a b c d e))) (Not TooLongToWrite) (
+    after (roomHolds (length (requestBytes flags a b c d e)) room) (Not NoRoom)
     Clear)))
-
--- a response: 33
-unfoldable pub checkResponse : ℕ → Verdict
-checkResponse room = after (roomHolds (length responseBytes) room) (Refused NoRoom) Clear
 
 -- ---- what a writing answers, and what it leaves in the output
 
@@ -87,11 +84,12 @@ unfoldable pub requestOut : List ℕ → NlAuthFlags → List ℕ → List ℕ �
 requestOut out flags a b c d e =
     outAfter (checkRequest (length out) flags a b c d e) (requestBytes flags a b c d e) out
 
+-- a response: 33
 unfoldable pub responseAnswer : ℕ → Written
-responseAnswer room = answered (checkResponse room) responseBytes
+responseAnswer room = after (roomHolds (length responseBytes) room) (Refused NoRoom) (Length (length responseBytes))
 
 unfoldable pub responseOut : List ℕ → List ℕ
-responseOut out = outAfter (checkResponse (length out)) responseBytes out
+responseOut out = after (roomHolds (length responseBytes) (length out)) out (atFront responseBytes out)
 
 -- ---- lengths, for the writers' rooms
 

@@ -5,7 +5,7 @@ ghost use lib.ListN.{length};
 ghost use Rattle.place.specs.Place.{Wrote};
 ghost use Rattle.place.specs.Written.{counted};
 ghost use Rattle.nl_auth.specs.Flags.{has, known};
-ghost use Rattle.nl_auth.specs.Writing.{headBytes, stringBytes, bytesUnder, utf8Bytes, requestBytes, responseBytes, noZero, checkZeros, checkRequest, checkResponse, requestAnswer, requestOut, responseAnswer, responseOut, utf8Size, requestSize};
+ghost use Rattle.nl_auth.specs.Writing.{headBytes, stringBytes, bytesUnder, utf8Bytes, requestBytes, noZero, checkZeros, checkRequest, requestAnswer, requestOut, responseAnswer, responseOut, utf8Size, requestSize};
 use crate::flags::NlAuthFlags;
 use crate::reading::NlAuth;
 use crate::string::before_zero;
@@ -165,27 +165,6 @@ fn put_request(
     put_utf8(place, out, flags, c, d, e)
 }
 
-// A request with flags of bits A to E alone.
-fn write_known(
-    out: &mut [u8],
-    flags: NlAuthFlags,
-    a: &[u8],
-    b: &[u8],
-    c: &[u8],
-    d: &[u8],
-    e: &[u8],
-) -> Written
-    ensures answer { λ r. ⌜ r ≡ requestAnswer (length (now (out .entry))) flags (now (a .entry)) (now (b .entry)) (now (c .entry)) (now (d .entry)) (now (e .entry)) ⌝ }
-    ensures content { λ _. ⌜ now (out .exit) ≡ requestOut (now (out .entry)) flags (now (a .entry)) (now (b .entry)) (now (c .entry)) (now (d .entry)) (now (e .entry)) ⌝ }
-{
-    let verdict = check_request(out.len(), flags, a, b, c, d, e);
-    let Verdict::Clear = verdict else {
-        return Written::Refused(verdict.refusal());
-    };
-    let end = put_request(out, flags, a, b, c, d, e);
-    Written::Length(end.at)
-}
-
 // Writes a request of the strings under the set bits A to E; other bits are dropped first.
 pub fn write_request(
     out: &mut [u8],
@@ -199,37 +178,24 @@ pub fn write_request(
     ensures answer { λ r. ⌜ r ≡ requestAnswer (length (now (out .entry))) (known flags) (now (a .entry)) (now (b .entry)) (now (c .entry)) (now (d .entry)) (now (e .entry)) ⌝ }
     ensures content { λ _. ⌜ now (out .exit) ≡ requestOut (now (out .entry)) (known flags) (now (a .entry)) (now (b .entry)) (now (c .entry)) (now (d .entry)) (now (e .entry)) ⌝ }
 {
-    write_known(out, flags.known(), a, b, c, d, e)
-}
-
-// Check 33 of a response, for an output of `room` bytes.
-fn check_response(room: usize) -> Verdict
-    ensures { λ r. ⌜ r ≡ checkResponse room ⌝ }
-{
-    let Checked::Held = room_holds(9, room) else {
-        return Verdict::Refused(Refusal::NoRoom);
+    let flags = flags.known();
+    let verdict = check_request(out.len(), flags, a, b, c, d, e);
+    let Verdict::Clear = verdict else {
+        return Written::Refused(verdict.refusal());
     };
-    Verdict::Clear
+    let end = put_request(out, flags, a, b, c, d, e);
+    Written::Length(end.at)
 }
 
-// A response whose check held.
-fn put_response(out: &mut [u8]) -> Place
-    requires { ⌜ 9 ≤ length (now out) ⌝ }
-    ensures { λ r. ⌜ Wrote (now (out .entry)) (now (out .exit)) 0 (r .at) responseBytes ⌝ }
-{
-    let place = put_head(out, NlAuth::RESPONSE, NlAuthFlags { bits: 0 });
-    place.put_u8(out, 0)
-}
-
-// Writes a response.
+// Writes a response: its flags are zero, its buffer is one zero byte.
 pub fn write_response(out: &mut [u8]) -> Written
     ensures answer { λ r. ⌜ r ≡ responseAnswer (length (now (out .entry))) ⌝ }
     ensures content { λ _. ⌜ now (out .exit) ≡ responseOut (now (out .entry)) ⌝ }
 {
-    let verdict = check_response(out.len());
-    let Verdict::Clear = verdict else {
-        return Written::Refused(verdict.refusal());
+    let Checked::Held = room_holds(9, out.len()) else {
+        return Written::Refused(Refusal::NoRoom);
     };
-    let end = put_response(out);
+    let place = put_head(out, NlAuth::RESPONSE, NlAuthFlags { bits: 0 });
+    let end = place.put_u8(out, 0);
     Written::Length(end.at)
 }

@@ -27,7 +27,11 @@ abbrev pub answered : Verdict → List ℕ → Written
 answered Clear bytes = Length (length bytes)
 answered (Not e) bytes = Refused e
 
--- the output afterwards: the bytes followed by the rest of it, or as it was where the call is refused
+-- the output with these bytes at its front: the bytes followed by the rest of it
+abbrev pub atFront : List ℕ → List ℕ → List ℕ
+atFront bytes out = bytes ++ drop (length bytes) out
+
+-- the output afterwards: with the bytes at its front, or as it was where the call is refused
 abbrev pub outAfter : Verdict → List ℕ → List ℕ → List ℕ
-outAfter Clear bytes out = bytes ++ drop (length bytes) out
+outAfter Clear bytes out = atFront bytes out
 outAfter (Not e) bytes out = out
