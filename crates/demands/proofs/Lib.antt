@@ -4,6 +4,7 @@ pub mod Chain
 pub mod PairList
 pub mod Challenge
 pub mod Found
+pub mod NlAuth
 pub mod ChallengeOwn
 pub mod ChallengeIgnored
 pub mod TakenExactly

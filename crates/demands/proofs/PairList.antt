@@ -34,15 +34,15 @@ to-imply : (a b : Bool) → (a ≡ true → b ≡ true) → implies a b ≡ true
 to-imply true b h = h refl
 to-imply false b h = refl
 
-or-left : (a b : Bool) → (a || b) ≡ false → a ≡ false
+pub or-left : (a b : Bool) → (a || b) ≡ false → a ≡ false
 or-left true b h = h
 or-left false b h = refl
 
-or-right : (a b : Bool) → (a || b) ≡ false → b ≡ false
+pub or-right : (a b : Bool) → (a || b) ≡ false → b ≡ false
 or-right true b h = absurd (true-not-false h)
 or-right false b h = h
 
-or-either : (a b : Bool) → (a || b) ≡ true → (a ≡ true) ⊎ (b ≡ true)
+pub or-either : (a b : Bool) → (a || b) ≡ true → (a ≡ true) ⊎ (b ≡ true)
 or-either true b h = inl refl
 or-either false b h = inr h
 

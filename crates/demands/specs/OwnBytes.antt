@@ -1,14 +1,14 @@
 -- Demand 2: "each field handed out is that field's own bytes".
-use Prim.Native.Nat.{ℕ, _+_, _≤_}
+use Prim.Native.Nat.{ℕ, _+_, _-_, _%_, _≤_}
 use mathlib.Core.Path.{_≡_}
 use mathlib.Core.Bool.{true}
-use mathlib.Core.Logic.{_↔_}
+use mathlib.Core.Logic.{_⊎_, _↔_}
 use mathlib.Core.List.{List, []}
 use lib.ListN.{length, take, drop, replicate}
 use Rattle.wire.specs.declared.av_id.AvId.{AvId}
 use Rattle.wire.specs.declared.field.Field.{Field}
 use Rattle.wire.specs.declared.refusal.Refusal.{Refusal}
-use Rattle.wire.specs.Field.{fieldBytes}
+use Rattle.wire.specs.Field.{noField, fieldBytes}
 use Rattle.wire.specs.Number.{u32At, u64At}
 use Rattle.authenticate.specs.declared.Authenticate.{Authenticate}
 use Rattle.authenticate.specs.declared.Reading.the-variants.{Taken, Refused}
@@ -24,6 +24,10 @@ use Rattle.challenge.specs.declared.TimestampReading.the-variants.{Taken as Tim
 use Rattle.challenge.specs.declared.ServerNames.{ServerNames}
 use Rattle.challenge.specs.declared.ServerNamesReading.the-variants.{Taken as NamesTaken}
 use Rattle.challenge.specs.Challenge.{readChallenge, timestampOf, serverNamesOf}
+use Rattle.nl_auth.specs.declared.reading.NlAuth.{NlAuth}
+use Rattle.nl_auth.specs.declared.reading.Reading.the-variants.{Taken as NlTaken}
+use Rattle.nl_auth.specs.NlAuth.{readNlAuth}
+use Rattle.demands.specs.NlAuth.{typeOf, maskOf, BitSet, ZeroAt, StartsAt}
 use Rattle.demands.specs.Message.{Kind, authenticate, challenge, lenOf, offsetOf, Nonempty, MicThere}
 use Rattle.demands.specs.PairList.{sizeOf, FirstWith}
 use Rattle.demands.specs.TakenExactly.{InfoBytes}
@@ -103,3 +107,36 @@ ServerNamesOwn =
     (s b : List ℕ) → InfoBytes s b → (names : ServerNames) → serverNamesOf s ≡ NamesTaken names →
     ((names .«nb_computer_name» ≡ true) ↔ ((place : ℕ) × FirstWith b 1 place 0))
     × ((names .«nb_domain_name» ≡ true) ↔ ((place : ℕ) × FirstWith b 2 place 0))
+
+-- string i of a request is handed out as f: under a set bit the bytes from where it stands up to its first zero byte, also
+-- where these are none; under a clear bit none, and place 0
+pub record OwnString (s : List ℕ) (i : ℕ) (f : Field) : Type 0 where
+  pub there : BitSet s (maskOf i) →
+      (p q : ℕ) × StartsAt s i p × ZeroAt s p q × (f .offset ≡ p) × (f .len ≡ q - p) × (fieldBytes s f ≡ take (q - p) (drop p s))
+  pub none : (BitSet s (maskOf i) → ⊥) → (f .offset ≡ 0) × (f .len ≡ 0) × (fieldBytes s f ≡ [])
+
+-- a taken request: flags are bits A to E
+pub record OwnRequest (s : List ℕ) (m : NlAuth) : Type 0 where
+  pub message-type : m .«message_type» ≡ 0
+  pub flags : m .flags .bits ≡ u32At s 4 % 32
+  pub a : OwnString s 1 (m .strings .«nb_domain»)
+  pub b : OwnString s 2 (m .strings .«nb_computer»)
+  pub c : OwnString s 3 (m .strings .«dns_domain»)
+  pub d : OwnString s 4 (m .strings .«dns_host»)
+  pub e : OwnString s 5 (m .strings .«utf8_computer»)
+
+-- a taken response: flags zero, every string empty at place 0
+pub record OwnResponse (s : List ℕ) (m : NlAuth) : Type 0 where
+  pub message-type : m .«message_type» ≡ 1
+  pub flags : m .flags .bits ≡ 0
+  pub a : m .strings .«nb_domain» ≡ noField
+  pub b : m .strings .«nb_computer» ≡ noField
+  pub c : m .strings .«dns_domain» ≡ noField
+  pub d : m .strings .«dns_host» ≡ noField
+  pub e : m .strings .«utf8_computer» ≡ noField
+  pub no-bytes : fieldBytes s noField ≡ []
+
+abbrev pub NlAuthOwn : Type 0
+NlAuthOwn =
+    (s : List ℕ) (m : NlAuth) → readNlAuth s ≡ NlTaken m →
+    ((typeOf s ≡ 0) × OwnRequest s m) ⊎ ((typeOf s ≡ 1) × OwnResponse s m)

@@ -15,6 +15,10 @@ use Rattle.av_pairs.specs.AvPairs.{countPairs}
 use Rattle.challenge.specs.declared.Reading.{Reading as ChallengeReading}
 use Rattle.challenge.specs.declared.Reading.the-variants.{Taken as ChallengeTaken, Refused as ChallengeRefused}
 use Rattle.challenge.specs.Challenge.{readChallenge}
+use Rattle.nl_auth.specs.declared.reading.Reading.{Reading as NlReading}
+use Rattle.nl_auth.specs.declared.reading.Reading.the-variants.{Taken as NlTaken, Refused as NlRefused}
+use Rattle.nl_auth.specs.NlAuth.{readNlAuth}
+use Rattle.demands.specs.NlAuth.{NlFails}
 use Rattle.demands.specs.Order.{First}
 use Rattle.demands.specs.Message.{Fails, authenticate, challenge, Nonempty, lenOf, offsetOf}
 use Rattle.demands.specs.PairList.{Holds, FirstFault}
@@ -72,3 +76,18 @@ ChallengeIsRefused =
     (s b : List ℕ) → InfoBytes s b → (n i : ℕ) →
     ChallengeRefusedWith (readChallenge s .reading) n i ↔
     (First (Fails challenge s) n i ⊎ (((m j : ℕ) → Fails challenge s m j → ⊥) × (0 < length b) × (i ≡ 2) × FirstFault b n 0))
+
+abbrev pub IsTakenNl : NlReading → Type 0
+IsTakenNl (NlTaken m) = Unit
+IsTakenNl (NlRefused e) = ⊥
+
+abbrev pub NlRefusedWith : NlReading → ℕ → ℕ → Type 0
+NlRefusedWith (NlTaken m) n i = ⊥
+NlRefusedWith (NlRefused e) n i = (numberOf e ≡ n) × (fieldOf e ≡ i)
+
+-- NL_AUTH is taken if and only if no check fails, and refused by the first that does
+abbrev pub NlAuthIsTaken : Type 0
+NlAuthIsTaken = (s : List ℕ) → IsTakenNl (readNlAuth s) ↔ ((n i : ℕ) → NlFails s n i → ⊥)
+
+abbrev pub NlAuthIsRefused : Type 0
+NlAuthIsRefused = (s : List ℕ) (n i : ℕ) → NlRefusedWith (readNlAuth s) n i ↔ First (NlFails s) n i

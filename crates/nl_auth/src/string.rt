@@ -8,7 +8,7 @@ use crate::flags::NlAuthFlags;
 use wire::field::Field;
 
 // What stands at a place: a string and the place where the next one starts, or bytes without a zero byte.
-pub(crate) enum Scan {
+pub enum Scan {
     Found(Field, usize),
     Missing,
 }
