@@ -34,11 +34,11 @@ pub flags-is : (s : List ℕ) (v : ℕ) (r : NlAuthFlags) → v ≡ u32At s 4 �
 flags-is s v r p q = q ∙ simp p
 
 -- check 17
-pub not-nine : (s : List ℕ) → (length s ≡ 9 → ⊥) → Failed ≡ responseHolds s
-not-nine s h = simp (ne-eqb (length s) 9 h)
-
 pub nine : (s : List ℕ) (r : Checked) → length s ≡ 9 → r ≡ checked (eqb (getD s 8 0) 0) → r ≡ responseHolds s
 nine s r h e = e ∙ simp (eq-eqb (length s) 9 h)
+
+pub not-nine : (s : List ℕ) → (length s ≡ 9 → ⊥) → Failed ≡ responseHolds s
+not-nine s h = simp (ne-eqb (length s) 9 h)
 
 -- check 1 held
 pub short : (s : List ℕ) (r : Checked) → r ≡ lengthHolds s → r ≡ Held → length s ≤ 65535

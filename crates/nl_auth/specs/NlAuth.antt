@@ -67,7 +67,7 @@ typeHolds t = checked (isRequest t || isResponse t)
 abbrev pub endHolds : ℕ → List ℕ → Checked
 endHolds next s = checked (eqb next (length s))
 
--- the UTF-8 strings, C to E, after the OEM strings a and b: 15 for each set bit, then 16
+-- the UTF-8 strings, C to E, after the OEM strings a and b: 15 for each set bit, then 16; a′ is the place after the string a
 unfoldable pub readUtf8 : NlAuthFlags → List ℕ → Field → Field → ℕ → Reading
 readUtf8 flags s a b b′ =
     onFound (stringUnder (dnsDomain flags) s b′) (Refused (Unterminated 3)) (λ c c′.
@@ -95,8 +95,8 @@ readRequest flags s =
     readUtf8 flags s a b b′)))
 
 -- the strings of a response
-abbrev pub noStrings : Strings
-noStrings =
+abbrev pub emptyStrings : Strings
+emptyStrings =
     record {
       «nb_domain» = noField;
       «nb_computer» = noField;
@@ -113,7 +113,7 @@ responseHolds s = checked (eqb (length s) 9 && eqb (getD s 8 0) 0)
 unfoldable pub readResponse : List ℕ → Reading
 readResponse s =
     after (responseHolds s) (Refused WrongResponse)
-    (Taken (record { «message_type» = 1; flags = noFlags; strings = noStrings }))
+    (Taken (record { «message_type» = 1; flags = noFlags; strings = emptyStrings }))
 
 -- checks 1, 2 and 4, then those of the type
 unfoldable pub readNlAuth : List ℕ → Reading

@@ -122,10 +122,10 @@ fn read_request(msg: &[u8], flags: NlAuthFlags) -> Reading
 fn response_holds(msg: &[u8]) -> Checked
     ensures { λ r. ⌜ r ≡ responseHolds (now (msg .entry)) ⌝ }
 {
-    if msg.len() != 9 {
-        return Checked::Failed;
+    if msg.len() == 9 {
+        return check(msg[8] == 0);
     }
-    check(msg[8] == 0)
+    Checked::Failed
 }
 
 // Check 17, and a response's empty answer.

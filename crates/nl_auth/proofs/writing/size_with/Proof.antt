@@ -8,5 +8,5 @@ pub size-with-spec : {M : Type 1} → statement M
 size-with-spec =
     tie.close
     (tie.spec
-    (λ c κs. search needs) (λ c κs. search needs) (λ c κs. search needs) (λ c. search (set-size, clear-size))
-    (λ c. search (set-size, clear-size)))
+    (λ c κs. search needs) (λ c κs. search needs) (λ c κs. search needs) (λ c. search set-size)
+    (λ c. search clear-size))
