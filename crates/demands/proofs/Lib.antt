@@ -5,6 +5,7 @@ pub mod PairList
 pub mod Challenge
 pub mod Found
 pub mod NlAuth
+pub mod NlIgnored
 pub mod ChallengeOwn
 pub mod ChallengeIgnored
 pub mod TakenExactly

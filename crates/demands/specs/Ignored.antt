@@ -1,9 +1,12 @@
 -- Demand 2: "MaxLen, and ignored bytes that no counted field covers, change nothing."
-use Prim.Native.Nat.{ℕ}
+use Prim.Native.Nat.{ℕ, _%_, _≤_, _<_}
 use mathlib.Core.Path.{_≡_}
+use mathlib.Core.Logic.{_⊎_}
 use mathlib.Core.List.{List}
+use lib.ListN.{length, getD}
 use Rattle.wire.specs.declared.field.Field.{Field}
 use Rattle.wire.specs.Field.{fieldBytes}
+use Rattle.wire.specs.Number.{u32At}
 use Rattle.authenticate.specs.declared.Authenticate.{Authenticate}
 use Rattle.authenticate.specs.declared.Fields.{Fields}
 use Rattle.authenticate.specs.declared.Reading.the-variants.{Taken}
@@ -11,7 +14,11 @@ use Rattle.authenticate.specs.Authenticate.{readAuthenticate}
 use Rattle.challenge.specs.declared.Challenge.{Challenge}
 use Rattle.challenge.specs.declared.Reading.the-variants.{Taken as ChallengeTaken}
 use Rattle.challenge.specs.Challenge.{readChallenge, timestampOf, serverNamesOf}
+use Rattle.nl_auth.specs.declared.reading.NlAuth.{NlAuth}
+use Rattle.nl_auth.specs.declared.reading.Reading.the-variants.{Taken as NlTaken}
+use Rattle.nl_auth.specs.NlAuth.{readNlAuth}
 use Rattle.demands.specs.Message.{authenticate, challenge, DifferInIgnored}
+use Rattle.demands.specs.NlAuth.{typeOf}
 
 -- a field has the same bytes in both
 abbrev pub SameBytes : List ℕ → List ℕ → Field → Type 0
@@ -44,3 +51,21 @@ pub record SameChallenge (s t : List ℕ) : Type 0 where
 
 abbrev pub ChallengeIgnored : Type 0
 ChallengeIgnored = (s t : List ℕ) → DifferInIgnored challenge s t → SameChallenge s t
+
+-- NL_AUTH: two messages of one length that are alike but for the flags, where these have the same bits A to E or are a
+-- response's
+pub record NlDifferInIgnored (s t : List ℕ) : Type 0 where
+  pub length-same : length s ≡ length t
+  pub bytes-same : (p : ℕ) → (p < 4) ⊎ (8 ≤ p) → getD s p 0 ≡ getD t p 0
+  pub flags-same : (u32At s 4 % 32 ≡ u32At t 4 % 32) ⊎ (typeOf s ≡ 1)
+
+pub record SameNlAuth (s t : List ℕ) : Type 0 where
+  pub answer : readNlAuth s ≡ readNlAuth t
+  pub a : (m : NlAuth) → readNlAuth s ≡ NlTaken m → SameBytes s t (m .strings .«nb_domain»)
+  pub b : (m : NlAuth) → readNlAuth s ≡ NlTaken m → SameBytes s t (m .strings .«nb_computer»)
+  pub c : (m : NlAuth) → readNlAuth s ≡ NlTaken m → SameBytes s t (m .strings .«dns_domain»)
+  pub d : (m : NlAuth) → readNlAuth s ≡ NlTaken m → SameBytes s t (m .strings .«dns_host»)
+  pub e : (m : NlAuth) → readNlAuth s ≡ NlTaken m → SameBytes s t (m .strings .«utf8_computer»)
+
+abbrev pub NlAuthIgnored : Type 0
+NlAuthIgnored = (s t : List ℕ) → NlDifferInIgnored s t → SameNlAuth s t

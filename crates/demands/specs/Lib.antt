@@ -5,4 +5,6 @@ pub mod NlAuth
 pub mod TakenExactly
 pub mod OwnBytes
 pub mod Ignored
+pub mod Kept
+pub mod ReadBack
 pub mod Bench

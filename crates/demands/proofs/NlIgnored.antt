@@ -1,0 +1,137 @@
+-- The ignored flag bits of an NL_AUTH message change nothing.
+use Prim.Native.Nat.{ℕ, _+_, _-_, _/_, _%_, _≤_, _<_}
+use mathlib.Core.Path.{_≡_, refl, sym, ap, _∙_, subst}
+use mathlib.Core.Logic.{_⊎_, inl, inr, ⊎-elim}
+use mathlib.Core.Bool.{Bool, true, false, _||_, cond}
+use mathlib.Core.List.{List, [], _∷_}
+use native.Mathlib.Omega.{arith}
+use lib.Dec.{eqb, leb}
+use lib.ListN.{length, take, drop, getD, length-drop}
+use lib.Seq.{ext-getD, getD-drop}
+use borrow.Author.Tests.{eqb-true, eqb-false}
+use Rattle.wire.specs.declared.field.Field.{Field}
+use Rattle.wire.specs.declared.refusal.Refusal.the-variants.{TooLong, TooShort, WrongType, Unterminated}
+use Rattle.wire.specs.Check.{checked, after}
+use Rattle.wire.specs.Field.{isEmpty, noField, fieldBytes}
+use Rattle.wire.specs.Number.{u32At}
+use Rattle.wire.proofs.Fields.{own-bytes}
+use Rattle.nl_auth.specs.declared.flags.NlAuthFlags.{NlAuthFlags}
+use Rattle.nl_auth.specs.declared.reading.NlAuth.{NlAuth}
+use Rattle.nl_auth.specs.declared.reading.Reading.{Reading}
+use Rattle.nl_auth.specs.declared.reading.Reading.the-variants.{Taken, Refused}
+use Rattle.nl_auth.specs.declared.string.Scan.{Scan}
+use Rattle.nl_auth.specs.declared.string.Scan.the-variants.{Found, Missing}
+use Rattle.nl_auth.specs.Flags.{nbDomain, nbComputer, dnsDomain, dnsHost, utf8Computer}
+use Rattle.nl_auth.specs.NlAuth.{beforeZero, holdsZero, stringAt, stringUnder, onFound, flagsAt, readUtf8, readRequest, readResponse, readNlAuth}
+use Rattle.demands.specs.Ignored.{SameBytes, NlDifferInIgnored, SameNlAuth, NlAuthIgnored}
+use Rattle.demands.specs.NlAuth.{typeOf, masks, maskOf, BitSet, ZeroAt, Strings, StartsAt}
+use Rattle.demands.specs.OwnBytes.{OwnString, OwnRequest, OwnResponse}
+use Rattle.demands.proofs.Alike.{same-part, same32}
+use Rattle.demands.proofs.NlAuth.{nl-auth-own}
+
+module _ (s t : List ℕ) (d : NlDifferInIgnored s t) where
+  buffer-same : (at : ℕ) → 8 ≤ at → drop at s ≡ drop at t
+  buffer-same at l =
+      ext-getD 0 (drop at s) (drop at t) (simp (length-drop, d .length-same))
+      (λ k m. simp getD-drop (d .bytes-same (at + k) (inr (omega arith))))
+
+  type-same : typeOf s ≡ typeOf t
+  type-same = same32 s t 0 (λ p l r. d .bytes-same p (inl (omega arith)))
+
+  -- a string from the buffer on
+  string-same : (b : Bool) (at : ℕ) (e : Reading) (x y : Field → ℕ → Reading) → 8 ≤ at →
+      ((f : Field) (next : ℕ) → 8 ≤ next → x f next ≡ y f next) →
+      onFound (stringUnder b s at) e x ≡ onFound (stringUnder b t at) e y
+  unfolding stringUnder stringAt
+  string-same b at e x y l h = rw (buffer-same at l) (go b) where
+    here : Scan
+    here = cond (holdsZero (drop at t)) (Found (record { offset = at; len = beforeZero (drop at t) }) (at + beforeZero (drop at t) + 1)) Missing
+    found : (z : Bool) →
+        onFound (cond z (Found (record { offset = at; len = beforeZero (drop at t) }) (at + beforeZero (drop at t) + 1)) Missing) e x
+        ≡ onFound (cond z (Found (record { offset = at; len = beforeZero (drop at t) }) (at + beforeZero (drop at t) + 1)) Missing) e y
+    found true = h (record { offset = at; len = beforeZero (drop at t) }) (at + beforeZero (drop at t) + 1) (omega arith)
+    found false = refl
+    go : (c : Bool) →
+        onFound (cond c (cond (holdsZero (drop at t)) (Found (record { offset = at; len = beforeZero (drop at t) }) (at + beforeZero (drop at t) + 1)) Missing) (Found noField at)) e x
+        ≡ onFound (cond c (cond (holdsZero (drop at t)) (Found (record { offset = at; len = beforeZero (drop at t) }) (at + beforeZero (drop at t) + 1)) Missing) (Found noField at)) e y
+    go true = found (holdsZero (drop at t))
+    go false = h noField at l
+
+  utf8-same : (w : NlAuthFlags) (a b : Field) (at : ℕ) → 8 ≤ at → readUtf8 w s a b at ≡ readUtf8 w t a b at
+  unfolding readUtf8
+  utf8-same w a b at l =
+      string-same (dnsDomain w) at (Refused (Unterminated 3)) _ _ l (λ c c′ m.
+      string-same (dnsHost w) c′ (Refused (Unterminated 4)) _ _ m (λ e e′ n.
+      string-same (utf8Computer w) e′ (Refused (Unterminated 5)) _ _ n (λ f f′ o. simp (d .length-same))))
+
+  request-same : (w : NlAuthFlags) → readRequest w s ≡ readRequest w t
+  unfolding readRequest
+  request-same w =
+      simp (string-same (nbDomain w) 8 (Refused (Unterminated 1)) _ _ (omega arith) (λ a a′ m.
+      string-same (nbComputer w) a′ (Refused (Unterminated 2)) _ _ m (λ b b′ n. utf8-same w a b b′ n)))
+
+  response-same : readResponse s ≡ readResponse t
+  unfolding readResponse
+  response-same = simp (d .length-same, d .bytes-same 8 (inr (omega arith)))
+
+  answer-same : readNlAuth s ≡ readNlAuth t
+  unfolding readNlAuth
+  answer-same =
+      ap (λ (n : ℕ). frame n (typeOf s) (readRequest (flagsAt s) s) (readResponse s)) (d .length-same)
+      ∙ ap (λ (n : ℕ). frame (length t) n (readRequest (flagsAt s) s) (readResponse s)) type-same
+      ∙ ap (λ (r : Reading). frame (length t) (typeOf t) (readRequest (flagsAt s) s) r) response-same
+      ∙ ap (λ (r : Reading). frame (length t) (typeOf t) r (readResponse t)) (request-same (flagsAt s))
+      ∙ ⊎-elim
+      (λ e. ap (λ (n : ℕ). frame (length t) (typeOf t) (readRequest (record { bits = n }) t) (readResponse t)) e)
+      (λ e. no-request (sym type-same ∙ e)) (d .flags-same)
+    where
+      frame : ℕ → ℕ → Reading → Reading → Reading
+      frame n k x y = after (checked (leb n 65535)) (Refused TooLong) (after (checked (leb 8 n)) (Refused TooShort) (after (checked (eqb k 0 || eqb k 1)) (Refused WrongType) (cond (eqb k 0) x y)))
+      no-request : typeOf t ≡ 1 → frame (length t) (typeOf t) (readRequest (flagsAt s) t) (readResponse t) ≡ frame (length t) (typeOf t) (readRequest (flagsAt t) t) (readResponse t)
+      no-request e = go (typeOf t) e where
+        go : (k : ℕ) → k ≡ 1 → frame (length t) k (readRequest (flagsAt s) t) (readResponse t) ≡ frame (length t) k (readRequest (flagsAt t) t) (readResponse t)
+        go k q = rw q
+
+  -- a string's bytes
+  later : (ms : List ℕ) (p r : ℕ) → Strings s ms p r → p ≤ r
+  later [] p r a = omega (arith, a)
+  later (m ∷ ms) p r (inl a) = omega (arith, a .1 .1 .from, later ms (a .1 .0 + 1) r (a .1 .2))
+  later (m ∷ ms) p r (inr a) = later ms p r (a .1)
+
+  part-same : (f : Field) → 8 ≤ f .offset → f .offset + f .len ≤ length s → SameBytes s t f
+  part-same f l r =
+      own-bytes s f r
+      ∙ same-part s t (d .length-same) (f .offset) (f .len) (λ p a b. d .bytes-same p (inr (omega arith)))
+      ∙ sym (own-bytes t f (omega (arith, d .length-same)))
+
+  none-same : (f : Field) → f .offset ≡ 0 → f .len ≡ 0 → SameBytes s t f
+  none-same f o n =
+      own-bytes s f (omega arith) ∙ (nothing s) ∙ sym (own-bytes t f (omega arith) ∙ (nothing t))
+    where
+      nothing : (x : List ℕ) → take (f .len) (drop (f .offset) x) ≡ []
+      nothing x = simp (o, n)
+
+  pub none : (f : Field) → f ≡ noField → SameBytes s t f
+  none f e = none-same f (ap (λ (g : Field). g .offset) e) (ap (λ (g : Field). g .len) e)
+
+  own-same : (i : ℕ) (f : Field) → OwnString s i f → SameBytes s t f
+  own-same i f o = go (eqb (u32At s 4 / maskOf i % 2) 1) refl where
+    go : (b : Bool) → eqb (u32At s 4 / maskOf i % 2) 1 ≡ b → SameBytes s t f
+    go true e =
+        let w = o .there (eqb-true _ 1 e) in
+        part-same f (omega (arith, later (take (i - 1) masks) 8 (w .0) (w .2), w .4)) (omega (arith, w .4, w .5, w .3 .from, w .3 .inside))
+    go false e = let w = o .none (eqb-false _ 1 e) in none-same f (w .0) (w .1)
+
+pub nl-auth-ignored : NlAuthIgnored
+nl-auth-ignored s t d =
+    record {
+      answer = answer-same s t d;
+      a = λ m h. each (m .strings .«nb_domain») m h (λ r. own-same s t d 1 (m .strings .«nb_domain») (r .a)) (λ r. none s t d (m .strings .«nb_domain») (r .a));
+      b = λ m h. each (m .strings .«nb_computer») m h (λ r. own-same s t d 2 (m .strings .«nb_computer») (r .b)) (λ r. none s t d (m .strings .«nb_computer») (r .b));
+      c = λ m h. each (m .strings .«dns_domain») m h (λ r. own-same s t d 3 (m .strings .«dns_domain») (r .c)) (λ r. none s t d (m .strings .«dns_domain») (r .c));
+      d = λ m h. each (m .strings .«dns_host») m h (λ r. own-same s t d 4 (m .strings .«dns_host») (r .d)) (λ r. none s t d (m .strings .«dns_host») (r .d));
+      e = λ m h. each (m .strings .«utf8_computer») m h (λ r. own-same s t d 5 (m .strings .«utf8_computer») (r .e)) (λ r. none s t d (m .strings .«utf8_computer») (r .e));
+    }
+  where
+    each : (f : Field) (m : NlAuth) → readNlAuth s ≡ Taken m → (OwnRequest s m → SameBytes s t f) → (OwnResponse s m → SameBytes s t f) → SameBytes s t f
+    each f m h x y = ⊎-elim (λ w. x (w .1)) (λ w. y (w .1)) (nl-auth-own s m h)

@@ -1,0 +1,26 @@
+-- Demand 1: "A refusal gives its number and field and changes no lent byte; a success changes only the bytes of what it
+-- writes."
+use Prim.Native.Nat.{ℕ}
+use mathlib.Core.Path.{_≡_}
+use mathlib.Core.List.{List}
+use lib.ListN.{length, drop}
+use Rattle.wire.specs.declared.refusal.Refusal.{Refusal}
+use Rattle.place.specs.declared.written.Written.{Written}
+use Rattle.place.specs.declared.written.Written.the-variants.{Length, Refused}
+use Rattle.nl_auth.specs.declared.flags.NlAuthFlags.{NlAuthFlags}
+use Rattle.nl_auth.specs.Flags.{known}
+use Rattle.nl_auth.specs.Writing.{requestAnswer, requestOut, responseAnswer, responseOut}
+
+-- a call's answer, and the lent output before and after it
+pub record Kept (answer : Written) (before after : List ℕ) : Type 0 where
+  pub refused : (e : Refusal) → answer ≡ Refused e → after ≡ before
+  pub same-length : (n : ℕ) → answer ≡ Length n → length after ≡ length before
+  pub rest : (n : ℕ) → answer ≡ Length n → drop n after ≡ drop n before
+
+abbrev pub NlRequestKept : Type 0
+NlRequestKept =
+    (out : List ℕ) (flags : NlAuthFlags) (a b c d e : List ℕ) →
+    Kept (requestAnswer (length out) (known flags) a b c d e) out (requestOut out (known flags) a b c d e)
+
+abbrev pub NlResponseKept : Type 0
+NlResponseKept = (out : List ℕ) → Kept (responseAnswer (length out)) out (responseOut out)
