@@ -6,6 +6,8 @@ pub mod Challenge
 pub mod Found
 pub mod NlAuth
 pub mod NlIgnored
+pub mod Kept
+pub mod ReadBack
 pub mod ChallengeOwn
 pub mod ChallengeIgnored
 pub mod TakenExactly

@@ -1,39 +1,35 @@
 -- NL_AUTH is taken exactly when every check holds, and its strings are its own.
-use Prim.Native.Nat.{ℕ, zero, suc, _+_, _-_, _*_, _/_, _%_, _≤_, _<_}
+use Prim.Native.Nat.{ℕ, zero, suc, _+_, _-_, _/_, _%_, _≤_, _<_}
 use mathlib.Core.Path.{_≡_, refl, sym, ap, _∙_, subst}
 use mathlib.Core.Logic.{_⊎_, inl, inr, ⊎-elim, _↔_}
 use mathlib.Core.Bool.{Bool, true, false, _||_, _&&_, cond}
 use mathlib.Core.List.{List, [], _∷_, _++_}
 use native.Mathlib.Omega.{arith}
-use lib.Dec.{leb, ltb, eqb}
+use lib.Dec.{ltb, eqb}
 use lib.ListN.{length, take, drop, getD, length-drop}
 use lib.Seq.{getD-drop}
 use borrow.Author.Tests.{leb-true, leb-false, ltb-true, ltb-false, eqb-true, eqb-false, eq-eqb, ne-eqb}
-use Rattle.wire.specs.declared.check.Checked.{Checked}
 use Rattle.wire.specs.declared.check.Checked.the-variants.{Held, Failed}
 use Rattle.wire.specs.declared.field.Field.{Field}
 use Rattle.wire.specs.declared.refusal.Refusal.{Refusal}
-use Rattle.wire.specs.declared.refusal.Refusal.the-variants.{TooLong, TooShort, WrongType, NoStrings, Unterminated, BytesLeft, WrongResponse}
-use Rattle.wire.specs.Check.{checked, after}
-use Rattle.wire.specs.Field.{noField, fieldBytes}
+use Rattle.wire.specs.declared.refusal.Refusal.the-variants.{Unterminated}
+use Rattle.wire.specs.Check.{checked}
+use Rattle.wire.specs.Field.{noField}
 use Rattle.wire.specs.Number.{u32At}
 use Rattle.wire.specs.Refusal.{numberOf, fieldOf}
 use Rattle.wire.proofs.Fields.{own-bytes}
 use Rattle.wire.proofs.Stands.{and-left, and-right, and-both}
-use Rattle.nl_auth.specs.declared.flags.NlAuthFlags.{NlAuthFlags}
-use Rattle.nl_auth.specs.declared.reading.NlAuth.{NlAuth}
 use Rattle.nl_auth.specs.declared.reading.Reading.{Reading}
 use Rattle.nl_auth.specs.declared.reading.Reading.the-variants.{Taken, Refused}
-use Rattle.nl_auth.specs.declared.string.Scan.{Scan}
 use Rattle.nl_auth.specs.declared.string.Scan.the-variants.{Found, Missing}
-use Rattle.nl_auth.specs.Flags.{nbDomain, nbComputer, dnsDomain, dnsHost, utf8Computer, known, stringsHold}
+use Rattle.nl_auth.specs.Flags.{nbDomain, nbComputer, dnsDomain, dnsHost, utf8Computer, stringsHold}
 use Rattle.nl_auth.specs.NlAuth.{beforeZero, holdsZero, stringAt, stringUnder, onFound, flagsAt, readUtf8, readRequest, readResponse, readNlAuth}
 use Rattle.demands.specs.Order.{First}
 use Rattle.demands.specs.NlAuth.{typeOf, masks, maskOf, BitSet, ZeroAt, Strings, StartsAt, NlFails}
 use Rattle.demands.specs.OwnBytes.{OwnString, OwnRequest, OwnResponse, NlAuthOwn}
 use Rattle.demands.specs.TakenExactly.{IsTakenNl, NlRefusedWith, NlAuthIsTaken, NlAuthIsRefused}
 use Rattle.demands.proofs.Order.{Free, first, only-first, next-field, next-check, skip}
-use Rattle.demands.proofs.Message.{true-not-false, both-ways, failed-false, held-true}
+use Rattle.demands.proofs.Message.{both-ways, failed-false, held-true}
 use Rattle.demands.proofs.Chain.{chained}
 use Rattle.demands.proofs.PairList.{or-left, or-right, or-either}
 
@@ -70,6 +66,7 @@ five : (P : ℕ → Type 0) → P 1 → P 2 → P 3 → P 4 → P 5 → (k : ℕ
 five P a b c d e k l r = go (eqb k 1) (eqb k 2) (eqb k 3) (eqb k 4) refl refl refl refl where
   is-5 : 5 ≤ k → 5 ≡ k
   is-5 h = omega arith
+
   go : (x y z w : Bool) → eqb k 1 ≡ x → eqb k 2 ≡ y → eqb k 3 ≡ z → eqb k 4 ≡ w → P k
   go true y z w p q u v = subst P (sym (eqb-true k 1 p)) a
   go false true z w p q u v = subst P (sym (eqb-true k 2 q)) b
@@ -134,7 +131,7 @@ module _ (s : List ℕ) where
   inside (m ∷ ms) p q l (inl a) = inside ms (a .1 .0 + 1) q (omega (arith, a .1 .1 .inside)) (a .1 .2)
   inside (m ∷ ms) p q l (inr a) = inside ms p q l (a .1)
 
--- ---- the checks in their order
+  -- ---- the checks in their order
 
   -- the table has no row but these
   no-row : (n i : ℕ) → (n ≡ 1 → ⊥) → (n ≡ 2 → ⊥) → (n ≡ 4 → ⊥) → (n ≡ 14 → ⊥) → (n ≡ 15 → ⊥) → (n ≡ 16 → ⊥) → (n ≡ 17 → ⊥) → NlFails s n i → ⊥
@@ -173,22 +170,31 @@ module _ (s : List ℕ) where
   string t0 long i m ms ms′ b at e x h1 h5 is-ms is-m is-ms′ on off is-15 is-i free starts rest = go b on off where
     starts-at : StartsAt s i at
     starts-at = subst (λ (l : List ℕ). Strings s l 8 at) is-ms starts
+
     by-mask : BitSet s (maskOf i) → BitSet s m
     by-mask h = subst (λ (k : ℕ). BitSet s k) (sym is-m) h
+
     found : (z : ZeroAt s at (at + beforeZero (drop at s))) → BitSet s m →
         Judged (x (record { offset = at; len = beforeZero (drop at s) }) (at + beforeZero (drop at s) + 1))
     found z set =
         rest (record { offset = at; len = beforeZero (drop at s) }) (at + beforeZero (drop at s) + 1)
         (record {
           there = λ h.
-              let w : at + beforeZero (drop at s) - at ≡ beforeZero (drop at s) = omega arith in
-              (at, at + beforeZero (drop at s), starts-at, z, refl, sym w,
-              own-bytes s (record { offset = at; len = beforeZero (drop at s) }) (omega (arith, z .inside)) ∙ ap (λ (k : ℕ). take k (drop at s)) (sym w));
+              let w : at + beforeZero (drop at s) - at ≡ beforeZero (drop at s) = omega arith in (
+                at,
+                at + beforeZero (drop at s),
+                starts-at,
+                z,
+                refl,
+                sym w,
+                own-bytes s (record { offset = at; len = beforeZero (drop at s) }) (omega (arith, z .inside)) ∙ ap (λ (k : ℕ). take k (drop at s)) (sym w),
+              );
           none = λ h. absurd (h (subst (λ (k : ℕ). BitSet s k) is-m set));
         })
         (next-field (NlFails s) 15 i (i + 1) refl free
         (λ w. w .4 .2 (at + beforeZero (drop at s)) (subst (λ (k : ℕ). ZeroAt s k (at + beforeZero (drop at s))) (one-place (take (i - 1) masks) 8 at (w .4 .0) starts-at (w .4 .1)) z)))
         (subst (λ (l : List ℕ). Strings s l 8 (at + beforeZero (drop at s) + 1)) (sym is-ms′) (add-string ms m 8 at (at + beforeZero (drop at s)) starts set z))
+
     go : (c : Bool) → (c ≡ true → BitSet s m) → (c ≡ false → BitSet s m → ⊥) →
         Judged (onFound (cond c (cond (holdsZero (drop at s)) (Found (record { offset = at; len = beforeZero (drop at s) }) (at + beforeZero (drop at s) + 1)) Missing) (Found noField at)) (Refused e) x)
     go true y n = by (holdsZero (drop at s)) refl where
@@ -270,9 +276,11 @@ module _ (s : List ℕ) where
       let c15 = next-check (NlFails s) 15 6 16 refl free6 (λ j l w. omega (arith, w .1, l)) in
       chained Judged _ _ _
       (λ f. first (NlFails s) 16 0 c15 (refl, t0, (e′, starts6, eqb-false e′ (length s) (failed-false _ f))))
-      (λ h. (beyond (last (next-check (NlFails s) 16 0 17 refl c15 (λ j l w.
-      w .2 .2 (one-place masks 8 (w .2 .0) e′ (w .2 .1) starts6 ∙ eqb-true e′ (length s) (held-true _ h))))),
-      inl (t0, record { message-type = refl; flags = refl; a = oa; b = ob; c = oc; d = od; e = oe }))))))
+      (λ h. (
+        beyond (last (next-check (NlFails s) 16 0 17 refl c15 (λ j l w.
+            w .2 .2 (one-place masks 8 (w .2 .0) e′ (w .2 .1) starts6 ∙ eqb-true e′ (length s) (held-true _ h))))),
+        inl (t0, record { message-type = refl; flags = refl; a = oa; b = ob; c = oc; d = od; e = oe }),
+      )))))
     where
       last : Free (NlFails s) 17 0 → Free (NlFails s) 18 0
       last f = next-check (NlFails s) 17 0 18 refl f (λ j l w. omega (arith, t0, w .1))
@@ -296,9 +304,11 @@ module _ (s : List ℕ) where
       let c16 = jump 14 17 free rows in
       chained Judged _ _ _
       (λ f. first (NlFails s) 17 0 c16 (refl, t1, not-one f))
-      (λ h. (beyond (next-check (NlFails s) 17 0 18 refl c16 (λ j l w.
-      w .2 (eqb-true (length s) 9 (and-left (eqb (length s) 9) (eqb (getD s 8 0) 0) (held-true _ h)), eqb-true (getD s 8 0) 0 (and-right (eqb (length s) 9) (eqb (getD s 8 0) 0) (held-true _ h))))),
-      inr (t1, record { message-type = refl; flags = refl; a = refl; b = refl; c = refl; d = refl; e = refl; no-bytes = own-bytes s noField (omega arith) })))
+      (λ h. (
+        beyond (next-check (NlFails s) 17 0 18 refl c16 (λ j l w.
+            w .2 (eqb-true (length s) 9 (and-left (eqb (length s) 9) (eqb (getD s 8 0) 0) (held-true _ h)), eqb-true (getD s 8 0) 0 (and-right (eqb (length s) 9) (eqb (getD s 8 0) 0) (held-true _ h))))),
+        inr (t1, record { message-type = refl; flags = refl; a = refl; b = refl; c = refl; d = refl; e = refl; no-bytes = own-bytes s noField (omega arith) }),
+      ))
     where
       -- a request's rows say nothing of a response
       rows : (k i : ℕ) → 14 ≤ k → k < 17 → NlFails s k i → ⊥
@@ -310,6 +320,7 @@ module _ (s : List ℕ) where
           where
             last : (k ≡ 14 → ⊥) → (k ≡ 15 → ⊥) → k ≡ 16
             last a b = omega (arith, a, b)
+
       not-one : checked (eqb (length s) 9 && eqb (getD s 8 0) 0) ≡ Failed → (length s ≡ 9) × (getD s 8 0 ≡ 0) → ⊥
       not-one f w = both-ways (eqb (length s) 9 && eqb (getD s 8 0) 0) (and-both (eqb (length s) 9) (eqb (getD s 8 0) 0) (eq-eqb (length s) 9 (w .0)) (eq-eqb (getD s 8 0) 0 (w .1))) (failed-false _ f)
 
@@ -334,13 +345,17 @@ module _ (s : List ℕ) where
       none-at-0 m j b h = ⊎-elim (λ l. subst (λ (x : ℕ). NlFails s x j) (zero-is m l) h) (λ q. omega arith) b where
         zero-is : (x : ℕ) → x < 1 → x ≡ 0
         zero-is x l = omega arith
+
       wrong-type : checked (eqb (typeOf s) 0 || eqb (typeOf s) 1) ≡ Failed → (typeOf s ≡ 0 → ⊥) × (typeOf s ≡ 1 → ⊥)
-      wrong-type f =
-          (eqb-false (typeOf s) 0 (or-left (eqb (typeOf s) 0) (eqb (typeOf s) 1) (failed-false _ f)),
-          eqb-false (typeOf s) 1 (or-right (eqb (typeOf s) 0) (eqb (typeOf s) 1) (failed-false _ f)))
+      wrong-type f = (
+        eqb-false (typeOf s) 0 (or-left (eqb (typeOf s) 0) (eqb (typeOf s) 1) (failed-false _ f)),
+        eqb-false (typeOf s) 1 (or-right (eqb (typeOf s) 0) (eqb (typeOf s) 1) (failed-false _ f)),
+      )
+
       right-type : (eqb (typeOf s) 0 || eqb (typeOf s) 1) ≡ true → (typeOf s ≡ 0 → ⊥) → (typeOf s ≡ 1 → ⊥) → ⊥
       right-type h a b =
           ⊎-elim (λ e. a (eqb-true (typeOf s) 0 e)) (λ e. b (eqb-true (typeOf s) 1 e)) (or-either (eqb (typeOf s) 0) (eqb (typeOf s) 1) h)
+
       kind : (t : Bool) → eqb (typeOf s) 0 ≡ t → (eqb (typeOf s) 0 || eqb (typeOf s) 1) ≡ true → 8 ≤ length s → Free (NlFails s) 14 0 →
           Judged (cond t (readRequest (flagsAt s) s) (readResponse s))
       kind true p h long free = request-judged (eqb-true (typeOf s) 0 p) long free
@@ -357,9 +372,10 @@ pub nl-auth-refused : NlAuthIsRefused
 nl-auth-refused s n i = go (readNlAuth s) (judged s) where
   go : (r : Reading) → Judged s r → NlRefusedWith r n i ↔ First (NlFails s) n i
   go (Taken m) j = (λ t. absurd t, λ f. j .0 n i (f .fails))
-  go (Refused e) j =
-      (λ t. subst (λ (x : ℕ). First (NlFails s) n x) (t .1) (subst (λ (x : ℕ). First (NlFails s) x (fieldOf e)) (t .0) j),
-      λ f. only-first (NlFails s) (numberOf e) (fieldOf e) n i j f)
+  go (Refused e) j = (
+    λ t. subst (λ (x : ℕ). First (NlFails s) n x) (t .1) (subst (λ (x : ℕ). First (NlFails s) x (fieldOf e)) (t .0) j),
+    λ f. only-first (NlFails s) (numberOf e) (fieldOf e) n i j f,
+  )
 
 pub nl-auth-own : NlAuthOwn
 nl-auth-own s m h = subst (Judged s) h (judged s) .1

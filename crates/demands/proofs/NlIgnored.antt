@@ -1,18 +1,18 @@
 -- The ignored flag bits of an NL_AUTH message change nothing.
-use Prim.Native.Nat.{ℕ, _+_, _-_, _/_, _%_, _≤_, _<_}
-use mathlib.Core.Path.{_≡_, refl, sym, ap, _∙_, subst}
-use mathlib.Core.Logic.{_⊎_, inl, inr, ⊎-elim}
+use Prim.Native.Nat.{ℕ, _+_, _-_, _/_, _%_, _≤_}
+use mathlib.Core.Path.{_≡_, refl, sym, ap, _∙_}
+use mathlib.Core.Logic.{inl, inr, ⊎-elim}
 use mathlib.Core.Bool.{Bool, true, false, _||_, cond}
 use mathlib.Core.List.{List, [], _∷_}
 use native.Mathlib.Omega.{arith}
 use lib.Dec.{eqb, leb}
-use lib.ListN.{length, take, drop, getD, length-drop}
+use lib.ListN.{length, take, drop, length-drop}
 use lib.Seq.{ext-getD, getD-drop}
 use borrow.Author.Tests.{eqb-true, eqb-false}
 use Rattle.wire.specs.declared.field.Field.{Field}
 use Rattle.wire.specs.declared.refusal.Refusal.the-variants.{TooLong, TooShort, WrongType, Unterminated}
 use Rattle.wire.specs.Check.{checked, after}
-use Rattle.wire.specs.Field.{isEmpty, noField, fieldBytes}
+use Rattle.wire.specs.Field.{noField}
 use Rattle.wire.specs.Number.{u32At}
 use Rattle.wire.proofs.Fields.{own-bytes}
 use Rattle.nl_auth.specs.declared.flags.NlAuthFlags.{NlAuthFlags}
@@ -23,8 +23,8 @@ use Rattle.nl_auth.specs.declared.string.Scan.{Scan}
 use Rattle.nl_auth.specs.declared.string.Scan.the-variants.{Found, Missing}
 use Rattle.nl_auth.specs.Flags.{nbDomain, nbComputer, dnsDomain, dnsHost, utf8Computer}
 use Rattle.nl_auth.specs.NlAuth.{beforeZero, holdsZero, stringAt, stringUnder, onFound, flagsAt, readUtf8, readRequest, readResponse, readNlAuth}
-use Rattle.demands.specs.Ignored.{SameBytes, NlDifferInIgnored, SameNlAuth, NlAuthIgnored}
-use Rattle.demands.specs.NlAuth.{typeOf, masks, maskOf, BitSet, ZeroAt, Strings, StartsAt}
+use Rattle.demands.specs.Ignored.{SameBytes, NlDifferInIgnored, NlAuthIgnored}
+use Rattle.demands.specs.NlAuth.{typeOf, masks, maskOf, Strings}
 use Rattle.demands.specs.OwnBytes.{OwnString, OwnRequest, OwnResponse}
 use Rattle.demands.proofs.Alike.{same-part, same32}
 use Rattle.demands.proofs.NlAuth.{nl-auth-own}
@@ -46,11 +46,13 @@ module _ (s t : List ℕ) (d : NlDifferInIgnored s t) where
   string-same b at e x y l h = rw (buffer-same at l) (go b) where
     here : Scan
     here = cond (holdsZero (drop at t)) (Found (record { offset = at; len = beforeZero (drop at t) }) (at + beforeZero (drop at t) + 1)) Missing
+
     found : (z : Bool) →
         onFound (cond z (Found (record { offset = at; len = beforeZero (drop at t) }) (at + beforeZero (drop at t) + 1)) Missing) e x
         ≡ onFound (cond z (Found (record { offset = at; len = beforeZero (drop at t) }) (at + beforeZero (drop at t) + 1)) Missing) e y
     found true = h (record { offset = at; len = beforeZero (drop at t) }) (at + beforeZero (drop at t) + 1) (omega arith)
     found false = refl
+
     go : (c : Bool) →
         onFound (cond c (cond (holdsZero (drop at t)) (Found (record { offset = at; len = beforeZero (drop at t) }) (at + beforeZero (drop at t) + 1)) Missing) (Found noField at)) e x
         ≡ onFound (cond c (cond (holdsZero (drop at t)) (Found (record { offset = at; len = beforeZero (drop at t) }) (at + beforeZero (drop at t) + 1)) Missing) (Found noField at)) e y
@@ -87,6 +89,7 @@ module _ (s t : List ℕ) (d : NlDifferInIgnored s t) where
     where
       frame : ℕ → ℕ → Reading → Reading → Reading
       frame n k x y = after (checked (leb n 65535)) (Refused TooLong) (after (checked (leb 8 n)) (Refused TooShort) (after (checked (eqb k 0 || eqb k 1)) (Refused WrongType) (cond (eqb k 0) x y)))
+
       no-request : typeOf t ≡ 1 → frame (length t) (typeOf t) (readRequest (flagsAt s) t) (readResponse t) ≡ frame (length t) (typeOf t) (readRequest (flagsAt t) t) (readResponse t)
       no-request e = go (typeOf t) e where
         go : (k : ℕ) → k ≡ 1 → frame (length t) k (readRequest (flagsAt s) t) (readResponse t) ≡ frame (length t) k (readRequest (flagsAt t) t) (readResponse t)
