@@ -4,11 +4,16 @@ use mathlib.Core.Path.{_≡_}
 use mathlib.Core.Bool.{Bool, true, false, _&&_, not}
 use mathlib.Core.List.{List, [], _∷_}
 use lib.Dec.{eqb}
-use lib.ListN.{take}
+use lib.ListN.{length, take}
 use lib.Seq.{sets}
-use Rattle.wire.specs.Field.{fieldAt}
+use Rattle.text.specs.Text.{ascii}
+use Rattle.wire.specs.Field.{fieldAt, fieldBytes}
 use Rattle.wire.specs.Head.{signatureHolds, readHead}
+use Rattle.wire.specs.Number.{standsAt}
 use Rattle.wire.specs.Refusal.{numberOf, fieldOf}
+use Rattle.nl_auth.specs.declared.reading.Reading.{Reading as NlReading}
+use Rattle.nl_auth.specs.declared.reading.Reading.the-variants.{Taken as NlTaken, Refused as NlRefused}
+use Rattle.nl_auth.specs.NlAuth.{readNlAuth, readRequest, readUtf8, readResponse, stringUnder, stringAt}
 use Rattle.av_pairs.specs.declared.Count.{Count}
 use Rattle.av_pairs.specs.declared.Count.the-variants.{Pairs, Refused as Uncounted}
 use Rattle.av_pairs.specs.AvPairs.{countPairs, checkPairs, pairsOf, stepAt, pairOf, left}
@@ -27,6 +32,8 @@ pub data Case : Type 0 where
   -- these bytes as a TargetInfo list: so many pairs, or refused with a number
   pairs : List ℕ → ℕ → Case
   pairsRefused : List ℕ → ℕ → Case
+  -- these bytes, read as NL_AUTH: a request with these flags and this string A
+  request : List ℕ → ℕ → List ℕ → Case
 
 abbrev same : Bool → Bool → Bool
 same true b = b
@@ -47,14 +54,22 @@ abbrev refuses : Count → ℕ → Bool
 refuses (Pairs m) n = false
 refuses (Uncounted e) n = eqb (numberOf e) n && eqb (fieldOf e) 2
 
+abbrev requests : List ℕ → NlReading → ℕ → List ℕ → Bool
+unfolding fieldBytes
+requests s (NlTaken m) flags a =
+    (eqb (m .«message_type») 0 && eqb (m .flags .bits) flags)
+    && (eqb (length (fieldBytes s (m .strings .«nb_domain»))) (length a) && standsAt (fieldBytes s (m .strings .«nb_domain»)) 0 a)
+requests s (NlRefused e) flags a = false
+
 abbrev pub holds : Case → Bool
-unfolding readAuthenticate readingOf readHead signatureHolds fieldsAt fieldAt checkFields checkEnds checkBegins checkNames checkShared micPresent countPairs checkPairs pairsOf stepAt pairOf left
+unfolding readAuthenticate readingOf readHead signatureHolds fieldsAt fieldAt checkFields checkEnds checkBegins checkNames checkShared micPresent countPairs checkPairs pairsOf stepAt pairOf left readNlAuth readRequest readUtf8 readResponse stringUnder stringAt fieldBytes
 holds (authenticate s expected) = gives (readAuthenticate s .reading) expected
 holds (pairs s n) = counts (countPairs s) n
 holds (pairsRefused s n) = refuses (countPairs s) n
+holds (request s flags a) = requests s (readNlAuth s) flags a
 
 abbrev pub allHold : List Case → Bool
-unfolding readAuthenticate readingOf readHead signatureHolds fieldsAt fieldAt checkFields checkEnds checkBegins checkNames checkShared micPresent countPairs checkPairs pairsOf stepAt pairOf left
+unfolding readAuthenticate readingOf readHead signatureHolds fieldsAt fieldAt checkFields checkEnds checkBegins checkNames checkShared micPresent countPairs checkPairs pairsOf stepAt pairOf left readNlAuth readRequest readUtf8 readResponse stringUnder stringAt fieldBytes
 allHold [] = true
 allHold (c ∷ cs) = holds c && allHold cs
 
@@ -78,6 +93,11 @@ userLen n = sets p1 36 (n ∷ 0 ∷ [])
 
 abbrev userOffset : ℕ → List ℕ
 userOffset n = sets p1 40 (n ∷ 0 ∷ 0 ∷ 0 ∷ [])
+
+-- P12's 13 bytes, with these flags
+abbrev p12 : ℕ → List ℕ
+p12 flags =
+    0x00 ∷ 0x00 ∷ 0x00 ∷ 0x00 ∷ flags ∷ 0x00 ∷ 0x00 ∷ 0x00 ∷ 0x4C ∷ 0x49 ∷ 0x4E ∷ 0x45 ∷ 0x00 ∷ []
 
 abbrev pub cases : List Case
 cases =
@@ -106,6 +126,9 @@ cases =
     pairsRefused (0x01 ∷ 0x00 ∷ 0x06 ∷ 0x00 ∷ 0x41 ∷ 0x00 ∷ []) 10 ∷
     pairsRefused (0x00 ∷ 0x00 ∷ 0x00 ∷ 0x00 ∷ 0x00 ∷ []) 12 ∷
     pairsRefused (0x06 ∷ 0x00 ∷ 0x02 ∷ 0x00 ∷ 0x00 ∷ 0x00 ∷ 0x00 ∷ 0x00 ∷ 0x00 ∷ 0x00 ∷ []) 13 ∷
+    -- P12's reading, and the same with flags 0x21
+    request (p12 0x01) 0x01 (ascii "LINE") ∷
+    request (p12 0x21) 0x01 (ascii "LINE") ∷
     []
 
 abbrev pub BenchHolds : Type 0
