@@ -37,6 +37,10 @@ isTargetName a = eqb (a .id) 9
 abbrev pub isChannelBindings : AvId → Bool
 isChannelBindings a = eqb (a .id) 10
 
+-- the question for a given id
+abbrev pub sameId : AvId → AvId → Bool
+sameId id a = eqb (a .id) (id .id)
+
 -- whether the value is a name in 16-bit units: ids 1 to 5 and 9
 abbrev pub isText : AvId → Bool
 isText a =

@@ -1,6 +1,6 @@
 // AvId (MS-NLMP 2.2.2.1): the id of a pair of TargetInfo. Each id is named once, with a question for it.
 ghost use mathlib.Core.Path.{_≡_};
-ghost use Rattle.wire.specs.AvId.{isEnd, isNbComputerName, isNbDomainName, isDnsComputerName, isDnsDomainName, isDnsTreeName, isFlags, isTimestamp, isSingleHost, isTargetName, isChannelBindings, isText, sizeAllowed};
+ghost use Rattle.wire.specs.AvId.{isEnd, isNbComputerName, isNbDomainName, isDnsComputerName, isDnsDomainName, isDnsTreeName, isFlags, isTimestamp, isSingleHost, isTargetName, isChannelBindings, isText, sizeAllowed, sameId};
 
 pub struct AvId {
     pub id: u16,
@@ -93,6 +93,12 @@ impl AvId {
         ensures { λ r. ⌜ r ≡ isChannelBindings self ⌝ }
     {
         self.id == AvId::CHANNEL_BINDINGS
+    }
+
+    pub fn same(self, other: AvId) -> bool
+        ensures { λ r. ⌜ r ≡ sameId other self ⌝ }
+    {
+        self.id == other.id
     }
 
     // Whether the value is a name in 16-bit units.

@@ -1,0 +1,115 @@
+-- TargetInfo (MS-NLMP 2.2.2.1): a list of AvPairs, each an id (2 bytes), a length (2) and a value, up to the end pair.
+use Prim.Native.Nat.{ℕ, zero, suc, _+_, _-_}
+use mathlib.Core.Bool.{Bool, true, false, _&&_, cond}
+use mathlib.Core.List.{List, [], _∷_}
+use lib.Dec.{leb, eqb}
+use lib.ListN.{length}
+use Rattle.wire.specs.declared.av_id.AvId.{AvId}
+use Rattle.wire.specs.declared.check.Checked.{Checked}
+use Rattle.wire.specs.declared.check.Verdict.{Verdict}
+use Rattle.wire.specs.declared.check.Verdict.the-variants.{Clear, Refused as Not}
+use Rattle.wire.specs.declared.refusal.Refusal.{Refusal}
+use Rattle.wire.specs.declared.refusal.Refusal.the-variants.{TooLong, PairPastEnd, PairMissing, WrongEndPair, WrongPairSize}
+use Rattle.wire.specs.AvId.{isEnd, sizeAllowed, sameId, implies}
+use Rattle.wire.specs.Check.{checked, after, onClear}
+use Rattle.wire.specs.Number.{u16At}
+use Rattle.av_pairs.specs.declared.AvPair.{AvPair}
+use Rattle.av_pairs.specs.declared.Step.{Step}
+use Rattle.av_pairs.specs.declared.Step.the-variants.{Pair, End, Refused}
+use Rattle.av_pairs.specs.declared.Count.{Count}
+use Rattle.av_pairs.specs.declared.Count.the-variants.{Pairs, Refused as Uncounted}
+use Rattle.av_pairs.specs.declared.Found.{Found}
+use Rattle.av_pairs.specs.declared.Found.the-variants.{At, Nothing}
+use Rattle.av_pairs.specs.declared.Search.{Search}
+use Rattle.av_pairs.specs.declared.Search.the-variants.{Done, Refused as Unsearched}
+
+-- how many bytes are left from a place on
+unfoldable pub left : List ℕ → ℕ → ℕ
+left s at = length s - at
+
+-- check 11: four bytes are left where a pair should start
+abbrev pub pairThere : ℕ → Checked
+pairThere left = checked (leb 4 left)
+
+-- check 12: an end pair has length 0, and no bytes after it
+abbrev pub endPairHolds : AvId → ℕ → ℕ → Checked
+endPairHolds id len left = checked (implies (isEnd id) (eqb len 0 && eqb left 4))
+
+-- check 10: the value ends within the list
+abbrev pub valueInside : ℕ → ℕ → Checked
+valueInside len left = checked (leb (4 + len) left)
+
+-- check 13: the id allows the size
+abbrev pub sizeHolds : AvId → ℕ → Checked
+sizeHolds id len = checked (sizeAllowed id len)
+
+-- the pair with this id and length whose head stands at a place, with so many bytes left: checks 12, 10 and 13
+unfoldable pub pairOf : AvId → ℕ → ℕ → ℕ → Step
+pairOf id len at left =
+    after (endPairHolds id len left) (Refused WrongEndPair) (
+    after (valueInside len left) (Refused PairPastEnd) (
+    after (sizeHolds id len) (Refused WrongPairSize)
+    (cond (isEnd id) End (Pair (record { id = id; at = at + 4; len = len })))))
+
+abbrev pub idAt : List ℕ → ℕ → AvId
+idAt s at = record { id = u16At s at }
+
+-- what stands at a place of a list: an empty list holds no pairs, and else checks 11, 12, 10 and 13 in this order
+unfoldable pub stepAt : List ℕ → ℕ → Step
+stepAt s at =
+    cond (eqb (length s) 0) End (
+    after (pairThere (left s at)) (Refused PairMissing)
+    (pairOf (idAt s at) (u16At s (at + 2)) at (left s at)))
+
+-- the place after a pair, where the next one should start
+abbrev pub endOf : AvPair → ℕ
+endOf p = p .at + p .len
+
+abbrev pub onStep : {A : Type 0} → Step → (AvPair → A) → (Verdict → A) → A
+onStep (Pair p) pair stop = pair p
+onStep End pair stop = stop Clear
+onStep (Refused e) pair stop = stop (Not e)
+
+-- the pairs from a place on, before the end or the first fault, in at most so many steps
+abbrev pub pairsFrom : ℕ → List ℕ → ℕ → List AvPair
+pairsFrom zero s at = []
+pairsFrom (suc k) s at = onStep (stepAt s at) (λ p. p ∷ pairsFrom k s (endOf p)) (λ v. [])
+
+-- what comes after these pairs: the end, or that fault
+abbrev pub stopFrom : ℕ → List ℕ → ℕ → Verdict
+stopFrom zero s at = Clear
+stopFrom (suc k) s at = onStep (stepAt s at) (λ p. stopFrom k s (endOf p)) (λ v. v)
+
+-- a list's pairs before the end or the first fault; each takes four bytes or more, so this many steps do
+unfoldable pub pairsOf : List ℕ → List AvPair
+pairsOf s = pairsFrom (suc (length s)) s 0
+
+-- checks 10 to 13 over the whole list: the earliest faulty pair decides
+unfoldable pub checkPairs : List ℕ → Verdict
+checkPairs s = stopFrom (suc (length s)) s 0
+
+-- how many pairs the list holds, or its refusal
+unfoldable pub countPairs : List ℕ → Count
+countPairs s = onClear Uncounted (checkPairs s) (Pairs (length (pairsOf s)))
+
+-- the first pair whose id answers a question with yes
+abbrev pub firstBy : (AvId → Bool) → List AvPair → Found
+firstBy is [] = Nothing
+firstBy is (p ∷ ps) = cond (is (p .id)) (At p) (firstBy is ps)
+
+unfoldable pub firstPair : AvId → List ℕ → Found
+firstPair id s = firstBy (sameId id) (pairsOf s)
+
+-- a search: checks 10 to 13 on the whole list, which refuse, and then the first pair with the id
+unfoldable pub findPair : AvId → List ℕ → Search
+findPair id s = onClear Unsearched (checkPairs s) (Done (firstPair id s))
+
+-- the refusal of a search that was refused (asked only then)
+abbrev pub searchRefusal : Search → Refusal
+searchRefusal (Done f) = TooLong
+searchRefusal (Unsearched e) = e
+
+-- whether a search found a pair
+abbrev pub isThere : Found → Bool
+isThere (At p) = true
+isThere Nothing = false

@@ -1,0 +1,190 @@
+-- Laws of CHALLENGE's chain of checks, and of what is read from its pairs.
+use Prim.Native.Nat.{ℕ, _+_, _≤_}
+use mathlib.Core.Path.{_≡_, refl, sym, ap, _∙_}
+use mathlib.Core.Bool.{Bool, true, false}
+use mathlib.Core.List.{List}
+use native.Mathlib.Omega.{arith}
+use lib.Dec.{eqb}
+use lib.ListN.{length, take, drop, replicate}
+use borrow.Author.Tests.{eqb-true}
+use Rattle.wire.specs.declared.av_id.AvId.{AvId}
+use Rattle.wire.specs.declared.check.Verdict.{Verdict}
+use Rattle.wire.specs.declared.check.Verdict.the-variants.{Clear, Refused as Not}
+use Rattle.wire.specs.declared.field.Field.{Field}
+use Rattle.wire.specs.declared.flags.NegotiateFlags.{NegotiateFlags}
+use Rattle.wire.specs.declared.head.Head.{Head}
+use Rattle.wire.specs.declared.head.Head.the-variants.{Flags, Refused as Stopped}
+use Rattle.wire.specs.declared.refusal.Refusal.{Refusal}
+use Rattle.wire.specs.AvId.{isTimestamp, isNbComputerName, isNbDomainName, sizeAllowed}
+use Rattle.wire.specs.Check.{onClear}
+use Rattle.wire.specs.Field.{fieldAt, fieldBytes}
+use Rattle.wire.specs.Flags.{requestTarget, targetInfo, unicode}
+use Rattle.wire.specs.Head.{readHead, onFlags}
+use Rattle.wire.specs.Number.{u64At}
+use Rattle.wire.proofs.Laws.{groups}
+use Rattle.wire.proofs.Heads.{flagged, head-long}
+use Rattle.wire.proofs.Stands.{and-left}
+use Rattle.av_pairs.specs.declared.AvPair.{AvPair}
+use Rattle.av_pairs.specs.declared.Found.{Found}
+use Rattle.av_pairs.specs.declared.Found.the-variants.{At, Nothing}
+use Rattle.av_pairs.specs.declared.Search.{Search}
+use Rattle.av_pairs.specs.declared.Search.the-variants.{Done, Refused as Unsearched}
+use Rattle.av_pairs.specs.AvPairs.{pairsOf, checkPairs, firstBy, firstPair, findPair, searchRefusal, isThere}
+use Rattle.av_pairs.proofs.Searches.{was-done, was-refused, FoundIn, found-in}
+use Rattle.challenge.specs.declared.Challenge.{Challenge}
+use Rattle.challenge.specs.declared.Fields.{Fields}
+use Rattle.challenge.specs.declared.Reading.{Reading}
+use Rattle.challenge.specs.declared.Reading.the-variants.{Taken, Refused}
+use Rattle.challenge.specs.declared.Timestamp.{Timestamp}
+use Rattle.challenge.specs.declared.Timestamp.the-variants.{Time, Nothing as NoTime}
+use Rattle.challenge.specs.declared.TimestampReading.{TimestampReading}
+use Rattle.challenge.specs.declared.TimestampReading.the-variants.{Taken as TimeTaken, Refused as TimeRefused}
+use Rattle.challenge.specs.declared.ServerNamesReading.{ServerNamesReading}
+use Rattle.challenge.specs.declared.ServerNamesReading.the-variants.{Taken as NamesTaken, Refused as NamesRefused}
+use Rattle.challenge.specs.Challenge.{layout, fieldsAt, checkFields, fieldsOf, onTaken, infoOf, readingOf, serverChallenge, readChallenge, timestampIn, timestampOf, serverNamesIn, serverNamesOf, searchedTime, searchedNames, readingRefusal, Long}
+
+-- both fields are those of their heads
+pub both : (s : List ℕ) (w : NegotiateFlags) (i j : Bool) (a b : Field) →
+    i ≡ requestTarget w → a ≡ fieldAt s 12 i → j ≡ targetInfo w → b ≡ fieldAt s 40 j →
+    record { «target_name» = a; «target_info» = b } ≡ fieldsAt s w
+unfolding fieldsAt
+both s w i j a b pi pa pj pb = simp (pa, pb, pi, pj)
+
+-- checks of the fields that were read are those of the definition's fields
+module _ (f g : Fields) (e : f ≡ g) where
+  pub of-fields : (n : ℕ) (b d : Bool) (r : Verdict) → b ≡ d → r ≡ checkFields n b f → r ≡ checkFields n d g
+  of-fields n b d r p h = rw (← e, ← p) h
+
+  pub taken : (w : NegotiateFlags) → Taken (record { flags = w; fields = f }) ≡ Taken (record { flags = w; fields = g })
+  taken w = rw e
+
+pub ruleset fields = (groups, flagged, of-fields, taken)
+
+-- what follows a reading that was taken, and one that was refused
+pub with-taken : {A : Type 0} (f : Refusal → A) (k r : Reading) (c : Challenge) (x : Challenge → A) (y : A) →
+    r ≡ k → r ≡ Taken c → y ≡ x c → y ≡ onTaken f k x
+with-taken f k r c x y p h q = simp (← p, h) q
+
+pub reading-stops : {A : Type 0} (f : Refusal → A) (k r : Reading) (e d : Refusal) (x : Challenge → A) (y : A) →
+    r ≡ k → r ≡ Refused e → d ≡ readingRefusal r → y ≡ f d → y ≡ onTaken f k x
+reading-stops f k r e d x y p h q z = z ∙ simp (← p, q, h)
+
+-- a refused reading, handed on as it is
+pub reading-passes : (k r : Reading) (e : Refusal) (x : Challenge → Reading) → r ≡ k → r ≡ Refused e → r ≡ onTaken Refused k x
+reading-passes k r e x p h = h ∙ simp (← p, h)
+
+-- checks of the bytes that were handed out are those of TargetInfo's bytes
+pub of-list : (l m : List ℕ) (v : Verdict) → l ≡ m → v ≡ checkPairs l → v ≡ checkPairs m
+of-list l m v e h = rw (← e) h
+
+pub ruleset reading = (groups, with-taken, reading-passes, of-list)
+
+pub refusal-is : (v w : Reading) (e : Refusal) → v ≡ w → e ≡ readingRefusal w → e ≡ readingRefusal v
+refusal-is v w e p q = rw p q
+
+-- a message whose checks 1 to 8 held has its fixed part
+fields-long : (s : List ℕ) (c : Challenge) → fieldsOf s ≡ Taken c → 32 ≤ length s
+unfolding fieldsOf
+fields-long s c h = go (readHead layout s) refl h where
+  go : (k : Head) → k ≡ readHead layout s →
+      onFlags Refused k (λ flags. onClear Refused (checkFields (length s) (unicode flags) (fieldsAt s flags)) (Taken (record { flags = flags; fields = fieldsAt s flags }))) ≡ Taken c →
+      32 ≤ length s
+  go (Flags w) e h = head-long 32 layout s (Flags w) w e refl (omega arith)
+  go (Stopped d) e h = absurd (let z : _≡_ {A = ℕ} 0 1 = cc in omega arith)
+
+-- a reading goes on only from one that was taken
+was-taken : (k : Reading) (x : Challenge → Verdict) (c : Challenge) →
+    onTaken Refused k (λ b. onClear Refused (x b) (Taken b)) ≡ Taken c → k ≡ Taken c
+was-taken (Taken b) x c h = go (x b) h where
+  go : (v : Verdict) → onClear Refused v (Taken b) ≡ Taken c → Taken b ≡ Taken c
+  go Clear h = h
+  go (Not e) h = cc
+was-taken (Refused e) x c h = h
+
+pub long : (s : List ℕ) (r : Reading) → r ≡ readingOf s → Long r (length s)
+unfolding readingOf
+long s (Taken c) e = fields-long s c (was-taken (fieldsOf s) (λ b. checkPairs (infoOf s b)) c (sym e))
+long s (Refused d) e = tt
+
+pub room : (n : ℕ) (r : Reading) (c : Challenge) → r ≡ Taken c → Long r n → 32 ≤ n
+room n r c p m = rw p at m
+
+-- ServerChallenge's bytes, by what the reading is known to be
+pub bytes-there : (s b : List ℕ) (r : Reading) (c : Challenge) → r ≡ Taken c → b ≡ take 8 (drop 24 s) → b ≡ serverChallenge r s
+bytes-there s b r c p q = simp p q
+
+-- the reading with ServerChallenge is the answer
+pub answered : (s b : List ℕ) (r : Reading) → r ≡ readingOf s → b ≡ serverChallenge r s →
+    record { reading = r; «server_challenge» = b } ≡ readChallenge s
+unfolding readChallenge
+answered s b r p q = rw (← p, q)
+
+-- what follows the whole reading: checks 1 to 8, and then a list that is checked
+split : {A : Type 0} (f : Refusal → A) (k : Reading) (v : Challenge → Verdict) (x : Challenge → A) →
+    onTaken f k (λ c. onClear f (v c) (x c)) ≡ onTaken f (onTaken Refused k (λ c. onClear Refused (v c) (Taken c))) x
+split f (Taken c) v x = go (v c) where
+  go : (w : Verdict) → onClear f w (x c) ≡ onTaken f (onClear Refused w (Taken c)) x
+  go Clear = refl
+  go (Not e) = refl
+split f (Refused e) v x = refl
+
+pub time-by : (s : List ℕ) (y : TimestampReading) → y ≡ onTaken TimeRefused (fieldsOf s) (λ c. searchedTime (infoOf s c)) → y ≡ timestampOf s
+unfolding timestampOf readingOf searchedTime
+time-by s y h = h ∙ split TimeRefused (fieldsOf s) (λ c. checkPairs (infoOf s c)) (λ c. TimeTaken (timestampIn (infoOf s c)))
+
+pub of-time : (l m : List ℕ) (y : TimestampReading) → l ≡ m → y ≡ searchedTime l → y ≡ searchedTime m
+of-time l m y e h = rw (← e) h
+
+pub ruleset time = (time-by, with-taken, reading-stops, of-time)
+
+pub names-by : (s : List ℕ) (y : ServerNamesReading) → y ≡ onTaken NamesRefused (fieldsOf s) (λ c. searchedNames (infoOf s c)) → y ≡ serverNamesOf s
+unfolding serverNamesOf readingOf searchedNames
+names-by s y h = h ∙ split NamesRefused (fieldsOf s) (λ c. checkPairs (infoOf s c)) (λ c. NamesTaken (serverNamesIn (infoOf s c)))
+
+pub of-names : (l m : List ℕ) (y : ServerNamesReading) → l ≡ m → y ≡ searchedNames l → y ≡ searchedNames m
+of-names l m y e h = rw (← e) h
+
+pub ruleset names = (names-by, with-taken, reading-stops, of-names)
+
+-- a list whose search was refused
+pub time-refused : (id : AvId) (l : List ℕ) (r : Search) (e d : Refusal) → r ≡ findPair id l → r ≡ Unsearched e → d ≡ searchRefusal r →
+    TimeRefused d ≡ searchedTime l
+unfolding searchedTime
+time-refused id l r e d p h q = simp (was-refused id l r p e h, q, h)
+
+pub names-refused : (id : AvId) (l : List ℕ) (r : Search) (e d : Refusal) → r ≡ findPair id l → r ≡ Unsearched e → d ≡ searchRefusal r →
+    NamesRefused d ≡ searchedNames l
+unfolding searchedNames
+names-refused id l r e d p h q = simp (was-refused id l r p e h, q, h)
+
+-- a timestamp has eight bytes
+eight : (a : AvId) (n : ℕ) → isTimestamp a ≡ true → sizeAllowed a n ≡ true → n ≡ 8
+eight a n t h = let i : a .id ≡ 7 = eqb-true (a .id) 7 t in eqb-true n 8 (and-left (eqb n 8) true (rw i at h))
+
+-- a search for the timestamp that was made
+module _ (l : List ℕ) (r : Search) (f : Found) (e : r ≡ findPair (record { id = 7 }) l) (h : r ≡ Done f) where
+  pub no-time : f ≡ Nothing → TimeTaken NoTime ≡ searchedTime l
+  unfolding searchedTime timestampIn firstPair
+  no-time q = let w = was-done (record { id = 7 }) l r e f h in simp (w .0, ← (w .1), q)
+
+  module _ (p : AvPair) (q : f ≡ At p) where
+    pub time-room : p .at + 8 ≤ length l
+    unfolding firstPair
+    time-room =
+        let w = was-done (record { id = 7 }) l r e f h in
+        let g = found-in isTimestamp l p (sym (w .1) ∙ q) in
+        omega (arith, g .gave .inside, eight (p .id) (p .len) (g .wanted) (g .gave .size))
+
+    pub time-is : (t : ℕ) → t ≡ u64At l (p .at) → TimeTaken (Time t) ≡ searchedTime l
+    unfolding searchedTime timestampIn firstPair
+    time-is t y = let w = was-done (record { id = 7 }) l r e f h in simp (w .0, ← (w .1), q, y)
+
+-- the two searches for names that were made
+pub names-are : (l : List ℕ) (r v : Search) (f g : Found) (a b : Bool) →
+    r ≡ findPair (record { id = 1 }) l → r ≡ Done f → v ≡ findPair (record { id = 2 }) l → v ≡ Done g →
+    a ≡ isThere f → b ≡ isThere g → NamesTaken (record { «nb_computer_name» = a; «nb_domain_name» = b }) ≡ searchedNames l
+unfolding searchedNames serverNamesIn firstPair
+names-are l r v f g a b e h k n p q =
+    let w = was-done (record { id = 1 }) l r e f h in
+    let u = was-done (record { id = 2 }) l v k g n in
+    simp (w .0, p, q, w .1, u .1)
