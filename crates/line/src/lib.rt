@@ -1,0 +1,3 @@
+// Log lines: one for each message read.
+mod digits;
+mod name;
