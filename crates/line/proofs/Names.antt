@@ -8,9 +8,11 @@ use native.Mathlib.Numerals.{add-one}
 use native.Mathlib.Omega.{arith}
 use lib.Dec.{leb, eqb}
 use borrow.Rule.Slice.PartMut.{putMid}
-use lib.ListN.{length, getD, take, drop, length-append, length-drop, drop-of-length-le}
+use lib.ListN.{length, getD, take, drop, length-append, length-drop, length-take, drop-of-length-le}
 use lib.Seq.{drop-cons, length-sets}
 use borrow.Author.Tests.{leb-true}
+use Rattle.wire.specs.declared.field.Field.{Field}
+use Rattle.wire.specs.Field.{fieldBytes}
 use Rattle.wire.specs.Number.{u16At}
 use Rattle.wire.proofs.Stands.{and-left, and-right}
 use Rattle.place.specs.Place.{Wrote}
@@ -199,3 +201,23 @@ module _ (unicode : Bool) (l k s : List ℕ) (q i width : ℕ) (n : Named unicod
       let h′ : length s < i + unitWidth unicode = rw w at h in
       let all : nameText unicode s ≡ n .done = n .split ∙ simp (rest-last unicode s i h′, append-nil) in
       rw all (n .wrote)
+
+-- ---- the name that a field holds
+
+module _ (s n : List ℕ) (f : Field) (e : n ≡ fieldBytes s f) where
+  pub field-small : length n ≤ f .len
+  unfolding fieldBytes
+  field-small = rw e (go (leb (f .offset + f .len) (length s))) where
+    go : (t : Bool) → length (cond t (take (f .len) (drop (f .offset) s)) []) ≤ f .len
+    go true = simp length-take (omega arith)
+    go false = omega arith
+
+  module _ (unicode : Bool) where
+    pub field-length : (m : ℕ) → m ≡ length (nameText unicode n) → m ≡ length (nameText unicode (fieldBytes s f))
+    field-length m h = rw (← e) h
+
+    pub field-room : (m : ℕ) → length (nameText unicode (fieldBytes s f)) ≤ m → length (nameText unicode n) ≤ m
+    field-room m h = rw e h
+
+    pub field-wrote : (l k : List ℕ) (i q : ℕ) → Wrote l k i q (nameText unicode n) → Wrote l k i q (nameText unicode (fieldBytes s f))
+    field-wrote l k i q w = rw (← e) w

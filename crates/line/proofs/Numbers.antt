@@ -137,20 +137,21 @@ pub one-counted : (n size left : ℕ) → Sized n size left → 10 ≤ left → 
 one-counted n size left s h =
     record { digits = omega (arith, s .digits, more-digits left h); small = omega (arith, s .small) }
 
-pub all-counted : (n size left : ℕ) → Sized n size left → left < 10 → size ≡ decimalSize n
-all-counted n size left s h = omega (arith, s .digits, one-digit left h)
-
-pub length-decimal : (n : ℕ) → length (decimal n) ≡ decimalSize n
+length-decimal : (n : ℕ) → length (decimal n) ≡ decimalSize n
 unfolding decimal
 length-decimal n = length-digits 10 (decimalSize n) n
 
-pub decimal-start : (l : List ℕ) (n size : ℕ) → size ≡ decimalSize n → length (decimal n) ≤ length l → Lowest 10 l l (decimal n) size n
+pub all-counted : (n size left : ℕ) → Sized n size left → left < 10 → size ≡ length (decimal n)
+all-counted n size left s h = omega (arith, s .digits, one-digit left h, length-decimal n)
+
+pub decimal-start : (l : List ℕ) (n size : ℕ) → size ≡ length (decimal n) → length (decimal n) ≤ length l → Lowest 10 l l (decimal n) size n
 unfolding decimal
 decimal-start l n size e h =
-    rw (← e) (none-stored 10 l size n (omega (arith, length-decimal n)))
+    let same : size ≡ decimalSize n = e ∙ length-decimal n in
+    rw (← same) (none-stored 10 l size n (omega arith))
 
-pub decimal-end : (l k : List ℕ) (n size i left : ℕ) → Lowest 10 l k (decimal n) i left → i ≤ 0 → size ≡ decimalSize n → Wrote l k 0 size (decimal n)
-decimal-end l k n size i left w h e = all-stored 10 l k (decimal n) i left w size h (e ∙ sym (length-decimal n))
+pub decimal-end : (l k : List ℕ) (n size i left : ℕ) → Lowest 10 l k (decimal n) i left → i ≤ 0 → size ≡ length (decimal n) → Wrote l k 0 size (decimal n)
+decimal-end l k n size i left w h e = all-stored 10 l k (decimal n) i left w size h e
 
 pub hex-start : (l : List ℕ) (k n : ℕ) → k ≤ length l → Lowest 16 l l (hex k n) k n
 unfolding hex

@@ -3,7 +3,7 @@ ghost use mathlib.Core.Path.{_≡_};
 ghost use Prim.Native.Nat.{_+_, _≤_, _<_};
 ghost use lib.ListN.{length};
 ghost use Rattle.place.specs.Place.{Wrote};
-ghost use Rattle.line.specs.Digits.{hexDigit, hex, decimalSize, decimal};
+ghost use Rattle.line.specs.Digits.{hexDigit, hex, decimal};
 use place::Place;
 
 // The digit of a number below 16, worked out from the number.
@@ -35,7 +35,7 @@ pub(crate) fn put_hex(out: &mut [u8], n: u64, k: usize) -> Place
 
 // How many digits a decimal has.
 pub(crate) fn decimal_size(n: usize) -> usize
-    ensures { λ r. ⌜ (r ≡ decimalSize n) × (r ≤ n + 1) ⌝ }
+    ensures { λ r. ⌜ (r ≡ length (decimal n)) × (r ≤ n + 1) ⌝ }
 {
     let mut size: usize = 1;
     let mut left = n;

@@ -2,12 +2,14 @@
 ghost use mathlib.Core.Path.{_≡_};
 ghost use Prim.Native.Nat.{_+_, _*_, _≤_, _<_};
 ghost use lib.ListN.{length};
+ghost use Rattle.wire.specs.Field.{fieldBytes};
 ghost use Rattle.place.specs.Place.{Wrote};
 ghost use mathlib.Core.List.{_∷_};
 ghost use Rattle.line.specs.Digits.{hex};
 ghost use Rattle.line.specs.Name.{plain, unitText, nameText, unitWidth, unitAt};
 use crate::digits::put_hex;
 use place::Place;
+use wire::field::Field;
 use wire::number::u16_at;
 
 // Whether a unit stands for itself.
@@ -52,7 +54,7 @@ fn unit_size(u: u16, unicode: bool) -> usize
 }
 
 // How many bytes a name's text has.
-pub(crate) fn name_size(name: &[u8], unicode: bool) -> usize
+fn name_size(name: &[u8], unicode: bool) -> usize
     requires { ⌜ length (now name) ≤ 65535 ⌝ }
     ensures { λ r. ⌜ (r ≡ length (nameText unicode (now (name .entry)))) × (r ≤ 6 * 65535) ⌝ }
 {
@@ -92,7 +94,7 @@ fn put_unit(p: Place, out: &mut [u8], u: u16, unicode: bool) -> Place
 }
 
 // A name's text, at the start of the output.
-pub(crate) fn put_name(out: &mut [u8], name: &[u8], unicode: bool) -> Place
+fn put_name(out: &mut [u8], name: &[u8], unicode: bool) -> Place
     requires { ⌜ length (nameText unicode (now name)) ≤ length (now out) ⌝ }
     ensures { λ r. ⌜ Wrote (now (out .entry)) (now (out .exit)) 0 (r .at) (nameText unicode (now (name .entry))) ⌝ }
 {
@@ -104,4 +106,18 @@ pub(crate) fn put_name(out: &mut [u8], name: &[u8], unicode: bool) -> Place
         i = i + width;
     }
     p
+}
+
+pub(crate) fn field_size(msg: &[u8], f: Field, unicode: bool) -> usize
+    ensures { λ r. ⌜ (r ≡ length (nameText unicode (fieldBytes (now (msg .entry)) f))) × (r ≤ 6 * 65535) ⌝ }
+{
+    name_size(f.bytes(msg), unicode)
+}
+
+// The text of the name that a field holds, at the start of the output.
+pub(crate) fn put_field(out: &mut [u8], msg: &[u8], f: Field, unicode: bool) -> Place
+    requires { ⌜ length (nameText unicode (fieldBytes (now msg) f)) ≤ length (now out) ⌝ }
+    ensures { λ r. ⌜ Wrote (now (out .entry)) (now (out .exit)) 0 (r .at) (nameText unicode (fieldBytes (now (msg .entry)) f)) ⌝ }
+{
+    put_name(out, f.bytes(msg), unicode)
 }
