@@ -9,13 +9,12 @@ use Rattle.wire.specs.declared.av_id.AvId.{AvId}
 use Rattle.wire.specs.declared.check.Verdict.{Verdict}
 use Rattle.wire.specs.declared.check.Verdict.the-variants.{Clear, Refused as Not}
 use Rattle.wire.specs.declared.refusal.Refusal.{Refusal}
-use Rattle.wire.specs.AvId.{sameId}
 use Rattle.wire.specs.Check.{onClear}
 use Rattle.av_pairs.specs.declared.AvPair.{AvPair}
 use Rattle.av_pairs.specs.declared.Step.{Step}
 use Rattle.av_pairs.specs.declared.Step.the-variants.{Pair, End, Refused}
 use Rattle.av_pairs.specs.declared.Found.{Found}
-use Rattle.av_pairs.specs.declared.Found.the-variants.{At, Nothing}
+use Rattle.av_pairs.specs.declared.Found.the-variants.{At}
 use Rattle.av_pairs.specs.declared.Search.{Search}
 use Rattle.av_pairs.specs.declared.Search.the-variants.{Done, Refused as Unsearched}
 use Rattle.av_pairs.specs.AvPairs.{stepAt, endOf, onStep, pairsFrom, pairsOf, checkPairs, firstBy, firstPair, findPair, searchRefusal}

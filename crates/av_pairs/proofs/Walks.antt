@@ -23,10 +23,9 @@ use Rattle.av_pairs.specs.declared.Step.the-variants.{Pair, End, Refused
 use Rattle.av_pairs.specs.declared.Count.{Count}
 use Rattle.av_pairs.specs.declared.Count.the-variants.{Pairs, Refused as Uncounted}
 use Rattle.av_pairs.specs.declared.Found.the-variants.{At, Nothing}
-use Rattle.av_pairs.specs.declared.Search.{Search}
-use Rattle.av_pairs.specs.AvPairs.{stepAt, endOf, pairsFrom, stopFrom, pairsOf, checkPairs, countPairs, firstBy, firstPair, searchRefusal}
+use Rattle.av_pairs.specs.AvPairs.{stepAt, endOf, onStep, askAt, pairsFrom, stopFrom, pairsOf, checkPairs, countPairs, firstBy, firstPair}
 use Rattle.av_pairs.proofs.Step.{the-type}
-use Rattle.av_pairs.proofs.Steps.{Gave, gave}
+use Rattle.av_pairs.proofs.Steps.{gave}
 
 -- the walk has passed the pairs ps and is at a place: what is left of the list's pairs and its verdict is found from there on
 pub record Walked (s : List ℕ) (at : ℕ) (ps : List AvPair) : Type 0 where
@@ -70,6 +69,22 @@ module _ (s : List ℕ) (at : ℕ) (r : Step) (e : r ≡ stepAt s at) where
 
     pub faulted : (f : Refusal) → r ≡ Refused f → (pairsOf s ≡ ps) × (checkPairs s ≡ Not f)
     faulted f h = (simp (w .pairs, ← e, h, append-nil), simp (w .verdict, ← e, h))
+
+-- an asking that gives a pair, and one that gives none, as the `else` has it: the tag is another
+pub ask-pair : (s : List ℕ) (at : ℕ) (r : Step) (p : AvPair) → r ≡ stepAt s at → r ≡ Pair p →
+    record { step = Pair p; next = p .at + p .len } ≡ askAt s at
+unfolding askAt
+ask-pair s at r p e h = simp (← e, h)
+
+stays : (r : Step) (at : ℕ) → OneOf (1 ∷ 2 ∷ []) (tagOf the-type r) → at ≡ onStep r endOf (λ v. at)
+stays (Pair p) at m = absurd (⊎-elim (λ (h : _≡_ {A = ℕ} 0 1). omega arith) (λ (h : _≡_ {A = ℕ} 0 2). omega arith) m)
+stays End at m = refl
+stays (Refused f) at m = refl
+
+pub ask-stop : (s : List ℕ) (at : ℕ) (r : Step) → r ≡ stepAt s at → OneOf (1 ∷ 2 ∷ []) (tagOf the-type r) →
+    record { step = r; next = at } ≡ askAt s at
+unfolding askAt
+ask-stop s at r e m = simp (← e) (ap (λ (n : ℕ). record { step = r; next = n }) (stays r at m))
 
 -- the same, where the pairs passed are counted
 pub record Counted (s : List ℕ) (at n : ℕ) : Type 0 where

@@ -16,6 +16,7 @@ use Rattle.wire.specs.Number.{u16At}
 use Rattle.av_pairs.specs.declared.AvPair.{AvPair}
 use Rattle.av_pairs.specs.declared.Step.{Step}
 use Rattle.av_pairs.specs.declared.Step.the-variants.{Pair, End, Refused}
+use Rattle.av_pairs.specs.declared.Asked.{Asked}
 use Rattle.av_pairs.specs.declared.Count.{Count}
 use Rattle.av_pairs.specs.declared.Count.the-variants.{Pairs, Refused as Uncounted}
 use Rattle.av_pairs.specs.declared.Found.{Found}
@@ -70,6 +71,10 @@ onStep (Pair p) pair stop = pair p
 onStep End pair stop = stop Clear
 onStep (Refused e) pair stop = stop (Not e)
 
+-- asking at a place: what stands there, and the place to ask at next, which is past a pair, and else the same
+unfoldable pub askAt : List ℕ → ℕ → Asked
+askAt s at = record { step = stepAt s at; next = onStep (stepAt s at) endOf (λ v. at) }
+
 -- the pairs from a place on, before the end or the first fault, in at most so many steps
 abbrev pub pairsFrom : ℕ → List ℕ → ℕ → List AvPair
 pairsFrom zero s at = []
@@ -92,6 +97,11 @@ checkPairs s = stopFrom (suc (length s)) s 0
 unfoldable pub countPairs : List ℕ → Count
 countPairs s = onClear Uncounted (checkPairs s) (Pairs (length (pairsOf s)))
 
+-- whether a search found a pair
+abbrev pub isThere : Found → Bool
+isThere (At p) = true
+isThere Nothing = false
+
 -- the first pair whose id answers a question with yes
 abbrev pub firstBy : (AvId → Bool) → List AvPair → Found
 firstBy is [] = Nothing
@@ -108,8 +118,3 @@ findPair id s = onClear Unsearched (checkPairs s) (Done (firstPair id s))
 abbrev pub searchRefusal : Search → Refusal
 searchRefusal (Done f) = TooLong
 searchRefusal (Unsearched e) = e
-
--- whether a search found a pair
-abbrev pub isThere : Found → Bool
-isThere (At p) = true
-isThere Nothing = false

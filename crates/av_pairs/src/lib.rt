@@ -1,13 +1,15 @@
 // TargetInfo (MS-NLMP 2.2.2.1): a list of AvPairs, each an id, a length and a value, up to the end pair.
 ghost use mathlib.Core.Path.{_≡_};
 ghost use Prim.Native.Nat.{_+_, _<_, _^_};
-ghost use Rattle.av_pairs.specs.AvPairs.{left, pairThere, endPairHolds, valueInside, sizeHolds, pairOf, stepAt, countPairs, checkPairs, firstPair, findPair, searchRefusal, isThere};
+ghost use Rattle.av_pairs.specs.AvPairs.{left, pairThere, endPairHolds, valueInside, sizeHolds, pairOf, stepAt, countPairs, checkPairs, firstPair, findPair, searchRefusal, isThere, askAt};
 use wire::av_id::AvId;
 use wire::check::Checked;
 use wire::check::Verdict;
 use wire::check::check;
 use wire::number::u16_at;
 use wire::refusal::Refusal;
+
+pub mod walk;
 
 pub struct AvPair {
     pub id: AvId,
@@ -21,6 +23,12 @@ pub enum Step {
     Pair(AvPair),
     End,
     Refused(Refusal),
+}
+
+// What asking at a place of a list gives, and the place to ask at next.
+pub struct Asked {
+    pub step: Step,
+    pub next: usize,
 }
 
 // How many pairs a list holds, the end pair left out.
@@ -118,6 +126,23 @@ pub fn step_at(list: &[u8], at: usize) -> Step
     };
     let len = u16_at(list, at + 2);
     pair_of(id, len, at, left)
+}
+
+// Asks at a place, and moves on past a pair; the end and a fault stay where they are.
+pub fn ask_at(list: &[u8], at: usize) -> Asked
+    ensures { λ r. ⌜ r ≡ askAt (now (list .entry)) at ⌝ }
+{
+    let step = step_at(list, at);
+    let Step::Pair(p) = step else {
+        return Asked {
+            step: step,
+            next: at,
+        };
+    };
+    Asked {
+        step: step,
+        next: p.at + p.len as usize,
+    }
 }
 
 // Checks 10 to 13 over the whole list: how many pairs it holds, or the refusal of the earliest faulty pair.

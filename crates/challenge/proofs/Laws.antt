@@ -1,11 +1,12 @@
 -- Laws of CHALLENGE's chain of checks, and of what is read from its pairs.
 use Prim.Native.Nat.{ℕ, _+_, _≤_}
-use mathlib.Core.Path.{_≡_, refl, sym, ap, _∙_}
-use mathlib.Core.Bool.{Bool, true, false}
+use mathlib.Core.Path.{_≡_, refl, sym, _∙_}
+use mathlib.Core.Bool.{Bool, true}
 use mathlib.Core.List.{List}
+use native.Mathlib.Nat.{le-trans}
 use native.Mathlib.Omega.{arith}
-use lib.Dec.{eqb}
-use lib.ListN.{length, take, drop, replicate}
+use lib.Dec.{T, leb, eqb, leb→le}
+use lib.ListN.{length, take, drop}
 use borrow.Author.Tests.{eqb-true}
 use Rattle.wire.specs.declared.av_id.AvId.{AvId}
 use Rattle.wire.specs.declared.check.Verdict.{Verdict}
@@ -15,9 +16,9 @@ use Rattle.wire.specs.declared.flags.NegotiateFlags.{NegotiateFlags}
 use Rattle.wire.specs.declared.head.Head.{Head}
 use Rattle.wire.specs.declared.head.Head.the-variants.{Flags, Refused as Stopped}
 use Rattle.wire.specs.declared.refusal.Refusal.{Refusal}
-use Rattle.wire.specs.AvId.{isTimestamp, isNbComputerName, isNbDomainName, sizeAllowed}
+use Rattle.wire.specs.AvId.{isTimestamp, sizeAllowed}
 use Rattle.wire.specs.Check.{onClear}
-use Rattle.wire.specs.Field.{fieldAt, fieldBytes}
+use Rattle.wire.specs.Field.{fieldAt}
 use Rattle.wire.specs.Flags.{requestTarget, targetInfo, unicode}
 use Rattle.wire.specs.Head.{readHead, onFlags}
 use Rattle.wire.specs.Number.{u64At}
@@ -29,13 +30,12 @@ use Rattle.av_pairs.specs.declared.Found.{Found}
 use Rattle.av_pairs.specs.declared.Found.the-variants.{At, Nothing}
 use Rattle.av_pairs.specs.declared.Search.{Search}
 use Rattle.av_pairs.specs.declared.Search.the-variants.{Done, Refused as Unsearched}
-use Rattle.av_pairs.specs.AvPairs.{pairsOf, checkPairs, firstBy, firstPair, findPair, searchRefusal, isThere}
-use Rattle.av_pairs.proofs.Searches.{was-done, was-refused, FoundIn, found-in}
+use Rattle.av_pairs.specs.AvPairs.{checkPairs, firstPair, findPair, searchRefusal, isThere}
+use Rattle.av_pairs.proofs.Searches.{was-done, was-refused, found-in}
 use Rattle.challenge.specs.declared.Challenge.{Challenge}
 use Rattle.challenge.specs.declared.Fields.{Fields}
 use Rattle.challenge.specs.declared.Reading.{Reading}
 use Rattle.challenge.specs.declared.Reading.the-variants.{Taken, Refused}
-use Rattle.challenge.specs.declared.Timestamp.{Timestamp}
 use Rattle.challenge.specs.declared.Timestamp.the-variants.{Time, Nothing as NoTime}
 use Rattle.challenge.specs.declared.TimestampReading.{TimestampReading}
 use Rattle.challenge.specs.declared.TimestampReading.the-variants.{Taken as TimeTaken, Refused as TimeRefused}
@@ -106,8 +106,8 @@ unfolding readingOf
 long s (Taken c) e = fields-long s c (was-taken (fieldsOf s) (λ b. checkPairs (infoOf s b)) c (sym e))
 long s (Refused d) e = tt
 
-pub room : (n : ℕ) (r : Reading) (c : Challenge) → r ≡ Taken c → Long r n → 32 ≤ n
-room n r c p m = rw p at m
+pub room : (k n : ℕ) (r : Reading) (c : Challenge) → r ≡ Taken c → Long r n → T (leb k 32) → k ≤ n
+room k n r c p m h = le-trans (leb→le k 32 h) (rw p at m)
 
 -- ServerChallenge's bytes, by what the reading is known to be
 pub bytes-there : (s b : List ℕ) (r : Reading) (c : Challenge) → r ≡ Taken c → b ≡ take 8 (drop 24 s) → b ≡ serverChallenge r s

@@ -1,6 +1,6 @@
 // CHALLENGE_MESSAGE (MS-NLMP 2.2.1.2): reading.
 ghost use mathlib.Core.Path.{_≡_};
-ghost use Prim.Native.Nat.{_+_, _≤_};
+ghost use Prim.Native.Nat.{_≤_};
 ghost use lib.ListN.{length};
 ghost use Rattle.challenge.specs.Challenge.{fieldsAt, checkEnds, checkBegins, checkNames, checkFields, fieldsOf, readingOf, serverChallenge, readChallenge, readingRefusal, Long, searchedTime, timestampOf, searchedNames, serverNamesOf};
 use av_pairs::Found;
