@@ -10,7 +10,7 @@ use borrow.Author.Tests.{eq-eqb, ne-eqb}
 use Rattle.text.specs.Text.{ascii}
 use Rattle.wire.specs.declared.flags.NegotiateFlags.{NegotiateFlags}
 use Rattle.place.specs.Place.{Wrote}
-use Rattle.line.specs.Words.{Room, flagsWord, setWord, startText, micWord, kindWord}
+use Rattle.line.specs.Words.{Room, nameWord, stringWord, flagsWord, setWord, startText, micWord, kindWord}
 use Rattle.line.proofs.Numbers.{length-hex}
 
 -- one of two texts, by a question or by two numbers
@@ -29,7 +29,7 @@ module _ (l k xs ys : List ℕ) (i q : ℕ) where
 
 pub ruleset choice = (wrote-true, wrote-false, wrote-eq, wrote-ne)
 
-flags-word-size : (bits : ℕ) → length (flagsWord bits) ≡ 15
+pub flags-word-size : (bits : ℕ) → length (flagsWord bits) ≡ 15
 unfolding flagsWord
 flags-word-size bits = simp length-hex
 
@@ -73,3 +73,18 @@ module _ (at n : ℕ) where
 
   pub kind-some-room : (nt : ℕ) → (nt ≡ 0 → ⊥) → Room at (kindWord nt) n → at + 8 ≤ n
   kind-some-room nt h r = omega (arith, r .fits, kind-some nt h)
+
+-- ---- a string's word, by its bit
+
+module _ (label string : List ℕ) (given : Bool) where
+  pub string-size : (n : ℕ) → given ≡ true → n ≡ length (nameWord label false string) → n ≡ length (stringWord label given string)
+  unfolding stringWord
+  string-size n h e = rw h e
+
+  pub string-none : given ≡ false → 0 ≡ length (stringWord label given string)
+  unfolding stringWord
+  string-none h = rw h
+
+  pub string-room : (at n : ℕ) → given ≡ true → Room at (stringWord label given string) n → Room at (nameWord label false string) n
+  unfolding stringWord
+  string-room at n h r = rw h at r

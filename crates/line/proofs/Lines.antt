@@ -27,9 +27,16 @@ use Rattle.authenticate.specs.declared.Answer.{Answer}
 use Rattle.authenticate.specs.declared.Authenticate.{Authenticate}
 use Rattle.authenticate.specs.declared.Reading.the-variants.{Taken, Refused as NotTaken}
 use Rattle.authenticate.specs.Authenticate.{readAuthenticate}
-use Rattle.line.specs.Words.{Room, kindWord, startText}
-use Rattle.line.specs.Line.{refusedText, refusedLine, authenticateLine, authNames, authLengths, authEnd, authText, lineHolds, lineAnswer, lineAfter}
-use Rattle.line.proofs.Labels.{start-size, mic-size}
+use Rattle.nl_auth.specs.declared.flags.NlAuthFlags.{NlAuthFlags}
+use Rattle.nl_auth.specs.declared.reading.NlAuth.{NlAuth}
+use Rattle.nl_auth.specs.declared.reading.Reading.{Reading as NlReading}
+use Rattle.nl_auth.specs.declared.reading.Reading.the-variants.{Taken as NlTaken, Refused as NlRefused}
+use Rattle.nl_auth.specs.Flags.{nbDomain, nbComputer, dnsDomain, dnsHost, utf8Computer}
+use Rattle.nl_auth.specs.NlAuth.{readNlAuth}
+use Rattle.line.specs.declared.nl.Given.{Given}
+use Rattle.line.specs.Words.{Room, numberWord, kindWord, startText}
+use Rattle.line.specs.Line.{refusedText, refusedLine, authenticateLine, nlStart, nlOem, nlUtf8, givenBy, nlText, nlAuthLine, authNames, authLengths, authEnd, authText, lineHolds, lineAnswer, lineAfter}
+use Rattle.line.proofs.Labels.{flags-word-size, start-size, mic-size}
 
 -- ---- lengths
 
@@ -49,6 +56,23 @@ module _ (unicode : Bool) (s : List ℕ) (a : Authenticate) where
       at + (length (startText (ascii "auth") (a .flags) unicode) + (length names + (length lengths + length (authEnd (a .«mic_present») (a .fields .nt .len))))) ≤ n
   unfolding authText
   auth-room at n r = omega (arith, simp length-append at (r .fits))
+
+module _ (given : Given) (s : List ℕ) (m : NlAuth) where
+  abbrev oem : List ℕ
+  oem = nlOem s (given .a) (m .strings .«nb_domain») (given .b) (m .strings .«nb_computer»)
+
+  abbrev utf8 : List ℕ
+  utf8 = nlUtf8 s (given .c) (m .strings .«dns_domain») (given .d) (m .strings .«dns_host») (given .e) (m .strings .«utf8_computer»)
+
+  pub nl-size : (t o u : ℕ) → t ≡ length (numberWord (ascii "nl type=") (m .«message_type»)) → o ≡ length oem → u ≡ length utf8 →
+      t + 15 + o + u + 1 ≡ length (nlText given s m)
+  unfolding nlText nlStart
+  nl-size t o u p q r = simp (length-append, flags-word-size) (omega arith)
+
+  pub nl-room : (at n : ℕ) → Room at (nlText given s m) n →
+      at + (length (nlStart (m .«message_type») (m .flags .bits)) + (length oem + (length utf8 + 1))) ≤ n
+  unfolding nlText
+  nl-room at n r = omega (arith, simp length-append at (r .fits))
 
 -- ---- the call of a line: check 33 by the length that was worked out before
 
@@ -83,36 +107,42 @@ module _ (line out : List ℕ) (n : ℕ) (r : Checked) (e : n ≡ length line) (
 
 -- ---- the line of a message that was read
 
--- the line of a refusal, by the number and the field that the refusal was asked for
-module _ (e : Refusal) (n f : ℕ) (p : n ≡ numberOf e) (q : f ≡ fieldOf e) (out : List ℕ) where
-  pub refusal-answer : (r : Written) → r ≡ lineAnswer (refusedText n f) out → r ≡ lineAnswer (refusedLine e) out
-  unfolding refusedLine
-  refusal-answer r h = rw (← p, ← q) h
+-- the call of one line is that of another that is the same
+module _ (x y out : List ℕ) where
+  pub same-answer : (r : Written) → r ≡ lineAnswer x out → x ≡ y → r ≡ lineAnswer y out
+  same-answer r h e = rw (← e) h
 
-  pub refusal-after : (k : List ℕ) → k ≡ lineAfter (refusedText n f) out → k ≡ lineAfter (refusedLine e) out
-  unfolding refusedLine
-  refusal-after k h = rw (← p, ← q) h
+  pub same-after : (k : List ℕ) → k ≡ lineAfter x out → x ≡ y → k ≡ lineAfter y out
+  same-after k h e = rw (← e) h
 
--- the line of a reading, by what the reading is known to be
-module _ (s : List ℕ) (d : Answer) (g : d ≡ readAuthenticate s) (out : List ℕ) where
-  module _ (a : Authenticate) (b : Bool) (h : d .reading ≡ Taken a) (p : b ≡ unicode (a .flags)) where
-    auth-taken : authText b s a ≡ authenticateLine s
-    unfolding authenticateLine
-    auth-taken = simp (← g, h, p)
+pub ruleset same-line = (same-answer, same-after)
 
-    pub auth-answer : (r : Written) → r ≡ lineAnswer (authText b s a) out → r ≡ lineAnswer (authenticateLine s) out
-    auth-answer r q = rw (← auth-taken) q
+-- a refusal's line, by the number and the field that it was asked for
+pub refusal-line : (e : Refusal) (n f : ℕ) → n ≡ numberOf e → f ≡ fieldOf e → refusedText n f ≡ refusedLine e
+unfolding refusedLine
+refusal-line e n f p q = rw (← p, ← q)
 
-    pub auth-after : (k : List ℕ) → k ≡ lineAfter (authText b s a) out → k ≡ lineAfter (authenticateLine s) out
-    auth-after k q = rw (← auth-taken) q
+-- AUTHENTICATE's line, by what the reading is known to be
+module _ (s : List ℕ) (d : Answer) (g : d ≡ readAuthenticate s) where
+  pub auth-taken : (a : Authenticate) (b : Bool) → d .reading ≡ Taken a → b ≡ unicode (a .flags) → authText b s a ≡ authenticateLine s
+  unfolding authenticateLine
+  auth-taken a b h p = simp (← g, h, p)
 
-  module _ (e : Refusal) (h : d .reading ≡ NotTaken e) where
-    auth-refused : refusedLine e ≡ authenticateLine s
-    unfolding authenticateLine
-    auth-refused = simp (← g, h)
+  pub auth-refused : (e : Refusal) → d .reading ≡ NotTaken e → refusedLine e ≡ authenticateLine s
+  unfolding authenticateLine
+  auth-refused e h = simp (← g, h)
 
-    pub auth-refused-answer : (r : Written) → r ≡ lineAnswer (refusedLine e) out → r ≡ lineAnswer (authenticateLine s) out
-    auth-refused-answer r q = rw (← auth-refused) q
+-- NL_AUTH's
+module _ (s : List ℕ) (d : NlReading) (g : d ≡ readNlAuth s) where
+  pub nl-taken : (m : NlAuth) (b : Given) → d ≡ NlTaken m → b ≡ givenBy (m .flags) → nlText b s m ≡ nlAuthLine s
+  unfolding nlAuthLine
+  nl-taken m b h p = simp (← g, h, p)
 
-    pub auth-refused-after : (k : List ℕ) → k ≡ lineAfter (refusedLine e) out → k ≡ lineAfter (authenticateLine s) out
-    auth-refused-after k q = rw (← auth-refused) q
+  pub nl-refused : (e : Refusal) → d ≡ NlRefused e → refusedLine e ≡ nlAuthLine s
+  unfolding nlAuthLine
+  nl-refused e h = simp (← g, h)
+
+pub given-is : (flags : NlAuthFlags) (a b c d e : Bool) → a ≡ nbDomain flags → b ≡ nbComputer flags →
+    c ≡ dnsDomain flags → d ≡ dnsHost flags → e ≡ utf8Computer flags →
+    record { a = a; b = b; c = c; d = d; e = e } ≡ givenBy flags
+given-is flags a b c d e pa pb pc pd pe = simp (pa, pb, pc, pd, pe)

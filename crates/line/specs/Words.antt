@@ -6,6 +6,8 @@ use lib.Dec.{eqb}
 use lib.ListN.{length}
 use Rattle.text.specs.Text.{ascii}
 use Rattle.wire.specs.declared.flags.NegotiateFlags.{NegotiateFlags}
+use Rattle.challenge.specs.declared.Timestamp.{Timestamp}
+use Rattle.challenge.specs.declared.Timestamp.the-variants.{Time, Nothing}
 use Rattle.line.specs.Digits.{hex, decimal}
 use Rattle.line.specs.Name.{nameText}
 
@@ -20,6 +22,10 @@ numberWord label n = label ++ decimal n
 -- N
 unfoldable pub nameWord : List ℕ → Bool → List ℕ → List ℕ
 nameWord label unicode name = label ++ nameText unicode name
+
+-- N of an NL_AUTH string, whose units are bytes; a clear bit's word is left out
+unfoldable pub stringWord : List ℕ → Bool → List ℕ → List ℕ
+stringWord label given string = cond given (nameWord label false string) []
 
 -- H
 unfoldable pub flagsWord : ℕ → List ℕ
@@ -40,6 +46,11 @@ micWord present = cond present (ascii " mic=1") (ascii " mic=0")
 -- K, by the NT response's length
 unfoldable pub kindWord : ℕ → List ℕ
 kindWord nt = cond (eqb nt 0) (ascii " kind=none") (cond (eqb nt 24) (ascii " kind=v1") (ascii " kind=v2"))
+
+-- T, left out where there is no timestamp
+unfoldable pub timeWord : Timestamp → List ℕ
+timeWord (Time t) = ascii " time=" ++ hex 16 t
+timeWord Nothing = []
 
 -- every line ends with it
 abbrev pub lineEnd : List ℕ

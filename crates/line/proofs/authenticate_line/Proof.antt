@@ -1,6 +1,6 @@
 -- `authenticate_line` writes the line of a message that is taken, and that of its refusal.
 use borrow.Author.Needs.{needs}
-use Rattle.line.proofs.Lines.{auth-answer, auth-after, auth-refused-answer, auth-refused-after}
+use Rattle.line.proofs.Lines.{same-line, auth-taken, auth-refused}
 use Rattle.line.proofs.authenticate_line.Statement.{statement}
 use Rattle.line.proofs.authenticate_line.Tie as tie
 
@@ -9,5 +9,5 @@ authenticate-line-spec =
     tie.close
     (tie.spec
     (λ c κs. search needs) (λ c. search needs) (λ c κs. search needs) (λ c κs. search needs) (λ c. search needs)
-    (λ c κs. search needs) (λ c. search needs) (λ c. (search auth-answer, search auth-after)) (λ c. search needs)
-    (λ c. (search auth-refused-answer, search auth-refused-after)))
+    (λ c κs. search needs) (λ c. search needs) (λ c. (search (same-line, auth-taken), search (same-line, auth-taken)))
+    (λ c. search needs) (λ c. (search (same-line, auth-refused), search (same-line, auth-refused))))

@@ -1,6 +1,6 @@
 -- `write` writes the line of a refusal.
 use borrow.Author.Needs.{needs}
-use Rattle.line.proofs.Lines.{refusal-answer, refusal-after}
+use Rattle.line.proofs.Lines.{same-line, refusal-line}
 use Rattle.line.proofs.refused.write.Statement.{statement}
 use Rattle.line.proofs.refused.write.Tie as tie
 
@@ -9,4 +9,4 @@ write-spec =
     tie.close
     (tie.spec
     (λ c κs. search needs) (λ c κs. search needs) (λ c κs. search needs) (λ c. search needs)
-    (λ c. (search refusal-answer, search refusal-after)))
+    (λ c. (search (same-line, refusal-line), search (same-line, refusal-line))))
