@@ -1,0 +1,5 @@
+pub mod Numbers
+pub mod Names
+pub mod Rooms
+pub mod Labels
+pub mod Lines
