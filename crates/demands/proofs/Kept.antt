@@ -20,7 +20,8 @@ use Rattle.place.specs.Written.{atFront, answered, outAfter, sizeHolds, roomHol
 use Rattle.nl_auth.specs.declared.flags.NlAuthFlags.{NlAuthFlags}
 use Rattle.nl_auth.specs.Flags.{known, stringsHold}
 use Rattle.nl_auth.specs.Writing.{requestBytes, responseBytes, checkZeros, checkRequest, requestAnswer, requestOut, responseAnswer, responseOut}
-use Rattle.demands.specs.Kept.{Kept, NlRequestKept, NlResponseKept}
+use Rattle.line.specs.Line.{lineHolds, lineAnswer, lineAfter}
+use Rattle.demands.specs.Kept.{Kept, NlRequestKept, NlResponseKept, LineKept}
 use Rattle.demands.proofs.Message.{held-true}
 
 -- what is written at the front of an output that has room for it
@@ -95,3 +96,9 @@ nl-response-kept out = go (leb (length responseBytes) (length out)) refl where
       Kept (after (checked t) (Refused NoRoom) (Length (length responseBytes))) out (after (checked t) out (atFront responseBytes out))
   go true p = by-verdict Clear responseBytes out (λ h. leb-true (length responseBytes) (length out) p)
   go false p = by-verdict (Not NoRoom) responseBytes out (λ h. absurd (let z : _≡_ {A = ℕ} 0 1 = cc in omega arith))
+
+pub line-kept : LineKept
+unfolding lineAnswer lineAfter
+line-kept line out =
+    by-verdict (lineHolds line out) line out
+    (λ h. leb-true (length line) (length out) (held-true _ (after-held (roomHolds (length line) (length out)) NoRoom Clear h .0)))

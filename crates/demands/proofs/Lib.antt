@@ -17,3 +17,4 @@ pub mod Alike
 pub mod Unchanged
 pub mod Ignored
 pub mod Bench
+pub mod LineIgnored

@@ -17,6 +17,7 @@ use Rattle.challenge.specs.Challenge.{readChallenge, timestampOf, serverNamesOf
 use Rattle.nl_auth.specs.declared.reading.NlAuth.{NlAuth}
 use Rattle.nl_auth.specs.declared.reading.Reading.the-variants.{Taken as NlTaken}
 use Rattle.nl_auth.specs.NlAuth.{readNlAuth}
+use Rattle.line.specs.Line.{authenticateLine, nlAuthLine}
 use Rattle.demands.specs.Message.{authenticate, challenge, DifferInIgnored}
 use Rattle.demands.specs.NlAuth.{typeOf}
 
@@ -69,3 +70,10 @@ pub record SameNlAuth (s t : List ℕ) : Type 0 where
 
 abbrev pub NlAuthIgnored : Type 0
 NlAuthIgnored = (s t : List ℕ) → NlDifferInIgnored s t → SameNlAuth s t
+
+-- and the same log line
+abbrev pub AuthenticateLineIgnored : Type 0
+AuthenticateLineIgnored = (s t : List ℕ) → DifferInIgnored authenticate s t → authenticateLine s ≡ authenticateLine t
+
+abbrev pub NlAuthLineIgnored : Type 0
+NlAuthLineIgnored = (s t : List ℕ) → NlDifferInIgnored s t → nlAuthLine s ≡ nlAuthLine t

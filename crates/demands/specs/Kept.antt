@@ -7,6 +7,7 @@ use lib.ListN.{length, drop}
 use Rattle.wire.specs.declared.refusal.Refusal.{Refusal}
 use Rattle.place.specs.declared.written.Written.{Written}
 use Rattle.place.specs.declared.written.Written.the-variants.{Length, Refused}
+use Rattle.line.specs.Line.{lineAnswer, lineAfter}
 use Rattle.nl_auth.specs.declared.flags.NlAuthFlags.{NlAuthFlags}
 use Rattle.nl_auth.specs.Flags.{known}
 use Rattle.nl_auth.specs.Writing.{requestAnswer, requestOut, responseAnswer, responseOut}
@@ -24,3 +25,7 @@ NlRequestKept =
 
 abbrev pub NlResponseKept : Type 0
 NlResponseKept = (out : List ℕ) → Kept (responseAnswer (length out)) out (responseOut out)
+
+-- every call of a line, whatever the line
+abbrev pub LineKept : Type 0
+LineKept = (line out : List ℕ) → Kept (lineAnswer line out) out (lineAfter line out)
