@@ -18,3 +18,4 @@ pub mod Unchanged
 pub mod Ignored
 pub mod Bench
 pub mod LineIgnored
+pub mod Secret

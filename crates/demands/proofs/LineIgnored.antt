@@ -1,19 +1,17 @@
 -- MaxLen and ignored bytes change no log line.
 use Prim.Native.Nat.{ℕ}
-use mathlib.Core.Path.{_≡_, refl, sym, ap, _∙_}
+use mathlib.Core.Path.{_≡_, refl, ap, _∙_}
 use mathlib.Core.List.{List}
-use Rattle.wire.specs.Flags.{unicode}
 use Rattle.authenticate.specs.declared.Authenticate.{Authenticate}
 use Rattle.authenticate.specs.declared.Answer.{Answer}
 use Rattle.authenticate.specs.declared.Reading.{Reading}
 use Rattle.authenticate.specs.declared.Reading.the-variants.{Taken, Refused}
 use Rattle.authenticate.specs.Authenticate.{readAuthenticate}
-use Rattle.nl_auth.specs.declared.reading.NlAuth.{NlAuth}
 use Rattle.nl_auth.specs.declared.reading.Reading.{Reading as NlReading}
 use Rattle.nl_auth.specs.declared.reading.Reading.the-variants.{Taken as NlTaken, Refused as NlRefused}
 use Rattle.nl_auth.specs.NlAuth.{readNlAuth}
 use Rattle.line.specs.Line.{authNames, authText, authLine, authenticateLine, nlOem, nlUtf8, nlText, nlLine, nlAuthLine}
-use Rattle.demands.specs.Ignored.{SameFields, SameAnswer, SameNlAuth, AuthenticateLineIgnored, NlAuthLineIgnored}
+use Rattle.demands.specs.Ignored.{SameFields, SameNlAuth, AuthenticateLineIgnored, NlAuthLineIgnored}
 use Rattle.demands.proofs.Ignored.{authenticate-ignored}
 use Rattle.demands.proofs.NlIgnored.{nl-auth-ignored}
 

@@ -6,5 +6,6 @@ pub mod TakenExactly
 pub mod OwnBytes
 pub mod Ignored
 pub mod Kept
+pub mod Secret
 pub mod ReadBack
 pub mod Bench

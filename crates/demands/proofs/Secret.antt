@@ -1,0 +1,101 @@
+-- Reading AUTHENTICATE and its line tell no secret.
+use Prim.Native.Nat.{ℕ, _+_, _≤_, _<_}
+use mathlib.Core.Path.{_≡_, refl, sym, ap, _∙_}
+use mathlib.Core.Logic.{⊎-elim}
+use mathlib.Core.Bool.{Bool, true, false}
+use mathlib.Core.List.{List}
+use native.Mathlib.Omega.{arith}
+use lib.ListN.{length, getD}
+use Rattle.wire.specs.declared.field.Field.{Field}
+use Rattle.wire.specs.declared.flags.NegotiateFlags.{NegotiateFlags}
+use Rattle.wire.specs.Field.{isEmpty, noField, fieldAt}
+use Rattle.wire.specs.Flags.{keyExch}
+use Rattle.wire.specs.Head.{flagsAt, signatureHolds, readHead}
+use Rattle.wire.proofs.Fields.{own-bytes}
+use Rattle.authenticate.specs.declared.Authenticate.{Authenticate}
+use Rattle.authenticate.specs.declared.Reading.{Reading}
+use Rattle.authenticate.specs.declared.Reading.the-variants.{Taken, Refused}
+use Rattle.authenticate.specs.Authenticate.{layout, fieldsAt, readingOf, readAuthenticate}
+use Rattle.line.specs.Line.{authNames, authText, authLine, authenticateLine, lineAnswer, lineAfter}
+use Rattle.demands.specs.Ignored.{SameBytes}
+use Rattle.demands.specs.Message.{authenticate, lenOf, offsetOf, Nonempty, Covers, Fails}
+use Rattle.demands.specs.Secret.{Secret, secret-field, mic, DifferInSecrets, SecretRead}
+use Rattle.demands.proofs.Alike.{same-part, same16, same32}
+use Rattle.demands.proofs.Message.{Stands}
+use Rattle.demands.proofs.OwnBytes.{taken-answer, none-fails}
+use Rattle.demands.proofs.TakenExactly.{six}
+
+module _ (s t : List ℕ) (d : DifferInSecrets s t) where
+  -- what stands in the first 64 bytes is the same
+  field-same : (at : ℕ) (c : Bool) → at + 8 ≤ 64 → fieldAt s at c ≡ fieldAt t at c
+  unfolding fieldAt
+  field-same at c l =
+      simp (same16 s t at (λ p a b. d .first-64 p (omega arith)), same32 s t (at + 4) (λ p a b. d .first-64 p (omega arith)))
+
+  flags-same : flagsAt s 60 ≡ flagsAt t 60
+  flags-same = ap (λ (x : ℕ). record { bits = x }) (same32 s t 60 (λ p a b. d .first-64 p (omega arith)))
+
+  fields-same : (w : NegotiateFlags) → fieldsAt s w ≡ fieldsAt t w
+  unfolding fieldsAt
+  fields-same w =
+      simp (field-same 12 true (omega arith), field-same 20 true (omega arith), field-same 28 true (omega arith), field-same 36 true (omega arith), field-same 44 true (omega arith), field-same 52 (keyExch w) (omega arith))
+
+  head-same : readHead layout s ≡ readHead layout t
+  unfolding readHead signatureHolds
+  head-same =
+      simp (d .length-same, byte 0 (omega arith), byte 1 (omega arith), byte 2 (omega arith), byte 3 (omega arith), byte 4 (omega arith), byte 5 (omega arith), byte 6 (omega arith), byte 7 (omega arith), byte 8 (omega arith), byte 9 (omega arith), byte 10 (omega arith), byte 11 (omega arith), byte 60 (omega arith), byte 61 (omega arith), byte 62 (omega arith), byte 63 (omega arith))
+    where
+      byte : (p : ℕ) → p < 64 → getD s p 0 ≡ getD t p 0
+      byte p l = d .first-64 p l
+
+  reading-same : readAuthenticate s .reading ≡ readAuthenticate t .reading
+  unfolding readAuthenticate readingOf
+  reading-same = simp (head-same, d .length-same, fields-same)
+
+  -- a name of a taken message has no secret byte
+  name-same : (i : ℕ) (f : Field) → Stands authenticate s i f → ((n j : ℕ) → Fails authenticate s n j → ⊥) → authenticate .Name i → SameBytes s t f
+  name-same i f w none name = go (isEmpty f) refl where
+    plain : (p : ℕ) → Nonempty authenticate s i → Covers authenticate s i p → Secret s p → ⊥
+    plain p ne c (secret-field j l q nj cj) = none 9 i (ne, name, (j, p, nj, q, c, cj))
+    plain p ne c (mic l m a b) = omega (arith, m .fields i ne, c .0)
+
+    fit : (n : ℕ) → isEmpty f ≡ false → n ≡ length s → f .offset + f .len ≤ n
+    fit n p e = inside (λ l. none 6 i (w .full p, l)) where
+      inside : (length s < offsetOf authenticate s i + lenOf authenticate s i → ⊥) → f .offset + f .len ≤ n
+      inside h = omega (arith, h, w .offset p, w .len p)
+
+    go : (e : Bool) → isEmpty f ≡ e → SameBytes s t f
+    go true p = rw (w .none p) (own-bytes s noField (omega arith) ∙ sym (own-bytes t noField (omega arith)))
+    go false p =
+        own-bytes s f (fit (length s) p refl)
+        ∙ same-part s t (d .length-same) (f .offset) (f .len)
+        (λ q l r. ⊎-elim (λ e. e) (λ x. absurd (plain q (w .full p) (omega (arith, w .offset p, w .len p), omega (arith, w .offset p, w .len p)) x)) (d .elsewhere q))
+        ∙ sym (own-bytes t f (fit (length t) p (sym (d .length-same))))
+
+  names-same : (a : Authenticate) → readAuthenticate s .reading ≡ Taken a →
+      SameBytes s t (a .fields .domain) × SameBytes s t (a .fields .user) × SameBytes s t (a .fields .workstation)
+  names-same a h =
+      rw (taken-answer s a h)
+      (let x = six s (λ i f. authenticate .Name i → SameBytes s t f) (λ i f w. name-same i f w (none-fails s a h)) in
+      (x .2 (omega arith, omega arith), x .3 (omega arith, omega arith), x .4 (omega arith, omega arith)))
+
+  line-of : (r : Reading) → readAuthenticate s .reading ≡ r → authLine s r ≡ authLine t r
+  unfolding authText authNames
+  line-of (Taken a) e = let n = names-same a e in simp (n .0, n .1, n .2)
+  line-of (Refused x) e = refl
+
+  line-same : authenticateLine s ≡ authenticateLine t
+  unfolding authenticateLine
+  line-same = line-of (readAuthenticate s .reading) refl ∙ ap (λ (r : Reading). authLine t r) reading-same
+
+pub secret-read : SecretRead
+secret-read s t d =
+    record {
+      reading = reading-same s t d;
+      domain = λ a h. names-same s t d a h .0;
+      user = λ a h. names-same s t d a h .1;
+      workstation = λ a h. names-same s t d a h .2;
+      line = line-same s t d;
+      line-answer = λ out. ap (λ (l : List ℕ). lineAnswer l out) (line-same s t d);
+      line-out = λ out. ap (λ (l : List ℕ). lineAfter l out) (line-same s t d);
+    }

@@ -1,0 +1,41 @@
+-- Demand 3: "No log tells a secret. Take any two messages of one length, read as AUTHENTICATE and accepted or refused, that
+-- are alike in their first 64 bytes. If after that they differ only inside the LM response, the NT response, the session
+-- key where it counts, or a MIC that is there, reading gives both the same answer and both get the same log line."
+use Prim.Native.Nat.{ℕ, _≤_, _<_}
+use mathlib.Core.Path.{_≡_}
+use mathlib.Core.Logic.{_⊎_}
+use mathlib.Core.List.{List}
+use lib.ListN.{length, getD}
+use Rattle.authenticate.specs.declared.Authenticate.{Authenticate}
+use Rattle.authenticate.specs.declared.Reading.the-variants.{Taken}
+use Rattle.authenticate.specs.Authenticate.{readAuthenticate}
+use Rattle.line.specs.Line.{authenticateLine, lineAnswer, lineAfter}
+use Rattle.demands.specs.Ignored.{SameBytes}
+use Rattle.demands.specs.Message.{authenticate, Nonempty, Covers, MicThere}
+
+-- the byte at p is a secret's or a MIC's: "a field's bytes go by its head, in a refused message too: those from its offset
+-- on, Len of them, as far as the message reaches, and none if it doesn't count. A MIC that is there is bytes 72 to 87, as
+-- far as the message reaches. A message under 64 bytes has neither."
+pub data Secret (s : List ℕ) (p : ℕ) : Type 0 where
+  secret-field : (i : ℕ) → 64 ≤ length s → authenticate .Secret i → Nonempty authenticate s i → Covers authenticate s i p → Secret s p
+  mic : 64 ≤ length s → MicThere authenticate s → 72 ≤ p → p < 88 → Secret s p
+
+-- two messages of one length, alike in their first 64 bytes and at every other place that is not secret
+pub record DifferInSecrets (s t : List ℕ) : Type 0 where
+  pub length-same : length s ≡ length t
+  pub first-64 : (p : ℕ) → p < 64 → getD s p 0 ≡ getD t p 0
+  pub elsewhere : (p : ℕ) → (getD s p 0 ≡ getD t p 0) ⊎ Secret s p
+
+-- the same answer but for the secrets' and the MIC's own bytes, the same line, and the same answer of the line's call at
+-- every output
+pub record SamePublic (s t : List ℕ) : Type 0 where
+  pub reading : readAuthenticate s .reading ≡ readAuthenticate t .reading
+  pub domain : (a : Authenticate) → readAuthenticate s .reading ≡ Taken a → SameBytes s t (a .fields .domain)
+  pub user : (a : Authenticate) → readAuthenticate s .reading ≡ Taken a → SameBytes s t (a .fields .user)
+  pub workstation : (a : Authenticate) → readAuthenticate s .reading ≡ Taken a → SameBytes s t (a .fields .workstation)
+  pub line : authenticateLine s ≡ authenticateLine t
+  pub line-answer : (out : List ℕ) → lineAnswer (authenticateLine s) out ≡ lineAnswer (authenticateLine t) out
+  pub line-out : (out : List ℕ) → lineAfter (authenticateLine s) out ≡ lineAfter (authenticateLine t) out
+
+abbrev pub SecretRead : Type 0
+SecretRead = (s t : List ℕ) → DifferInSecrets s t → SamePublic s t
