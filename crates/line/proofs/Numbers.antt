@@ -1,5 +1,5 @@
 -- Laws of the digits of a number.
-use Prim.Native.Nat.{ℕ, zero, suc, _+_, _-_, _/_, _%_, _≤_, _<_}
+use Prim.Native.Nat.{ℕ, zero, suc, _+_, _-_, _/_, _%_, _^_, _≤_, _<_}
 use mathlib.Core.Path.{_≡_, refl, sym, ap, _∙_}
 use mathlib.Core.Bool.{Bool, true, false, _&&_, cond}
 use mathlib.Core.List.{List, [], _∷_, _++_, append-assoc, append-nil}
@@ -9,7 +9,7 @@ use native.Mathlib.Omega.{arith}
 use lib.Dec.{ltb, eqb}
 use lib.ListN.{length, set, length-append}
 use lib.Seq.{sets, length-sets, set-comm}
-use borrow.Author.Tests.{eqb-true, eqb-false, lt-ltb, le-ltb}
+use borrow.Author.Tests.{eqb-true, eqb-false, ltb-true, ltb-false, lt-ltb, le-ltb}
 use Rattle.wire.proofs.Stands.{and-left, and-right}
 use Rattle.place.specs.Place.{Wrote}
 use Rattle.line.specs.Digits.{hexDigit, digits, hex, sizeStep, sizeWithin, decimalSize, decimal}
@@ -125,6 +125,13 @@ more-digits n h =
     steps n (suc n) n (omega arith) (omega arith)
     ∙ simp (le-ltb n 10 h) (ap suc (steps n (n / 10) (n / 10) (omega arith) (omega arith)))
 
+few-digits : (k n : ℕ) → n < 10 ^ suc k → decimalSize n ≤ suc k
+few-digits zero n h = omega (arith, one-digit n (omega arith))
+few-digits (suc k) n h = go (ltb n 10) refl (λ g. few-digits k (n / 10) g) where
+  go : (t : Bool) → ltb n 10 ≡ t → (n / 10 < 10 ^ suc k → decimalSize (n / 10) ≤ suc k) → decimalSize n ≤ suc (suc k)
+  go true e next = omega (arith, one-digit n (ltb-true n 10 e))
+  go false e next = omega (arith, more-digits n (ltb-false n 10 e), next (omega arith))
+
 -- `size` is one more than the digits of n that were passed over; those of `left` remain
 pub record Sized (n size left : ℕ) : Type 0 where
   pub digits : size + decimalSize left ≡ decimalSize n + 1
@@ -143,6 +150,9 @@ length-decimal n = length-digits 10 (decimalSize n) n
 
 pub all-counted : (n size left : ℕ) → Sized n size left → left < 10 → size ≡ length (decimal n)
 all-counted n size left s h = omega (arith, s .digits, one-digit left h, length-decimal n)
+
+pub decimal-small : (n size : ℕ) → size ≡ length (decimal n) → n < 2 ^ 64 → size ≤ 20
+decimal-small n size e h = omega (arith, length-decimal n, few-digits 19 n (omega arith))
 
 pub decimal-start : (l : List ℕ) (n size : ℕ) → size ≡ length (decimal n) → length (decimal n) ≤ length l → Lowest 10 l l (decimal n) size n
 unfolding decimal

@@ -126,13 +126,14 @@ nlAuthLine s = nlLine s (readNlAuth s)
 
 -- ---- chal flags=H set=S target=N pairs=D time=T
 
+unfoldable pub chalEnd : ℕ → Timestamp → List ℕ
+chalEnd pairs time = numberWord (ascii " pairs=") pairs ++ (timeWord time ++ lineEnd)
+
 unfoldable pub chalText : Bool → List ℕ → Challenge → ℕ → Timestamp → List ℕ
 chalText unicode s c pairs time =
     startText (ascii "chal") (c .flags) unicode ++ (
-    nameWord (ascii " target=") unicode (fieldBytes s (c .fields .«target_name»)) ++ (
-    numberWord (ascii " pairs=") pairs ++ (
-    timeWord time ++
-    lineEnd)))
+    nameWord (ascii " target=") unicode (fieldBytes s (c .fields .«target_name»)) ++
+    chalEnd pairs time)
 
 -- the line of a message read as CHALLENGE
 abbrev pub chalLine : List ℕ → ChalReading → List ℕ
@@ -164,3 +165,7 @@ lineAnswer line out = answered (lineHolds line out) line
 -- the output afterwards: the line followed by the rest of it, or as it was
 unfoldable pub lineAfter : List ℕ → List ℕ → List ℕ
 lineAfter line out = outAfter (lineHolds line out) line out
+
+-- what a program prints for a line: the line, or that of 33 where the line has no room
+unfoldable pub shownLine : List ℕ → List ℕ → List ℕ
+shownLine line out = after (roomHolds (length line) (length out)) (refusedLine NoRoom) line

@@ -47,9 +47,13 @@ micWord present = cond present (ascii " mic=1") (ascii " mic=0")
 unfoldable pub kindWord : ℕ → List ℕ
 kindWord nt = cond (eqb nt 0) (ascii " kind=none") (cond (eqb nt 24) (ascii " kind=v1") (ascii " kind=v2"))
 
--- T, left out where there is no timestamp
+-- T
+unfoldable pub timeText : ℕ → List ℕ
+timeText t = ascii " time=" ++ hex 16 t
+
+-- with no timestamp the word is left out
 unfoldable pub timeWord : Timestamp → List ℕ
-timeWord (Time t) = ascii " time=" ++ hex 16 t
+timeWord (Time t) = timeText t
 timeWord Nothing = []
 
 -- every line ends with it

@@ -27,7 +27,7 @@ fn names_size(msg: &[u8], domain: Field, user: Field, workstation: Field, unicod
 }
 
 fn lengths_size(lm: u16, nt: u16, key: u16) -> usize
-    ensures { λ r. ⌜ (r ≡ length (authLengths lm nt key)) × (r ≤ 200000) ⌝ }
+    ensures { λ r. ⌜ (r ≡ length (authLengths lm nt key)) × (r ≤ 108) ⌝ }
 {
     number_word_size(b" lm=", lm as usize)
         + (number_word_size(b" nt=", nt as usize) + number_word_size(b" key=", key as usize))

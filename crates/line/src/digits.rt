@@ -35,7 +35,7 @@ pub(crate) fn put_hex(out: &mut [u8], n: u64, k: usize) -> Place
 
 // How many digits a decimal has.
 pub(crate) fn decimal_size(n: usize) -> usize
-    ensures { λ r. ⌜ (r ≡ length (decimal n)) × (r ≤ n + 1) ⌝ }
+    ensures { λ r. ⌜ (r ≡ length (decimal n)) × (r ≤ 20) ⌝ }
 {
     let mut size: usize = 1;
     let mut left = n;

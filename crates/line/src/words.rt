@@ -1,6 +1,6 @@
 // The words of a log line, each with its label.
 ghost use mathlib.Core.Path.{_≡_};
-ghost use Prim.Native.Nat.{_+_, _*_, _≤_, _<_};
+ghost use Prim.Native.Nat.{_+_, _*_, _≤_};
 ghost use lib.ListN.{length};
 ghost use Rattle.wire.specs.Field.{fieldBytes};
 ghost use Rattle.place.specs.Place.{Wrote};
@@ -15,8 +15,8 @@ use wire::field::Field;
 use wire::flags::NegotiateFlags;
 
 pub(crate) fn number_word_size(label: &[u8], n: usize) -> usize
-    requires { ⌜ (length (now label) ≤ 16) × (n < 4294967296) ⌝ }
-    ensures { λ r. ⌜ (r ≡ length (numberWord (now (label .entry)) n)) × (r ≤ 17 + n) ⌝ }
+    requires { ⌜ length (now label) ≤ 16 ⌝ }
+    ensures { λ r. ⌜ (r ≡ length (numberWord (now (label .entry)) n)) × (r ≤ 36) ⌝ }
 {
     label.len() + decimal_size(n)
 }

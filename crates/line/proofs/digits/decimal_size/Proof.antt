@@ -1,6 +1,6 @@
 -- `decimal_size` counts the digits of a decimal.
 use borrow.Author.Needs.{needs}
-use Rattle.line.proofs.Numbers.{Sized, none-counted, one-counted, all-counted}
+use Rattle.line.proofs.Numbers.{Sized, none-counted, one-counted, all-counted, decimal-small}
 use Rattle.line.proofs.digits.decimal_size.Statement.{statement}
 use Rattle.line.proofs.digits.decimal_size.Tie as tie
 
@@ -15,4 +15,4 @@ decimal-size-spec =
     tie.close
     (tie.spec
     Inv-loop μ-loop (λ c. none-counted _) (λ c. search needs) (λ c. search needs) (λ c. search one-counted)
-    (λ c. (search all-counted, search needs)))
+    (λ c. (search all-counted, search (decimal-small, all-counted))))
