@@ -1,6 +1,11 @@
 -- All bench cases hold, by computation.
 use mathlib.Core.Path.{refl}
 use Rattle.wire.specs.Field.{fieldAt, fieldBytes}
+use Rattle.challenge.specs.Challenge.{readChallenge, readingOf as challengeReadingOf, fieldsOf}
+use Rattle.line.specs.Digits.{hexDigit, hex, decimalSize, decimal}
+use Rattle.line.specs.Name.{escape, unitText, textOf, nameText}
+use Rattle.line.specs.Words.{numberWord, nameWord, stringWord, flagsWord, setWord, startText, micWord, kindWord, timeText, timeWord}
+use Rattle.line.specs.Line.{refusedText, refusedLine, authNames, authLengths, authEnd, authText, authenticateLine, nlStart, nlOem, nlUtf8, nlText, nlAuthLine, chalEnd, chalText, challengeLine, ntlmLine, lineAnswer, lineAfter, shownLine}
 use Rattle.nl_auth.specs.NlAuth.{readNlAuth, readRequest, readUtf8, readResponse, stringUnder, stringAt}
 use Rattle.wire.specs.Head.{signatureHolds, readHead}
 use Rattle.av_pairs.specs.AvPairs.{countPairs, checkPairs, pairsOf, stepAt, pairOf, left}
@@ -8,5 +13,5 @@ use Rattle.authenticate.specs.Authenticate.{fieldsAt, checkEnds, checkBegins, c
 use Rattle.demands.specs.Bench.{BenchHolds}
 
 pub bench-holds : BenchHolds
-unfolding readAuthenticate readingOf readHead signatureHolds fieldsAt fieldAt checkFields checkEnds checkBegins checkNames checkShared micPresent countPairs checkPairs pairsOf stepAt pairOf left readNlAuth readRequest readUtf8 readResponse stringUnder stringAt fieldBytes
+unfolding readAuthenticate readingOf readHead signatureHolds fieldsAt fieldAt checkFields checkEnds checkBegins checkNames checkShared micPresent countPairs checkPairs pairsOf stepAt pairOf left readNlAuth readRequest readUtf8 readResponse stringUnder stringAt fieldBytes readChallenge challengeReadingOf fieldsOf hexDigit hex decimalSize decimal escape unitText textOf nameText numberWord nameWord stringWord flagsWord setWord startText micWord kindWord timeText timeWord refusedText refusedLine authNames authLengths authEnd authText authenticateLine nlStart nlOem nlUtf8 nlText nlAuthLine chalEnd chalText challengeLine ntlmLine lineAnswer lineAfter shownLine
 bench-holds = refl

@@ -85,7 +85,7 @@ module _ (s : List ℕ) where
   at-field k p ne l v (unused u) = omega (arith, u .1)
   at-field k p ne l v (uncovered a c m) = c k ne v
 
-  seen : Seen challenge s
+  pub seen : Seen challenge s
   seen = record { early = early; at-flags = at-flags; at-len = at-len; at-offset = at-offset; at-field = at-field }
 
 module _ (a b : List ℕ) (d : DifferInIgnored challenge a b) where

@@ -1,18 +1,28 @@
 -- MaxLen and ignored bytes change no log line.
 use Prim.Native.Nat.{ℕ}
 use mathlib.Core.Path.{_≡_, refl, ap, _∙_}
+use mathlib.Core.Bool.{Bool, true, false, cond}
 use mathlib.Core.List.{List}
+use native.Mathlib.Omega.{arith}
 use Rattle.authenticate.specs.declared.Authenticate.{Authenticate}
 use Rattle.authenticate.specs.declared.Answer.{Answer}
 use Rattle.authenticate.specs.declared.Reading.{Reading}
 use Rattle.authenticate.specs.declared.Reading.the-variants.{Taken, Refused}
 use Rattle.authenticate.specs.Authenticate.{readAuthenticate}
+use Rattle.challenge.specs.declared.Answer.{Answer as ChallengeAnswer}
+use Rattle.challenge.specs.declared.Reading.{Reading as ChallengeReading}
+use Rattle.challenge.specs.declared.Reading.the-variants.{Taken as ChallengeTaken, Refused as ChallengeRefused}
+use Rattle.challenge.specs.Challenge.{readChallenge}
 use Rattle.nl_auth.specs.declared.reading.Reading.{Reading as NlReading}
 use Rattle.nl_auth.specs.declared.reading.Reading.the-variants.{Taken as NlTaken, Refused as NlRefused}
 use Rattle.nl_auth.specs.NlAuth.{readNlAuth}
-use Rattle.line.specs.Line.{authNames, authText, authLine, authenticateLine, nlOem, nlUtf8, nlText, nlLine, nlAuthLine}
-use Rattle.demands.specs.Ignored.{SameFields, SameNlAuth, AuthenticateLineIgnored, NlAuthLineIgnored}
-use Rattle.demands.proofs.Ignored.{authenticate-ignored}
+use Rattle.line.specs.Line.{authNames, authText, authLine, authenticateLine, chalText, chalLine, challengeLine, isChallenge, ntlmLine, nlOem, nlUtf8, nlText, nlLine, nlAuthLine}
+use Rattle.demands.specs.Ignored.{SameFields, SameChallenge, SameNlAuth, AuthenticateLineIgnored, ChallengeLineIgnored, NtlmLineIgnored, NlAuthLineIgnored}
+use Rattle.demands.specs.Message.{Kind, authenticate, challenge, DifferInIgnored}
+use Rattle.demands.proofs.Alike.{same32}
+use Rattle.demands.proofs.ChallengeIgnored.{challenge-ignored, seen as challenge-seen}
+use Rattle.demands.proofs.Ignored.{authenticate-ignored, seen as authenticate-seen}
+use Rattle.demands.proofs.Unchanged.{Seen, looked}
 use Rattle.demands.proofs.NlIgnored.{nl-auth-ignored}
 
 -- an AUTHENTICATE line goes by the reading and the names' bytes
@@ -39,3 +49,27 @@ unfolding nlAuthLine
 nl-auth-line-ignored s t d =
     let w = nl-auth-ignored s t d in
     nl-line-same s t (readNlAuth s) w refl ∙ ap (λ (r : NlReading). nlLine t r) (w .answer)
+
+challenge-line-same : (s t : List ℕ) (r : ChallengeReading) → SameChallenge s t → readChallenge s .reading ≡ r → chalLine s r ≡ chalLine t r
+unfolding chalText
+challenge-line-same s t (ChallengeTaken c) w e = simp (w .target-name c e, w .target-info c e)
+challenge-line-same s t (ChallengeRefused x) w e = refl
+
+pub challenge-line-ignored : ChallengeLineIgnored
+unfolding challengeLine
+challenge-line-ignored s t d =
+    let w = challenge-ignored s t d in
+    challenge-line-same s t (readChallenge s .reading) w refl ∙ ap (λ (x : ChallengeAnswer). chalLine t (x .reading)) (w .answer)
+
+-- the type, by which the NTLM program chooses, is no ignored byte of either kind
+kind-same : (k : Kind) (s t : List ℕ) → Seen k s → DifferInIgnored k s t → isChallenge s ≡ isChallenge t
+kind-same k s t seen d = simp (d .length-same, same32 s t 8 (λ p l r. looked k s t seen d p (seen .early p (omega arith))))
+
+pub ntlm-line-ignored : NtlmLineIgnored
+unfolding ntlmLine
+ntlm-line-ignored s t d = go (isChallenge s) refl where
+  go : (b : Bool) → isChallenge s ≡ b → cond (isChallenge s) (challengeLine s) (authenticateLine s) ≡ cond (isChallenge t) (challengeLine t) (authenticateLine t)
+  go true e =
+      rw (← (kind-same challenge s t (challenge-seen s) (d .as-challenge e)), e) (challenge-line-ignored s t (d .as-challenge e))
+  go false e =
+      rw (← (kind-same authenticate s t (authenticate-seen s) (d .as-authenticate e)), e) (authenticate-line-ignored s t (d .as-authenticate e))

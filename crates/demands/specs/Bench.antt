@@ -1,8 +1,9 @@
 -- Document 01, "Bench cases": one list of the marked ones, over the definitions, with one claim that all hold.
-use Prim.Native.Nat.{ℕ}
+use Prim.Native.Nat.{ℕ, _+_}
+use Prim.Native.String.{String}
 use mathlib.Core.Path.{_≡_}
 use mathlib.Core.Bool.{Bool, true, false, _&&_, not}
-use mathlib.Core.List.{List, [], _∷_}
+use mathlib.Core.List.{List, [], _∷_, _++_}
 use lib.Dec.{eqb}
 use lib.ListN.{length, take}
 use lib.Seq.{sets}
@@ -11,8 +12,11 @@ use Rattle.wire.specs.Field.{fieldAt, fieldBytes}
 use Rattle.wire.specs.Head.{signatureHolds, readHead}
 use Rattle.wire.specs.Number.{standsAt}
 use Rattle.wire.specs.Refusal.{numberOf, fieldOf}
-use Rattle.nl_auth.specs.declared.reading.Reading.{Reading as NlReading}
-use Rattle.nl_auth.specs.declared.reading.Reading.the-variants.{Taken as NlTaken, Refused as NlRefused}
+use Rattle.challenge.specs.Challenge.{readChallenge, readingOf as challengeReadingOf, fieldsOf}
+use Rattle.line.specs.Digits.{hexDigit, hex, decimalSize, decimal}
+use Rattle.line.specs.Name.{escape, unitText, textOf, nameText}
+use Rattle.line.specs.Words.{numberWord, nameWord, stringWord, flagsWord, setWord, startText, micWord, kindWord, timeText, timeWord}
+use Rattle.line.specs.Line.{refusedText, refusedLine, authNames, authLengths, authEnd, authText, authenticateLine, nlStart, nlOem, nlUtf8, nlText, nlAuthLine, chalEnd, chalText, challengeLine, ntlmLine, lineAnswer, lineAfter, shownLine}
 use Rattle.nl_auth.specs.NlAuth.{readNlAuth, readRequest, readUtf8, readResponse, stringUnder, stringAt}
 use Rattle.av_pairs.specs.declared.Count.{Count}
 use Rattle.av_pairs.specs.declared.Count.the-variants.{Pairs, Refused as Uncounted}
@@ -32,8 +36,9 @@ pub data Case : Type 0 where
   -- these bytes as a TargetInfo list: so many pairs, or refused with a number
   pairs : List ℕ → ℕ → Case
   pairsRefused : List ℕ → ℕ → Case
-  -- these bytes, read as NL_AUTH: a request with these flags and this string A
-  request : List ℕ → ℕ → List ℕ → Case
+  -- these bytes to the NTLM program, and to the NL_AUTH program: the whole line
+  ntlm : List ℕ → String → Case
+  nl : List ℕ → String → Case
 
 abbrev same : Bool → Bool → Bool
 same true b = b
@@ -54,22 +59,20 @@ abbrev refuses : Count → ℕ → Bool
 refuses (Pairs m) n = false
 refuses (Uncounted e) n = eqb (numberOf e) n && eqb (fieldOf e) 2
 
-abbrev requests : List ℕ → NlReading → ℕ → List ℕ → Bool
-unfolding fieldBytes
-requests s (NlTaken m) flags a =
-    (eqb (m .«message_type») 0 && eqb (m .flags .bits) flags)
-    && (eqb (length (fieldBytes s (m .strings .«nb_domain»))) (length a) && standsAt (fieldBytes s (m .strings .«nb_domain»)) 0 a)
-requests s (NlRefused e) flags a = false
+-- the line is this text and 0A
+abbrev prints : List ℕ → String → Bool
+prints line text = eqb (length line) (length (ascii text) + 1) && standsAt line 0 (ascii text ++ (0x0A ∷ []))
 
 abbrev pub holds : Case → Bool
-unfolding readAuthenticate readingOf readHead signatureHolds fieldsAt fieldAt checkFields checkEnds checkBegins checkNames checkShared micPresent countPairs checkPairs pairsOf stepAt pairOf left readNlAuth readRequest readUtf8 readResponse stringUnder stringAt fieldBytes
+unfolding readAuthenticate readingOf readHead signatureHolds fieldsAt fieldAt checkFields checkEnds checkBegins checkNames checkShared micPresent countPairs checkPairs pairsOf stepAt pairOf left readNlAuth readRequest readUtf8 readResponse stringUnder stringAt fieldBytes readChallenge challengeReadingOf fieldsOf hexDigit hex decimalSize decimal escape unitText textOf nameText numberWord nameWord stringWord flagsWord setWord startText micWord kindWord timeText timeWord refusedText refusedLine authNames authLengths authEnd authText authenticateLine nlStart nlOem nlUtf8 nlText nlAuthLine chalEnd chalText challengeLine ntlmLine lineAnswer lineAfter shownLine
 holds (authenticate s expected) = gives (readAuthenticate s .reading) expected
 holds (pairs s n) = counts (countPairs s) n
 holds (pairsRefused s n) = refuses (countPairs s) n
-holds (request s flags a) = requests s (readNlAuth s) flags a
+holds (ntlm s text) = prints (ntlmLine s) text
+holds (nl s text) = prints (nlAuthLine s) text
 
 abbrev pub allHold : List Case → Bool
-unfolding readAuthenticate readingOf readHead signatureHolds fieldsAt fieldAt checkFields checkEnds checkBegins checkNames checkShared micPresent countPairs checkPairs pairsOf stepAt pairOf left readNlAuth readRequest readUtf8 readResponse stringUnder stringAt fieldBytes
+unfolding readAuthenticate readingOf readHead signatureHolds fieldsAt fieldAt checkFields checkEnds checkBegins checkNames checkShared micPresent countPairs checkPairs pairsOf stepAt pairOf left readNlAuth readRequest readUtf8 readResponse stringUnder stringAt fieldBytes readChallenge challengeReadingOf fieldsOf hexDigit hex decimalSize decimal escape unitText textOf nameText numberWord nameWord stringWord flagsWord setWord startText micWord kindWord timeText timeWord refusedText refusedLine authNames authLengths authEnd authText authenticateLine nlStart nlOem nlUtf8 nlText nlAuthLine chalEnd chalText challengeLine ntlmLine lineAnswer lineAfter shownLine
 allHold [] = true
 allHold (c ∷ cs) = holds c && allHold cs
 
@@ -101,8 +104,8 @@ p12 flags =
 
 abbrev pub cases : List Case
 cases =
-    -- P1's reading
-    authenticate p1 (taken true) ∷
+    -- P1: the whole line
+    ntlm p1 "auth flags=00000201 set=U domain= user=box7 work= lm=0 nt=24 key=0 mic=1 kind=v1" ∷
     -- P2: user offset 113, and 112
     authenticate (userOffset 113) (refused 6 4) ∷
     authenticate (userOffset 112) (refused 9 4) ∷
@@ -126,9 +129,9 @@ cases =
     pairsRefused (0x01 ∷ 0x00 ∷ 0x06 ∷ 0x00 ∷ 0x41 ∷ 0x00 ∷ []) 10 ∷
     pairsRefused (0x00 ∷ 0x00 ∷ 0x00 ∷ 0x00 ∷ 0x00 ∷ []) 12 ∷
     pairsRefused (0x06 ∷ 0x00 ∷ 0x02 ∷ 0x00 ∷ 0x00 ∷ 0x00 ∷ 0x00 ∷ 0x00 ∷ 0x00 ∷ 0x00 ∷ []) 13 ∷
-    -- P12's reading, and the same with flags 0x21
-    request (p12 0x01) 0x01 (ascii "LINE") ∷
-    request (p12 0x21) 0x01 (ascii "LINE") ∷
+    -- P12: the whole line, and the same with flags 0x21
+    nl (p12 0x01) "nl type=0 flags=00000001 a=LINE" ∷
+    nl (p12 0x21) "nl type=0 flags=00000001 a=LINE" ∷
     []
 
 abbrev pub BenchHolds : Type 0

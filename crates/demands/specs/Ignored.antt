@@ -1,6 +1,7 @@
 -- Demand 2: "MaxLen, and ignored bytes that no counted field covers, change nothing."
 use Prim.Native.Nat.{ℕ, _%_, _≤_, _<_}
 use mathlib.Core.Path.{_≡_}
+use mathlib.Core.Bool.{true, false}
 use mathlib.Core.Logic.{_⊎_}
 use mathlib.Core.List.{List}
 use lib.ListN.{length, getD}
@@ -17,7 +18,7 @@ use Rattle.challenge.specs.Challenge.{readChallenge, timestampOf, serverNamesOf
 use Rattle.nl_auth.specs.declared.reading.NlAuth.{NlAuth}
 use Rattle.nl_auth.specs.declared.reading.Reading.the-variants.{Taken as NlTaken}
 use Rattle.nl_auth.specs.NlAuth.{readNlAuth}
-use Rattle.line.specs.Line.{authenticateLine, nlAuthLine}
+use Rattle.line.specs.Line.{authenticateLine, challengeLine, isChallenge, ntlmLine, nlAuthLine}
 use Rattle.demands.specs.Message.{authenticate, challenge, DifferInIgnored}
 use Rattle.demands.specs.NlAuth.{typeOf}
 
@@ -74,6 +75,17 @@ NlAuthIgnored = (s t : List ℕ) → NlDifferInIgnored s t → SameNlAuth s t
 -- and the same log line
 abbrev pub AuthenticateLineIgnored : Type 0
 AuthenticateLineIgnored = (s t : List ℕ) → DifferInIgnored authenticate s t → authenticateLine s ≡ authenticateLine t
+
+abbrev pub ChallengeLineIgnored : Type 0
+ChallengeLineIgnored = (s t : List ℕ) → DifferInIgnored challenge s t → challengeLine s ≡ challengeLine t
+
+-- the NTLM program's line, by the kind that it reads the message as
+pub record DifferAsRead (s t : List ℕ) : Type 0 where
+  pub as-challenge : isChallenge s ≡ true → DifferInIgnored challenge s t
+  pub as-authenticate : isChallenge s ≡ false → DifferInIgnored authenticate s t
+
+abbrev pub NtlmLineIgnored : Type 0
+NtlmLineIgnored = (s t : List ℕ) → DifferAsRead s t → ntlmLine s ≡ ntlmLine t
 
 abbrev pub NlAuthLineIgnored : Type 0
 NlAuthLineIgnored = (s t : List ℕ) → NlDifferInIgnored s t → nlAuthLine s ≡ nlAuthLine t
