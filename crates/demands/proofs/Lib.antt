@@ -19,3 +19,4 @@ pub mod Ignored
 pub mod Bench
 pub mod LineIgnored
 pub mod Secret
+pub mod Walk

@@ -1,10 +1,13 @@
 -- Reading AUTHENTICATE and its line tell no secret.
 use Prim.Native.Nat.{ℕ, _+_, _≤_, _<_}
-use mathlib.Core.Path.{_≡_, refl, sym, ap, _∙_}
-use mathlib.Core.Logic.{⊎-elim}
+use mathlib.Core.Path.{_≡_, refl, sym, ap, _∙_, subst}
+use mathlib.Core.Logic.{_⊎_, inl, inr, ⊎-elim}
 use mathlib.Core.Bool.{Bool, true, false}
 use mathlib.Core.List.{List}
 use native.Mathlib.Omega.{arith}
+use lib.Dec.{eqb}
+use lib.Seq.{getD-set-other}
+use borrow.Author.Tests.{eqb-true, eqb-false}
 use lib.ListN.{length, getD}
 use Rattle.wire.specs.declared.field.Field.{Field}
 use Rattle.wire.specs.declared.flags.NegotiateFlags.{NegotiateFlags}
@@ -17,9 +20,10 @@ use Rattle.authenticate.specs.declared.Reading.{Reading}
 use Rattle.authenticate.specs.declared.Reading.the-variants.{Taken, Refused}
 use Rattle.authenticate.specs.Authenticate.{layout, fieldsAt, readingOf, readAuthenticate}
 use Rattle.line.specs.Line.{authNames, authText, authLine, authenticateLine, lineAnswer, lineAfter}
+use Rattle.demands.specs.Bench.{p1}
 use Rattle.demands.specs.Ignored.{SameBytes}
 use Rattle.demands.specs.Message.{authenticate, lenOf, offsetOf, Nonempty, Covers, Fails}
-use Rattle.demands.specs.Secret.{Secret, secret-field, mic, DifferInSecrets, SecretRead}
+use Rattle.demands.specs.Secret.{Secret, secret-field, mic, DifferInSecrets, SamePublic, SecretRead, p1Other, SecretExample}
 use Rattle.demands.proofs.Alike.{same-part, same16, same32}
 use Rattle.demands.proofs.Message.{Stands}
 use Rattle.demands.proofs.OwnBytes.{taken-answer, none-fails}
@@ -99,3 +103,27 @@ secret-read s t d =
       line-answer = λ out. ap (λ (l : List ℕ). lineAnswer l out) (line-same s t d);
       line-out = λ out. ap (λ (l : List ℕ). lineAfter l out) (line-same s t d);
     }
+
+-- P1's byte 96 is one of its NT response
+nt-byte : Secret p1 96
+nt-byte =
+    secret-field 2 (omega arith) (inr (inl refl))
+    (record { first = omega arith; last = omega arith; counts = λ e. absurd (omega arith); some = omega arith })
+    (omega arith, omega arith)
+
+pub secret-example : SecretExample
+secret-example = (
+  record {
+    length-same = refl;
+    first-64 = λ p l. sym (getD-set-other p1 96 p 0xBB 0 (λ e. omega arith));
+    elsewhere = λ p. go p (eqb p 96) refl;
+  },
+  λ e. two (ap (λ (l : List ℕ). getD l 96 0) e),
+)
+  where
+    go : (p : ℕ) (b : Bool) → eqb p 96 ≡ b → (getD p1 p 0 ≡ getD p1Other p 0) ⊎ Secret p1 p
+    go p true e = inr (subst (λ (q : ℕ). Secret p1 q) (sym (eqb-true p 96 e)) nt-byte)
+    go p false e = inl (sym (getD-set-other p1 96 p 0xBB 0 (eqb-false p 96 e)))
+
+    two : _≡_ {A = ℕ} 0xAA 0xBB → ⊥
+    two e = omega arith

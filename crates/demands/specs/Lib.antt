@@ -5,6 +5,7 @@ pub mod NlAuth
 pub mod TakenExactly
 pub mod OwnBytes
 pub mod Ignored
+pub mod Walk
 pub mod Kept
 pub mod Secret
 pub mod ReadBack

@@ -5,11 +5,12 @@ use Prim.Native.Nat.{ℕ, _≤_, _<_}
 use mathlib.Core.Path.{_≡_}
 use mathlib.Core.Logic.{_⊎_}
 use mathlib.Core.List.{List}
-use lib.ListN.{length, getD}
+use lib.ListN.{length, getD, set}
 use Rattle.authenticate.specs.declared.Authenticate.{Authenticate}
 use Rattle.authenticate.specs.declared.Reading.the-variants.{Taken}
 use Rattle.authenticate.specs.Authenticate.{readAuthenticate}
 use Rattle.line.specs.Line.{authenticateLine, lineAnswer, lineAfter}
+use Rattle.demands.specs.Bench.{p1}
 use Rattle.demands.specs.Ignored.{SameBytes}
 use Rattle.demands.specs.Message.{authenticate, Nonempty, Covers, MicThere}
 
@@ -39,3 +40,10 @@ pub record SamePublic (s t : List ℕ) : Type 0 where
 
 abbrev pub SecretRead : Type 0
 SecretRead = (s t : List ℕ) → DifferInSecrets s t → SamePublic s t
+
+-- the theorem speaks of something: P1, and P1 with another first byte of its NT response
+abbrev pub p1Other : List ℕ
+p1Other = set p1 96 0xBB
+
+abbrev pub SecretExample : Type 0
+SecretExample = DifferInSecrets p1 p1Other × (p1 ≡ p1Other → ⊥)
