@@ -175,7 +175,7 @@ pub fn check_pairs(list: &[u8]) -> Verdict
 }
 
 // The first pair with the id before the end or the first fault.
-fn first_pair(list: &[u8], id: AvId) -> Found
+pub fn first_pair(list: &[u8], id: AvId) -> Found
     ensures { λ r. ⌜ r ≡ firstPair id (now (list .entry)) ⌝ }
 {
     let mut at: usize = 0;

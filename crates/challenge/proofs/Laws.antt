@@ -158,7 +158,7 @@ unfolding searchedNames
 names-refused id l r e d p h q = simp (was-refused id l r p e h, q, h)
 
 -- a timestamp has eight bytes
-eight : (a : AvId) (n : ℕ) → isTimestamp a ≡ true → sizeAllowed a n ≡ true → n ≡ 8
+pub eight : (a : AvId) (n : ℕ) → isTimestamp a ≡ true → sizeAllowed a n ≡ true → n ≡ 8
 eight a n t h = let i : a .id ≡ 7 = eqb-true (a .id) 7 t in eqb-true n 8 (and-left (eqb n 8) true (rw i at h))
 
 -- a search for the timestamp that was made

@@ -126,7 +126,7 @@ pub fn check_fields(f: Fields, unicode: bool, n: u64) -> Verdict
 }
 
 // Checks 1 to 8. Only heads are looked at, whatever the message's length.
-fn fields_of(msg: &[u8]) -> Reading
+pub fn fields_of(msg: &[u8]) -> Reading
     ensures { λ r. ⌜ r ≡ fieldsOf (now (msg .entry)) ⌝ }
 {
     let head = read_head(

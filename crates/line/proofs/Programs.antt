@@ -1,0 +1,91 @@
+-- Laws of the choice between CHALLENGE and AUTHENTICATE, and of what a program prints.
+use Prim.Native.Nat.{ℕ, _+_, _≤_, _<_}
+use mathlib.Core.Path.{_≡_, refl, sym, ap, _∙_}
+use mathlib.Core.Bool.{Bool, true, false}
+use mathlib.Core.List.{List}
+use native.Mathlib.Omega.{arith}
+use lib.Dec.{leb, eqb}
+use lib.ListN.{length, take, drop, length-append, length-take}
+use borrow.Author.Tests.{le-leb, lt-leb}
+use Rattle.wire.specs.declared.refusal.Refusal.{Refusal}
+use Rattle.wire.specs.declared.refusal.Refusal.the-variants.{NoRoom}
+use Rattle.wire.specs.declared.check.Verdict.the-variants.{Clear, Refused as Not}
+use Rattle.wire.specs.Check.{checked, after}
+use Rattle.wire.specs.Number.{u32At}
+use Rattle.place.specs.declared.written.Written.{Written}
+use Rattle.place.specs.declared.written.Written.the-variants.{Length, Refused}
+use Rattle.place.specs.Written.{answered, outAfter}
+use Rattle.line.specs.Line.{refusedLine, authenticateLine, challengeLine, isChallenge, ntlmLine, lineHolds, lineAnswer, lineAfter, shownLine}
+
+-- ---- CHALLENGE or AUTHENTICATE
+
+module _ (s : List ℕ) where
+  pub too-short : length s < 12 → false ≡ isChallenge s
+  too-short h = simp (lt-leb 12 (length s) h)
+
+  pub by-type : (t : ℕ) → 12 ≤ length s → t ≡ u32At s 8 → eqb t 2 ≡ isChallenge s
+  by-type t h e = simp (le-leb 12 (length s) h, e)
+
+  pub chosen-challenge : (b : Bool) → b ≡ isChallenge s → b ≡ true → challengeLine s ≡ ntlmLine s
+  unfolding ntlmLine
+  chosen-challenge b p h = simp (← p, h)
+
+  pub chosen-authenticate : (b : Bool) → b ≡ isChallenge s → b ≡ false → authenticateLine s ≡ ntlmLine s
+  unfolding ntlmLine
+  chosen-authenticate b p h = simp (← p, h)
+
+-- ---- what a program prints
+
+module _ (line out : List ℕ) (r : Written) (p : r ≡ lineAnswer line out) where
+  -- a line that was written had room
+  had-room : (n : ℕ) → r ≡ Length n → (leb (length line) (length out) ≡ true) × (n ≡ length line)
+  unfolding lineAnswer
+  had-room n h = go (leb (length line) (length out)) (sym p ∙ h) where
+    go : (t : Bool) → answered (after (checked t) (Not NoRoom) Clear) line ≡ Length n → (t ≡ true) × (n ≡ length line)
+    go true e = (refl, cc)
+    go false e = (cc, cc)
+
+  had-none : (e : Refusal) → r ≡ Refused e → leb (length line) (length out) ≡ false
+  unfolding lineAnswer
+  had-none e h = go (leb (length line) (length out)) (sym p ∙ h) where
+    go : (t : Bool) → answered (after (checked t) (Not NoRoom) Clear) line ≡ Refused e → t ≡ false
+    go true e = cc
+    go false e = refl
+
+  -- its bytes are there, from the output's start on
+  module _ (k : List ℕ) (n : ℕ) (q : k ≡ lineAfter line out) (h : r ≡ Length n) where
+    pub printed : n ≤ length k
+    unfolding lineAfter
+    printed =
+        let w = had-room n h in
+        let e : length k ≡ length line + length (drop (length line) out) = ap length q ∙ simp (w .0, length-append) in
+        omega (arith, e, w .1)
+
+    pub printed-part : n ≡ length (take n k)
+    printed-part = simp length-take (omega (arith, printed))
+
+  module _ (n : ℕ) (h : r ≡ Length n) where
+    shown : line ≡ shownLine line out
+    unfolding shownLine
+    shown = simp (had-room n h .0)
+
+    pub shown-answer : r ≡ lineAnswer (shownLine line out) out
+    shown-answer = rw (← shown) p
+
+    pub shown-after : (k : List ℕ) → k ≡ lineAfter line out → k ≡ lineAfter (shownLine line out) out
+    shown-after k q = rw (← shown) q
+
+  module _ (e : Refusal) (h : r ≡ Refused e) (k : List ℕ) (q : k ≡ lineAfter line out) where
+    untouched : k ≡ out
+    unfolding lineAfter
+    untouched = q ∙ simp (had-none e h)
+
+    instead : refusedLine NoRoom ≡ shownLine line out
+    unfolding shownLine
+    instead = simp (had-none e h)
+
+    pub instead-answer : (v : Written) → v ≡ lineAnswer (refusedLine NoRoom) k → v ≡ lineAnswer (shownLine line out) out
+    instead-answer v g = rw (← instead, ← untouched) g
+
+    pub instead-after : (m : List ℕ) → m ≡ lineAfter (refusedLine NoRoom) k → m ≡ lineAfter (shownLine line out) out
+    instead-after m g = rw (← instead, ← untouched) g

@@ -1,0 +1,14 @@
+-- `lengths_size` is the length of the words for LM response, NT response and key.
+use borrow.Author.Needs.{needs}
+use Rattle.line.proofs.Rooms.{sum}
+use Rattle.line.proofs.auth.lengths_size.Statement.{statement}
+use Rattle.line.proofs.auth.lengths_size.Tie as tie
+use Rattle.line.specs.Line.{authLengths}
+
+pub lengths-size-spec : {M : Type 1} → statement M
+unfolding authLengths
+lengths-size-spec =
+    tie.close
+    (tie.spec
+    (λ c. search needs) (λ c κs. search needs) (λ c. search needs) (λ c κs. search needs) (λ c. search needs)
+    (λ c κs. search needs) (λ c. search needs) (λ c. search needs) (λ c. (search sum, search needs)))

@@ -1,0 +1,13 @@
+-- `authenticate_line` writes the line of a message that is taken, and that of its refusal.
+use borrow.Author.Needs.{needs}
+use Rattle.line.proofs.Lines.{same-line, auth-taken, auth-refused}
+use Rattle.line.proofs.authenticate_line.Statement.{statement}
+use Rattle.line.proofs.authenticate_line.Tie as tie
+
+pub authenticate-line-spec : {M : Type 1} → statement M
+authenticate-line-spec =
+    tie.close
+    (tie.spec
+    (λ c κs. search needs) (λ c. search needs) (λ c κs. search needs) (λ c κs. search needs) (λ c. search needs)
+    (λ c κs. search needs) (λ c. search needs) (λ c. (search (same-line, auth-taken), search (same-line, auth-taken)))
+    (λ c. search needs) (λ c. (search (same-line, auth-refused), search (same-line, auth-refused))))

@@ -1,0 +1,13 @@
+-- `write_taken` writes the line, or refuses by check 33.
+use borrow.Author.Needs.{needs}
+use Rattle.line.proofs.Lines.{has-room, no-room, as-it-was, its-length, its-bytes}
+use Rattle.line.proofs.chal.write_taken.Statement.{statement}
+use Rattle.line.proofs.chal.write_taken.Tie as tie
+
+pub write-taken-spec : {M : Type 1} → statement M
+write-taken-spec =
+    tie.close
+    (tie.spec
+    (λ c κs. search needs) (λ c κs. search needs) (λ c. search needs) (λ c. search needs)
+    (λ c. (search no-room, search as-it-was)) (λ c κs. search has-room) (λ c. search needs)
+    (λ c. (search its-length, search its-bytes)))

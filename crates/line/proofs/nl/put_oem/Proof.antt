@@ -1,0 +1,16 @@
+-- `put_oem` writes the OEM strings' words.
+use borrow.Author.Needs.{needs}
+use native.Mathlib.Omega.{arith}
+use Rattle.line.proofs.Rooms.{parts}
+use Rattle.line.proofs.nl.put_oem.Statement.{statement}
+use Rattle.line.proofs.nl.put_oem.Tie as tie
+use Rattle.line.specs.Line.{nlOem}
+use Rattle.place.proofs.Laws.{and-then}
+
+pub put-oem-spec : {M : Type 1} → statement M
+unfolding nlOem
+put-oem-spec =
+    tie.close
+    (tie.spec
+    (λ c. search needs) (λ c κs. omega (arith, parts)) (λ c. search needs) (λ c κs. omega (arith, parts))
+    (λ c. search needs) (λ c. search and-then))

@@ -1,0 +1,14 @@
+-- `utf8_size` is the length of the UTF-8 strings' words.
+use borrow.Author.Needs.{needs}
+use Rattle.line.proofs.Rooms.{sum}
+use Rattle.line.proofs.nl.utf8_size.Statement.{statement}
+use Rattle.line.proofs.nl.utf8_size.Tie as tie
+use Rattle.line.specs.Line.{nlUtf8}
+
+pub utf8-size-spec : {M : Type 1} → statement M
+unfolding nlUtf8
+utf8-size-spec =
+    tie.close
+    (tie.spec
+    (λ c. search needs) (λ c κs. search needs) (λ c. search needs) (λ c κs. search needs) (λ c. search needs)
+    (λ c κs. search needs) (λ c. search needs) (λ c. search needs) (λ c. (search sum, search needs)))

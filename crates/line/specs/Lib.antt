@@ -1,0 +1,4 @@
+pub mod Digits
+pub mod Name
+pub mod Words
+pub mod Line

@@ -1,0 +1,59 @@
+-- Laws of NL_AUTH's chain of checks.
+use Prim.Native.Nat.{ℕ, _≤_}
+use mathlib.Core.Path.{_≡_, refl, sym, ap, _∙_}
+use mathlib.Core.Bool.{Bool, true, false, cond, _&&_}
+use mathlib.Core.List.{List}
+use lib.Dec.{leb, eqb}
+use lib.ListN.{length, getD}
+use borrow.Author.Tests.{leb-true, eq-eqb, ne-eqb}
+use Rattle.wire.specs.declared.check.Checked.{Checked}
+use Rattle.wire.specs.declared.check.Checked.the-variants.{Held, Failed}
+use Rattle.wire.specs.declared.field.Field.{Field}
+use Rattle.wire.specs.Check.{checked}
+use Rattle.wire.specs.Head.{lengthHolds}
+use Rattle.wire.specs.Number.{u32At}
+use Rattle.wire.proofs.Laws.{chain, held-true}
+use Rattle.nl_auth.specs.declared.flags.NlAuthFlags.{NlAuthFlags}
+use Rattle.nl_auth.specs.declared.reading.Reading.{Reading}
+use Rattle.nl_auth.specs.declared.string.Scan.{Scan}
+use Rattle.nl_auth.specs.declared.string.Scan.the-variants.{Found, Missing}
+use Rattle.nl_auth.specs.Flags.{known}
+use Rattle.nl_auth.specs.NlAuth.{onFound, flagsAt, typeHolds, responseHolds, readRequest, readResponse}
+
+-- a string that was found: what follows decides; one that wasn't: its answer
+module _ {A : Type 0} (k r : Scan) (e : A) (x : Field → ℕ → A) where
+  pub string-found : (w : Field) (n : ℕ) (y : A) → r ≡ k → r ≡ Found w n → y ≡ x w n → y ≡ onFound k e x
+  string-found w n y p h z = simp (← p, h) z
+
+  pub string-missing : r ≡ k → r ≡ Missing → e ≡ onFound k e x
+  string-missing p h = simp (← p, h)
+
+pub ruleset request = (chain, string-found, string-missing)
+
+pub flags-is : (s : List ℕ) (v : ℕ) (r : NlAuthFlags) → v ≡ u32At s 4 → r ≡ known (record { bits = v }) → r ≡ flagsAt s
+flags-is s v r p q = q ∙ simp p
+
+-- check 17
+pub not-nine : (s : List ℕ) → (length s ≡ 9 → ⊥) → Failed ≡ responseHolds s
+not-nine s h = simp (ne-eqb (length s) 9 h)
+
+pub nine : (s : List ℕ) (r : Checked) → length s ≡ 9 → r ≡ checked (eqb (getD s 8 0) 0) → r ≡ responseHolds s
+nine s r h e = e ∙ simp (eq-eqb (length s) 9 h)
+
+-- check 1 held
+pub short : (s : List ℕ) (r : Checked) → r ≡ lengthHolds s → r ≡ Held → length s ≤ 65535
+short s r e h = leb-true (length s) 65535 (held-true (leb (length s) 65535) (sym e ∙ h))
+
+-- the message's own type and flags
+pub of-type : (t v : ℕ) (r : Checked) → v ≡ t → r ≡ typeHolds v → r ≡ typeHolds t
+of-type t v r p e = rw (← p) e
+
+pub a-request : (t v : ℕ) (f w : NlAuthFlags) (s : List ℕ) (r y : Reading) →
+    v ≡ t → v ≡ 0 → w ≡ f → r ≡ readRequest w s → r ≡ cond (eqb t 0) (readRequest f s) y
+a-request t v f w s r y p h q e = e ∙ simp (q, ← p, eq-eqb v 0 h)
+
+pub a-response : (t v : ℕ) (s : List ℕ) (r y : Reading) →
+    v ≡ t → (v ≡ 0 → ⊥) → r ≡ readResponse s → r ≡ cond (eqb t 0) y (readResponse s)
+a-response t v s r y p h e = e ∙ simp (← p, ne-eqb v 0 h)
+
+pub ruleset message = (chain, of-type, a-request, a-response)

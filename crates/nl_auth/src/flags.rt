@@ -1,0 +1,90 @@
+// The flags of NL_AUTH_MESSAGE: bits A to E, each named once by the string that it stands for, with a question for it.
+ghost use mathlib.Core.Path.{_≡_};
+ghost use Prim.Native.Nat.{_<_};
+ghost use Rattle.nl_auth.specs.Flags.{has, nbDomain, nbComputer, dnsDomain, dnsHost, utf8Computer, known, stringsHold};
+use wire::check::Checked;
+use wire::check::check;
+
+pub struct NlAuthFlags {
+    pub bits: u32,
+}
+
+impl NlAuthFlags {
+    // A: the NetBIOS domain name.
+    pub const NB_DOMAIN: u32 = 0x1;
+
+    // B: the NetBIOS computer name.
+    pub const NB_COMPUTER: u32 = 0x2;
+
+    // C: the DNS domain name.
+    pub const DNS_DOMAIN: u32 = 0x4;
+
+    // D: the DNS host name.
+    pub const DNS_HOST: u32 = 0x8;
+
+    // E: the NetBIOS computer name in UTF-8.
+    pub const UTF8_COMPUTER: u32 = 0x10;
+
+    // One more than all of A to E.
+    const ABOVE: u32 = 0x20;
+
+    // Whether the bit of a mask of one bit is set.
+    pub(crate) fn has(self, mask: u32) -> bool
+        requires { ⌜ 0 < mask ⌝ }
+        ensures { λ r. ⌜ r ≡ has self mask ⌝ }
+    {
+        self.bits / mask % 2 == 1
+    }
+
+    pub fn nb_domain(self) -> bool
+        ensures { λ r. ⌜ r ≡ nbDomain self ⌝ }
+    {
+        self.has(NlAuthFlags::NB_DOMAIN)
+    }
+
+    pub fn nb_computer(self) -> bool
+        ensures { λ r. ⌜ r ≡ nbComputer self ⌝ }
+    {
+        self.has(NlAuthFlags::NB_COMPUTER)
+    }
+
+    pub fn dns_domain(self) -> bool
+        ensures { λ r. ⌜ r ≡ dnsDomain self ⌝ }
+    {
+        self.has(NlAuthFlags::DNS_DOMAIN)
+    }
+
+    pub fn dns_host(self) -> bool
+        ensures { λ r. ⌜ r ≡ dnsHost self ⌝ }
+    {
+        self.has(NlAuthFlags::DNS_HOST)
+    }
+
+    pub fn utf8_computer(self) -> bool
+        ensures { λ r. ⌜ r ≡ utf8Computer self ⌝ }
+    {
+        self.has(NlAuthFlags::UTF8_COMPUTER)
+    }
+
+    // Bits A to E, the others zero.
+    pub fn known(self) -> NlAuthFlags
+        ensures { λ r. ⌜ r ≡ known self ⌝ }
+    {
+        NlAuthFlags {
+            bits: self.bits % NlAuthFlags::ABOVE,
+        }
+    }
+
+    // Check 14, in reading and in writing.
+    pub fn strings_hold(self) -> Checked
+        ensures { λ r. ⌜ r ≡ stringsHold self ⌝ }
+    {
+        check(
+            self.nb_domain()
+                | self.nb_computer()
+                | self.dns_domain()
+                | self.dns_host()
+                | self.utf8_computer(),
+        )
+    }
+}

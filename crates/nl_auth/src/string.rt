@@ -1,0 +1,56 @@
+// One string of an NL_AUTH buffer: the bytes up to its first zero byte.
+ghost use mathlib.Core.Path.{_≡_};
+ghost use Prim.Native.Nat.{_≤_, _<_};
+ghost use lib.ListN.{length};
+ghost use Rattle.nl_auth.specs.Flags.{has};
+ghost use Rattle.nl_auth.specs.NlAuth.{beforeZero, stringAt, stringUnder};
+use crate::flags::NlAuthFlags;
+use wire::field::Field;
+
+// What stands at a place: a string and the place where the next one starts, or bytes without a zero byte.
+pub(crate) enum Scan {
+    Found(Field, usize),
+    Missing,
+}
+
+// How many bytes stand before the first zero byte; all of them if there is none.
+pub(crate) fn before_zero(s: &[u8]) -> usize
+    ensures { λ r. ⌜ r ≡ beforeZero (now (s .entry)) ⌝ }
+{
+    let mut i: usize = 0;
+    while i < s.len() {
+        if s[i] == 0 {
+            return i;
+        }
+        i = i + 1;
+    }
+    i
+}
+
+// The string from `at` on.
+fn string_at(msg: &[u8], at: usize) -> Scan
+    requires { ⌜ (at ≤ length (now msg)) × (length (now msg) ≤ 65535) ⌝ }
+    ensures { λ r. ⌜ r ≡ stringAt (now (msg .entry)) at ⌝ }
+{
+    let rest = &msg[at..];
+    let len = before_zero(rest);
+    if len < rest.len() {
+        let string = Field {
+            offset: at as u32,
+            len: len as u16,
+        };
+        return Scan::Found(string, at + len + 1);
+    }
+    Scan::Missing
+}
+
+// The string of a bit, which stands at `at` if the bit is set.
+pub(crate) fn string_under(msg: &[u8], at: usize, flags: NlAuthFlags, mask: u32) -> Scan
+    requires { ⌜ (0 < mask) × (at ≤ length (now msg)) × (length (now msg) ≤ 65535) ⌝ }
+    ensures { λ r. ⌜ r ≡ stringUnder (has flags mask) (now (msg .entry)) at ⌝ }
+{
+    if flags.has(mask) {
+        return string_at(msg, at);
+    }
+    Scan::Found(Field { offset: 0, len: 0 }, at)
+}
