@@ -1,19 +1,21 @@
 # make help lists the targets.
-.PHONY: help run test toolchain
+.PHONY: help run test compare
 
-MESSAGE ?= crates/read_authenticate/stdin
+MESSAGES ?= messages
+export MESSAGES
 
 help:
-	@echo 'make run     read one AUTHENTICATE message and print its flags and fields; MESSAGE=file for another'
-	@echo 'make test    every proof and test; the last line is "N passed, 0 failed"'
+	@echo 'make run      the depot bench: every message in messages/ through the proved program and the second one;'
+	@echo '              MESSAGES=folder for another folder. The status is 0 where all lines are the same'
+	@echo 'make test     every proof and every test; the last line is "N passed, 0 failed"'
+	@echo 'make compare  the part of it that holds the two programs against the second reader, on messages from a seed;'
+	@echo '              SEED=number for other messages, N=number for how many are drawn after those at the boundaries'
 
-toolchain:
-	@command -v rt >/dev/null 2>&1 || { echo "the Rattle toolchain is missing: put its command 'rt' on the PATH and run this again"; exit 1; }
+run:
+	@tools/run "$$MESSAGES"
 
-run: toolchain
-	@test -r '$(MESSAGE)' || { echo "$(MESSAGE) can't be read: name a file that holds one message, as MESSAGE=file"; exit 1; }
-	@mkdir -p target && rt check read_authenticate >target/run.log 2>&1 || { cat target/run.log; exit 1; }
-	@target/bin/read_authenticate <'$(MESSAGE)'
+compare:
+	@tools/need rt cargo && tools/build-second && tools/build-proved && tools/compare
 
 test:
 	@tools/gate

@@ -1,12 +1,12 @@
 -- Laws of the choice between CHALLENGE and AUTHENTICATE, and of what a program prints.
-use Prim.Native.Nat.{ℕ, _≤_, _<_}
+use Prim.Native.Nat.{ℕ, _+_, _≤_, _<_}
 use mathlib.Core.Path.{_≡_, refl, sym, ap, _∙_}
 use mathlib.Core.Bool.{Bool, true, false}
 use mathlib.Core.List.{List}
 use native.Mathlib.Omega.{arith}
 use lib.Dec.{leb, eqb}
-use lib.ListN.{length}
-use borrow.Author.Tests.{leb-true, le-leb, lt-leb}
+use lib.ListN.{length, take, drop, length-append, length-take}
+use borrow.Author.Tests.{le-leb, lt-leb}
 use Rattle.wire.specs.declared.refusal.Refusal.{Refusal}
 use Rattle.wire.specs.declared.refusal.Refusal.the-variants.{NoRoom}
 use Rattle.wire.specs.declared.check.Verdict.the-variants.{Clear, Refused as Not}
@@ -52,8 +52,17 @@ module _ (line out : List ℕ) (r : Written) (p : r ≡ lineAnswer line out) whe
     go true e = cc
     go false e = refl
 
-  pub within : (n : ℕ) → r ≡ Length n → n ≤ length out
-  within n h = let w = had-room n h in omega (arith, leb-true (length line) (length out) (w .0), w .1)
+  -- its bytes are there, from the output's start on
+  module _ (k : List ℕ) (n : ℕ) (q : k ≡ lineAfter line out) (h : r ≡ Length n) where
+    pub printed : n ≤ length k
+    unfolding lineAfter
+    printed =
+        let w = had-room n h in
+        let e : length k ≡ length line + length (drop (length line) out) = ap length q ∙ simp (w .0, length-append) in
+        omega (arith, e, w .1)
+
+    pub printed-part : n ≡ length (take n k)
+    printed-part = simp length-take (omega (arith, printed))
 
   module _ (n : ℕ) (h : r ≡ Length n) where
     shown : line ≡ shownLine line out

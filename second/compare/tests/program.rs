@@ -1,0 +1,41 @@
+//! The program as it is called: what it prints and its status.
+
+use std::process::{Command, Output};
+
+fn compare(args: &[&str]) -> (Option<i32>, String, String) {
+    let Output {
+        status,
+        stdout,
+        stderr,
+    } = Command::new(env!("CARGO_BIN_EXE_compare"))
+        .args(args)
+        .output()
+        .expect("the program runs");
+    let text = |bytes| String::from_utf8(bytes).expect("text");
+    (status.code(), text(stdout), text(stderr))
+}
+
+#[test]
+fn a_missing_program_is_one_plain_line() {
+    let (status, out, err) = compare(&["/no/ntlm_line", "/no/nl_auth_line", "1", "0"]);
+    assert_eq!((status, out.as_str()), (Some(1), "0 passed, 1 failed\n"));
+    assert_eq!(err.lines().count(), 1);
+    assert!(err.contains(" can't be run: "), "{err}");
+}
+
+#[test]
+fn wrong_words_are_status_2() {
+    let cases: [&[&str]; 6] = [
+        &[],
+        &["a"],
+        &["a", "b", "x"],
+        &["a", "b", "1", "x"],
+        &["a", "b", "-1"],
+        &["a", "b", "1", "2", "3"],
+    ];
+    for args in cases {
+        let (status, out, err) = compare(args);
+        assert_eq!((status, out.as_str()), (Some(2), "0 passed, 1 failed\n"));
+        assert!(err.starts_with("usage: compare "), "{err}");
+    }
+}

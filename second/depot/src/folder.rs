@@ -1,0 +1,187 @@
+//! The message files of a folder.
+
+use std::ffi::{OsStr, OsString};
+use std::fmt;
+use std::fs;
+use std::io;
+use std::path::{Path, PathBuf};
+
+use crate::form::{self, Form, NoMessage};
+
+/// A file larger than this is not read at all. A message over 65,535 bytes is
+/// one that the programs refuse, so there is room for those, and as hex text.
+const MAX_FILE: u64 = 1 << 24;
+
+/// The files of a folder, in the order of their names.
+#[derive(Debug)]
+pub struct Folder {
+    /// Each is to hold a message.
+    pub messages: Vec<MessageFile>,
+    /// The names of files that tell about the messages.
+    pub passed_over: Vec<String>,
+}
+
+/// A file that is to hold a message.
+#[derive(Debug)]
+pub struct MessageFile {
+    /// Its name, fit to print.
+    pub name: String,
+    path: PathBuf,
+}
+
+/// Why a folder gives no messages. Each says what to do.
+#[derive(Debug)]
+pub enum NoFolder {
+    Missing(PathBuf),
+    NotAFolder(PathBuf),
+    Unreadable(PathBuf, io::Error),
+    Empty(PathBuf),
+}
+
+/// Why a file gives no message. Each says what to do.
+#[derive(Debug)]
+pub enum NotRead {
+    Folder(PathBuf),
+    NotAFile,
+    TooLarge,
+    Unreadable(io::Error),
+    NoMessage(NoMessage),
+}
+
+impl Folder {
+    /// Every file counts as a message but those whose names begin with a dot or
+    /// end in .md or .json. A folder inside is kept as a file that can't be
+    /// read, so that nothing in it is left out without a word.
+    pub fn list(path: &Path) -> Result<Self, NoFolder> {
+        let failed = |error: io::Error| match error.kind() {
+            io::ErrorKind::NotFound => NoFolder::Missing(path.to_owned()),
+            io::ErrorKind::NotADirectory => NoFolder::NotAFolder(path.to_owned()),
+            _ => NoFolder::Unreadable(path.to_owned(), error),
+        };
+        let mut names: Vec<OsString> = Vec::new();
+        for entry in fs::read_dir(path).map_err(failed)? {
+            names.push(entry.map_err(failed)?.file_name());
+        }
+        names.sort();
+        let (passed_over, messages): (Vec<_>, Vec<_>) =
+            names.into_iter().partition(|name| tells_about(name));
+        if messages.is_empty() {
+            return Err(NoFolder::Empty(path.to_owned()));
+        }
+        Ok(Self {
+            messages: messages
+                .into_iter()
+                .map(|name| MessageFile {
+                    path: path.join(&name),
+                    name: printable(&name),
+                })
+                .collect(),
+            passed_over: passed_over.iter().map(|name| printable(name)).collect(),
+        })
+    }
+}
+
+/// Whether a name is that of a file beside the messages.
+fn tells_about(name: &OsStr) -> bool {
+    let hidden = name.as_encoded_bytes().starts_with(b".");
+    let extension = Path::new(name).extension().unwrap_or_default();
+    hidden || extension.eq_ignore_ascii_case("md") || extension.eq_ignore_ascii_case("json")
+}
+
+/// A name without characters that would upset a terminal or a line.
+fn printable(name: &OsStr) -> String {
+    name.to_string_lossy()
+        .chars()
+        .map(|c| if c.is_control() { '?' } else { c })
+        .collect()
+}
+
+impl MessageFile {
+    /// The message and the form that it has in the file.
+    pub fn read(&self) -> Result<(Form, Vec<u8>), NotRead> {
+        let about = fs::metadata(&self.path).map_err(NotRead::Unreadable)?;
+        if about.is_dir() {
+            return Err(NotRead::Folder(self.path.clone()));
+        }
+        // Opening a pipe or a device could wait for ever.
+        if !about.is_file() {
+            return Err(NotRead::NotAFile);
+        }
+        if about.len() > MAX_FILE {
+            return Err(NotRead::TooLarge);
+        }
+        let content = fs::read(&self.path).map_err(NotRead::Unreadable)?;
+        form::read(content).map_err(NotRead::NoMessage)
+    }
+}
+
+impl fmt::Display for NoFolder {
+    fn fmt(&self, f: &mut fmt::Formatter<'_>) -> fmt::Result {
+        match self {
+            Self::Missing(path) => write!(
+                f,
+                "there is no folder {}: name one that holds messages, as make run MESSAGES=folder",
+                path.display()
+            ),
+            Self::NotAFolder(path) => write!(
+                f,
+                "{} is no folder: name one that holds messages, as make run MESSAGES=folder",
+                path.display()
+            ),
+            Self::Unreadable(path, error) => write!(
+                f,
+                "the folder {} can't be read ({error}): make it readable and run this again",
+                path.display()
+            ),
+            Self::Empty(path) => write!(
+                f,
+                "the folder {} holds no messages: put message files there, \
+                 or name another as make run MESSAGES=folder",
+                path.display()
+            ),
+        }
+    }
+}
+
+impl fmt::Display for NotRead {
+    fn fmt(&self, f: &mut fmt::Formatter<'_>) -> fmt::Result {
+        match self {
+            Self::Folder(path) => write!(
+                f,
+                "it is a folder: run it by itself, as make run MESSAGES={}",
+                path.display()
+            ),
+            Self::NotAFile => f.write_str("it is not a plain file: take it out of the folder"),
+            Self::TooLarge => write!(
+                f,
+                "it is larger than {MAX_FILE} bytes, which no message is: \
+                 take it out of the folder"
+            ),
+            Self::Unreadable(error) => {
+                write!(f, "{error}: make it readable or take it out of the folder")
+            }
+            Self::NoMessage(why) => why.fmt(f),
+        }
+    }
+}
+
+#[cfg(test)]
+mod tests {
+    use super::{printable, tells_about};
+    use std::ffi::OsStr;
+
+    #[test]
+    fn files_beside_the_messages_go_by_their_names() {
+        for name in ["README.md", "index.json", ".gitignore", "a.MD", "b.Json"] {
+            assert!(tells_about(OsStr::new(name)), "{name}");
+        }
+        for name in ["box31", "a.bin", "md", "a.md.bin", "json", "a.txt", "a."] {
+            assert!(!tells_about(OsStr::new(name)), "{name}");
+        }
+    }
+
+    #[test]
+    fn names_are_printed_on_one_line() {
+        assert_eq!(printable(OsStr::new("a\nb\x1B[1m.bin")), "a?b?[1m.bin");
+    }
+}

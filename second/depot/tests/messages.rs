@@ -1,0 +1,52 @@
+//! The repository's folder of messages: its table has each file with its line.
+
+use std::fs;
+use std::path::Path;
+
+use depot::folder::Folder;
+use depot::form::Kind;
+use reader::{Program, LINE_LIMIT};
+
+const MESSAGES: &str = concat!(env!("CARGO_MANIFEST_DIR"), "/../../messages");
+
+/// The rows of the table, each a file's name and what stands under "Line".
+fn rows() -> Vec<(String, String)> {
+    let readme = fs::read_to_string(Path::new(MESSAGES).join("README.md")).expect("a README");
+    let row = |line: &str| {
+        let cells: Vec<&str> = line.trim_matches('|').split('|').map(str::trim).collect();
+        let [file, _, _, _, printed] = cells.as_slice() else {
+            return None;
+        };
+        let name = file.strip_prefix('`')?.strip_suffix('`')?;
+        Some((name.to_owned(), (*printed).to_owned()))
+    };
+    readme.lines().filter_map(row).collect()
+}
+
+fn line(program: Program, message: &[u8]) -> String {
+    let mut room = Box::new([0; LINE_LIMIT]);
+    let line = program.line(message, &mut room).trim_ascii_end();
+    format!("`{}`", line.escape_ascii()).replace("\\\\", "\\")
+}
+
+#[test]
+fn each_file_stands_in_the_table_with_its_line() {
+    let folder = Folder::list(Path::new(MESSAGES)).expect("messages");
+    let mut found = Vec::new();
+    for file in &folder.messages {
+        let (_, message) = file.read().expect("a message");
+        let printed = match Kind::of(&message) {
+            Kind::Ntlm => line(Program::Ntlm, &message),
+            Kind::NlAuth => line(Program::NlAuth, &message),
+            Kind::Unclear => {
+                let lines = [Program::Ntlm, Program::NlAuth].map(|p| line(p, &message));
+                lines.join(" and ")
+            }
+        };
+        found.push((file.name.clone(), printed));
+    }
+    let mut told = rows();
+    told.sort();
+    assert!(found.len() >= 12);
+    assert_eq!(told, found);
+}
