@@ -28,7 +28,7 @@ use Rattle.wire.proofs.Stands.{stands, stand}
 use Rattle.demands.specs.Order.{First}
 use Rattle.demands.specs.Message.{Kind, Fails}
 use Rattle.demands.proofs.Order.{Free, first, next-field, next-check}
-use Rattle.demands.proofs.Message.{both-ways, true-not-false, failed-false, held-true}
+use Rattle.demands.proofs.Bools.{true-not-false, both-ways, failed-false, held-true}
 
 abbrev pub layoutOf : Kind → Layout
 layoutOf k = record { fixed = k .fixed; kind = k .number; flags = k .flags }

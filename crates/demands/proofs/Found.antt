@@ -21,8 +21,8 @@ use Rattle.av_pairs.specs.declared.Step.the-variants.{Pair, End, Refused}
 use Rattle.av_pairs.specs.AvPairs.{idAt, stepAt, endOf, onStep, pairsFrom, pairsOf, checkPairs, firstBy, firstPair, findPair}
 use Rattle.demands.specs.PairList.{idOf, sizeOf, nextOf, PairAt, FirstWith, this, next}
 use Rattle.demands.specs.OwnBytes.{OwnPair, FoundOwn, NothingThere}
-use Rattle.demands.proofs.Message.{both-ways}
 use Rattle.demands.proofs.PairList.{JudgedS, step-judged, empty-step, pair-or-end, pair-or-fault}
+use Rattle.demands.proofs.Bools.{both-ways}
 
 -- a pair is needed for a first one
 starts : (s : List ℕ) (id found at : ℕ) → FirstWith s id found at → PairAt s at

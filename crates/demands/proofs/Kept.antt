@@ -8,8 +8,7 @@ use lib.Dec.{leb}
 use lib.ListN.{length, drop, length-append, length-drop}
 use lib.Seq.{drop-append-seam}
 use borrow.Author.Tests.{leb-true}
-use Rattle.wire.specs.declared.check.Checked.{Checked}
-use Rattle.wire.specs.declared.check.Checked.the-variants.{Held, Failed}
+use Rattle.wire.specs.declared.check.Checked.the-variants.{Held}
 use Rattle.wire.specs.declared.check.Verdict.{Verdict}
 use Rattle.wire.specs.declared.check.Verdict.the-variants.{Clear, Refused as Not}
 use Rattle.wire.specs.declared.refusal.Refusal.{Refusal}
@@ -22,7 +21,7 @@ use Rattle.nl_auth.specs.Flags.{known, stringsHold}
 use Rattle.nl_auth.specs.Writing.{requestBytes, responseBytes, checkZeros, checkRequest, requestAnswer, requestOut, responseAnswer, responseOut}
 use Rattle.line.specs.Line.{lineHolds, lineAnswer, lineAfter}
 use Rattle.demands.specs.Kept.{Kept, NlRequestKept, NlResponseKept, LineKept}
-use Rattle.demands.proofs.Message.{held-true}
+use Rattle.demands.proofs.Bools.{held-true, after-held}
 
 -- what is written at the front of an output that has room for it
 module _ (bytes out : List ℕ) (room : length bytes ≤ length out) where
@@ -60,10 +59,6 @@ pub record RequestHolds (room : ℕ) (w : NlAuthFlags) (a b c d e : List ℕ) : 
   pub zeros : checkZeros w a b c d e ≡ Clear
   pub size : length (requestBytes w a b c d e) ≤ 65535
   pub room-there : length (requestBytes w a b c d e) ≤ room
-
-after-held : (c : Checked) (e : Refusal) (x : Verdict) → after c (Not e) x ≡ Clear → (c ≡ Held) × (x ≡ Clear)
-after-held Held e x h = (refl, h)
-after-held Failed e x h = (cc, cc)
 
 clear-both : (v x : Verdict) → onClear Not v x ≡ Clear → (v ≡ Clear) × (x ≡ Clear)
 clear-both Clear x h = (refl, h)

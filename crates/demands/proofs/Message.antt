@@ -1,6 +1,6 @@
 -- A reader's fields against the heads' own bytes, and each check's test at one field, for every kind of message.
 use Prim.Native.Nat.{ℕ, _+_, _%_, _≤_, max}
-use mathlib.Core.Path.{_≡_, refl, sym, ap, _∙_}
+use mathlib.Core.Path.{_≡_, refl, sym, ap}
 use mathlib.Core.Logic.{_⊎_, inl, inr, ⊎-elim}
 use mathlib.Core.Bool.{Bool, true, false, _||_, _&&_, not, cond}
 use mathlib.Core.List.{List}
@@ -10,24 +10,10 @@ use lib.ListN.{length}
 use borrow.Author.Tests.{leb-true, leb-false, ltb-true, lt-ltb, eqb-true, eqb-false}
 use Rattle.wire.specs.declared.check.Checked.the-variants.{Held, Failed}
 use Rattle.wire.specs.declared.field.Field.{Field}
-use Rattle.wire.specs.Check.{checked}
 use Rattle.wire.specs.Field.{headAt, isEmpty, noField, fieldAt, endsInside, beginsAfter, evenName, share}
 use Rattle.wire.proofs.Stands.{and-left, and-right, and-both}
 use Rattle.demands.specs.Message.{Kind, lenOf, offsetOf, Set, Counts, Nonempty, Covers, Fails}
-
-pub true-not-false : true ≡ false → ⊥
-true-not-false h = let z : _≡_ {A = ℕ} 0 1 = cc in omega arith
-
-pub both-ways : (b : Bool) → b ≡ true → b ≡ false → ⊥
-both-ways b p q = true-not-false (sym p ∙ q)
-
-pub failed-false : (b : Bool) → checked b ≡ Failed → b ≡ false
-failed-false true h = cc
-failed-false false h = refl
-
-pub held-true : (b : Bool) → checked b ≡ Held → b ≡ true
-held-true true h = refl
-held-true false h = cc
+use Rattle.demands.proofs.Bools.{true-not-false, both-ways, failed-false, held-true}
 
 -- f is what the reader makes of the head of field i
 pub record Stands (k : Kind) (s : List ℕ) (i : ℕ) (f : Field) : Type 0 where

@@ -15,8 +15,9 @@ use Rattle.wire.proofs.Stands.{and-left, and-right, and-both}
 use Rattle.authenticate.specs.Authenticate.{fieldsAt, allFields, begins, micPresent}
 use Rattle.authenticate.proofs.Mic.{room, some, lowest}
 use Rattle.demands.specs.Message.{authenticate, offsetOf, Nonempty, MicThere}
-use Rattle.demands.proofs.Message.{Stands, true-not-false, test-held}
+use Rattle.demands.proofs.Message.{Stands, test-held}
 use Rattle.demands.proofs.TakenExactly.{six}
+use Rattle.demands.proofs.Bools.{true-not-false}
 
 -- the reader's fields from number i on
 abbrev Numbered : List ℕ → ℕ → List (ℕ × Field) → Type 0

@@ -29,9 +29,8 @@ use Rattle.demands.specs.NlAuth.{typeOf, masks, maskOf, BitSet, ZeroAt, 
 use Rattle.demands.specs.OwnBytes.{OwnString, OwnRequest, OwnResponse, NlAuthOwn}
 use Rattle.demands.specs.TakenExactly.{IsTakenNl, NlRefusedWith, NlAuthIsTaken, NlAuthIsRefused}
 use Rattle.demands.proofs.Order.{Free, first, only-first, next-field, next-check, skip}
-use Rattle.demands.proofs.Message.{both-ways, failed-false, held-true}
 use Rattle.demands.proofs.Chain.{chained}
-use Rattle.demands.proofs.PairList.{or-left, or-right, or-either}
+use Rattle.demands.proofs.Bools.{both-ways, failed-false, held-true, or-left, or-right, or-either, bit1, bit2, bit4, bit8, bit16}
 
 -- ---- one string
 
@@ -211,21 +210,6 @@ module _ (s : List ℕ) where
         (subst (λ (l : List ℕ). Strings s l 8 at) (sym is-ms′) (add-clear ms m 8 at starts (n refl)))
 
   -- the reader's flags are the message's
-  bit1 : u32At s 4 % 32 / 0x1 % 2 ≡ u32At s 4 / 0x1 % 2
-  bit1 = omega arith
-
-  bit2 : u32At s 4 % 32 / 0x2 % 2 ≡ u32At s 4 / 0x2 % 2
-  bit2 = omega arith
-
-  bit4 : u32At s 4 % 32 / 0x4 % 2 ≡ u32At s 4 / 0x4 % 2
-  bit4 = omega arith
-
-  bit8 : u32At s 4 % 32 / 0x8 % 2 ≡ u32At s 4 / 0x8 % 2
-  bit8 = omega arith
-
-  bit16 : u32At s 4 % 32 / 0x10 % 2 ≡ u32At s 4 / 0x10 % 2
-  bit16 = omega arith
-
   on : (m : ℕ) → u32At s 4 % 32 / m % 2 ≡ u32At s 4 / m % 2 → eqb (u32At s 4 % 32 / m % 2) 1 ≡ true → BitSet s m
   on m e h = sym e ∙ eqb-true _ 1 h
 
@@ -245,8 +229,8 @@ module _ (s : List ℕ) where
       let h2 = or-left ((a || b) || c) d h3 in
       let h1 = or-left (a || b) c h2 in
       five (λ k. BitSet s (maskOf k) → ⊥)
-      (off 0x1 bit1 (or-left a b h1)) (off 0x2 bit2 (or-right a b h1)) (off 0x4 bit4 (or-right (a || b) c h2))
-      (off 0x8 bit8 (or-right ((a || b) || c) d h3)) (off 0x10 bit16 (or-right (((a || b) || c) || d) e h4))
+      (off 0x1 (bit1 (u32At s 4)) (or-left a b h1)) (off 0x2 (bit2 (u32At s 4)) (or-right a b h1)) (off 0x4 (bit4 (u32At s 4)) (or-right (a || b) c h2))
+      (off 0x8 (bit8 (u32At s 4)) (or-right ((a || b) || c) d h3)) (off 0x10 (bit16 (u32At s 4)) (or-right (((a || b) || c) || d) e h4))
 
   some-set : stringsHold (flagsAt s) ≡ Held → ((k : ℕ) → 1 ≤ k → k ≤ 5 → BitSet s (maskOf k) → ⊥) → ⊥
   some-set h none =
@@ -258,21 +242,21 @@ module _ (s : List ℕ) where
       ⊎-elim
       (λ h3. ⊎-elim
       (λ h2. ⊎-elim
-      (λ h1. ⊎-elim (λ q. none 1 (omega arith) (omega arith) (on 0x1 bit1 q)) (λ q. none 2 (omega arith) (omega arith) (on 0x2 bit2 q)) (or-either a b h1))
-      (λ q. none 3 (omega arith) (omega arith) (on 0x4 bit4 q)) (or-either (a || b) c h2))
-      (λ q. none 4 (omega arith) (omega arith) (on 0x8 bit8 q)) (or-either ((a || b) || c) d h3))
-      (λ q. none 5 (omega arith) (omega arith) (on 0x10 bit16 q)) (or-either (((a || b) || c) || d) e (held-true _ h))
+      (λ h1. ⊎-elim (λ q. none 1 (omega arith) (omega arith) (on 0x1 (bit1 (u32At s 4)) q)) (λ q. none 2 (omega arith) (omega arith) (on 0x2 (bit2 (u32At s 4)) q)) (or-either a b h1))
+      (λ q. none 3 (omega arith) (omega arith) (on 0x4 (bit4 (u32At s 4)) q)) (or-either (a || b) c h2))
+      (λ q. none 4 (omega arith) (omega arith) (on 0x8 (bit8 (u32At s 4)) q)) (or-either ((a || b) || c) d h3))
+      (λ q. none 5 (omega arith) (omega arith) (on 0x10 (bit16 (u32At s 4)) q)) (or-either (((a || b) || c) || d) e (held-true _ h))
 
   utf8-judged : typeOf s ≡ 0 → 8 ≤ length s → (a b : Field) (at : ℕ) → OwnString s 1 a → OwnString s 2 b →
       Free (NlFails s) 15 3 → Strings s (0x1 ∷ 0x2 ∷ []) 8 at → Judged (readUtf8 (flagsAt s) s a b at)
   unfolding readUtf8
   utf8-judged t0 long a b at oa ob free starts =
       string t0 long 3 0x4 (0x1 ∷ 0x2 ∷ []) (0x1 ∷ 0x2 ∷ 0x4 ∷ []) (dnsDomain (flagsAt s)) at (Unterminated 3) _
-      (omega arith) (omega arith) refl refl refl (on 0x4 bit4) (off 0x4 bit4) refl refl free starts (λ c c′ oc free4 starts4.
+      (omega arith) (omega arith) refl refl refl (on 0x4 (bit4 (u32At s 4))) (off 0x4 (bit4 (u32At s 4))) refl refl free starts (λ c c′ oc free4 starts4.
       string t0 long 4 0x8 (0x1 ∷ 0x2 ∷ 0x4 ∷ []) (0x1 ∷ 0x2 ∷ 0x4 ∷ 0x8 ∷ []) (dnsHost (flagsAt s)) c′ (Unterminated 4) _
-      (omega arith) (omega arith) refl refl refl (on 0x8 bit8) (off 0x8 bit8) refl refl free4 starts4 (λ d d′ od free5 starts5.
+      (omega arith) (omega arith) refl refl refl (on 0x8 (bit8 (u32At s 4))) (off 0x8 (bit8 (u32At s 4))) refl refl free4 starts4 (λ d d′ od free5 starts5.
       string t0 long 5 0x10 (0x1 ∷ 0x2 ∷ 0x4 ∷ 0x8 ∷ []) masks (utf8Computer (flagsAt s)) d′ (Unterminated 5) _
-      (omega arith) (omega arith) refl refl refl (on 0x10 bit16) (off 0x10 bit16) refl refl free5 starts5 (λ e e′ oe free6 starts6.
+      (omega arith) (omega arith) refl refl refl (on 0x10 (bit16 (u32At s 4))) (off 0x10 (bit16 (u32At s 4))) refl refl free5 starts5 (λ e e′ oe free6 starts6.
       let c15 = next-check (NlFails s) 15 6 16 refl free6 (λ j l w. omega (arith, w .1, l)) in
       chained Judged _ _ _
       (λ f. first (NlFails s) 16 0 c15 (refl, t0, (e′, starts6, eqb-false e′ (length s) (failed-false _ f))))
@@ -292,10 +276,10 @@ module _ (s : List ℕ) where
       (λ f. first (NlFails s) 14 0 free (refl, t0, none-set f))
       (λ h. let c14 = next-check (NlFails s) 14 0 15 refl free (λ j l w. some-set h (w .2)) in
       string t0 long 1 0x1 [] (0x1 ∷ []) (nbDomain (flagsAt s)) 8 (Unterminated 1) _
-      (omega arith) (omega arith) refl refl refl (on 0x1 bit1) (off 0x1 bit1) refl refl
+      (omega arith) (omega arith) refl refl refl (on 0x1 (bit1 (u32At s 4))) (off 0x1 (bit1 (u32At s 4))) refl refl
       (skip (NlFails s) 15 1 c14 (λ j l w. omega (arith, w .0, l))) refl (λ a a′ oa free2 starts2.
       string t0 long 2 0x2 (0x1 ∷ []) (0x1 ∷ 0x2 ∷ []) (nbComputer (flagsAt s)) a′ (Unterminated 2) _
-      (omega arith) (omega arith) refl refl refl (on 0x2 bit2) (off 0x2 bit2) refl refl free2 starts2 (λ b b′ ob free3 starts3.
+      (omega arith) (omega arith) refl refl refl (on 0x2 (bit2 (u32At s 4))) (off 0x2 (bit2 (u32At s 4))) refl refl free2 starts2 (λ b b′ ob free3 starts3.
       utf8-judged t0 long a b b′ oa ob free3 starts3)))
 
   response-judged : typeOf s ≡ 1 → Free (NlFails s) 14 0 → Judged (readResponse s)

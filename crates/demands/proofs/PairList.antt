@@ -21,9 +21,9 @@ use Rattle.av_pairs.specs.declared.Count.the-variants.{Pairs, Refused as Uncoun
 use Rattle.av_pairs.specs.AvPairs.{left, idAt, pairOf, stepAt, endOf, onStep, pairsFrom, stopFrom, pairsOf, checkPairs, countPairs}
 use Rattle.demands.specs.PairList.{idOf, sizeOf, nextOf, SizeAllowed, PairAt, EndAt, WellFormed, end, pair, Holds, empty, listed, Fails10, Fails11, Fails12, FaultAt, fault10, fault11, fault12, fault13, FirstFault, here, later}
 use Rattle.demands.specs.TakenExactly.{CountRefused, PairsTaken, PairsRefused}
-use Rattle.demands.proofs.Message.{true-not-false, both-ways, failed-false, held-true}
 use Rattle.demands.proofs.Chain.{chained}
 use Rattle.wire.proofs.Stands.{and-left, and-right, and-both}
+use Rattle.demands.proofs.Bools.{true-not-false, both-ways, failed-false, held-true, or-left, or-right, or-either}
 
 -- a test that an id other than the asked one passes
 implied : (a b : Bool) → implies a b ≡ true → a ≡ true → b ≡ true
@@ -33,18 +33,6 @@ implied false b h p = absurd (true-not-false (sym p))
 to-imply : (a b : Bool) → (a ≡ true → b ≡ true) → implies a b ≡ true
 to-imply true b h = h refl
 to-imply false b h = refl
-
-pub or-left : (a b : Bool) → (a || b) ≡ false → a ≡ false
-or-left true b h = h
-or-left false b h = refl
-
-pub or-right : (a b : Bool) → (a || b) ≡ false → b ≡ false
-or-right true b h = absurd (true-not-false h)
-or-right false b h = h
-
-pub or-either : (a b : Bool) → (a || b) ≡ true → (a ≡ true) ⊎ (b ≡ true)
-or-either true b h = inl refl
-or-either false b h = inr h
 
 -- check 13's question is document 01's
 module _ (a : AvId) where

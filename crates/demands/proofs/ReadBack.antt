@@ -8,12 +8,10 @@ use lib.Dec.{leb, ltb, eqb}
 use lib.ListN.{length, take, drop, length-append}
 use lib.Seq.{take-append-seam, drop-append-seam}
 use borrow.Author.Tests.{ltb-false, lt-ltb, le-ltb, le-leb, eq-eqb}
-use Rattle.wire.specs.declared.check.Checked.{Checked}
-use Rattle.wire.specs.declared.check.Checked.the-variants.{Held, Failed}
+use Rattle.wire.specs.declared.check.Checked.the-variants.{Held}
 use Rattle.wire.specs.declared.check.Verdict.{Verdict}
 use Rattle.wire.specs.declared.check.Verdict.the-variants.{Clear, Refused as Not}
 use Rattle.wire.specs.declared.field.Field.{Field}
-use Rattle.wire.specs.declared.refusal.Refusal.{Refusal}
 use Rattle.wire.specs.declared.refusal.Refusal.the-variants.{NoRoom, ZeroInString}
 use Rattle.wire.specs.Check.{checked, after}
 use Rattle.wire.specs.Field.{noField, fieldBytes}
@@ -31,8 +29,8 @@ use Rattle.nl_auth.specs.Flags.{nbDomain, nbComputer, dnsDomain, dnsHost, utf8C
 use Rattle.nl_auth.specs.NlAuth.{beforeZero, holdsZero, stringAt, stringUnder, flagsAt, readUtf8, emptyStrings, readRequest, readResponse, readNlAuth}
 use Rattle.nl_auth.specs.Writing.{headBytes, stringBytes, bytesUnder, utf8Bytes, requestBytes, responseBytes, noZero, checkZeros, checkRequest, requestAnswer, requestOut, responseAnswer, responseOut}
 use Rattle.demands.specs.ReadBack.{NlRequestReadsBack, ResponseBack, NlResponseReadsBack}
-use Rattle.demands.proofs.Message.{true-not-false, held-true}
 use Rattle.demands.proofs.Kept.{request-holds}
+use Rattle.demands.proofs.Bools.{true-not-false, held-true, after-held, bit1, bit2, bit4, bit8, bit16}
 
 -- ---- one string
 
@@ -89,10 +87,6 @@ scan-bytes s pre x rest false e h = absurd (true-not-false (sym h))
 -- one group more stands before the rest
 regroup : (s p y z : List ℕ) → s ≡ p ++ (y ++ z) → s ≡ (p ++ y) ++ z
 regroup s p y z e = e ∙ sym (append-assoc p y z)
-
-after-held : (c : Checked) (e : Refusal) (x : Verdict) → after c (Not e) x ≡ Clear → (c ≡ Held) × (x ≡ Clear)
-after-held Held e x h = (refl, h)
-after-held Failed e x h = (cc, cc)
 
 no-zero : (b : Bool) (x : List ℕ) → noZero (b, x) ≡ Held → b ≡ true → holdsZero x ≡ false
 no-zero true x h e = go (holdsZero x) (held-true _ h) where
@@ -226,30 +220,15 @@ nl-request-reads-back out flags a b c d e n h =
       read = read-back w a b c d e (low (flags .bits)) (r .strings) (r .zeros) (r .size);
       message-type = refl;
       flags-same = refl;
-      a-same = λ q. scan-bytes (requestBytes w a b c d e) (headBytes 0 w) a _ (nbDomain w) (at0 w a b c d e) (bit 0x1 bit1 q);
-      b-same = λ q. scan-bytes (requestBytes w a b c d e) (pre1 w a) b _ (nbComputer w) (at1 w a b c d e) (bit 0x2 bit2 q);
-      c-same = λ q. scan-bytes (requestBytes w a b c d e) (pre2 w a b) c _ (dnsDomain w) (at2 w a b c d e) (bit 0x4 bit4 q);
-      d-same = λ q. scan-bytes (requestBytes w a b c d e) (pre3 w a b c) d _ (dnsHost w) (at3 w a b c d e) (bit 0x8 bit8 q);
-      e-same = λ q. scan-bytes (requestBytes w a b c d e) (pre4 w a b c d) e _ (utf8Computer w) (at4 w a b c d e) (bit 0x10 bit16 q);
+      a-same = λ q. scan-bytes (requestBytes w a b c d e) (headBytes 0 w) a _ (nbDomain w) (at0 w a b c d e) (bit 0x1 (bit1 (flags .bits)) q);
+      b-same = λ q. scan-bytes (requestBytes w a b c d e) (pre1 w a) b _ (nbComputer w) (at1 w a b c d e) (bit 0x2 (bit2 (flags .bits)) q);
+      c-same = λ q. scan-bytes (requestBytes w a b c d e) (pre2 w a b) c _ (dnsDomain w) (at2 w a b c d e) (bit 0x4 (bit4 (flags .bits)) q);
+      d-same = λ q. scan-bytes (requestBytes w a b c d e) (pre3 w a b c) d _ (dnsHost w) (at3 w a b c d e) (bit 0x8 (bit8 (flags .bits)) q);
+      e-same = λ q. scan-bytes (requestBytes w a b c d e) (pre4 w a b c d) e _ (utf8Computer w) (at4 w a b c d e) (bit 0x10 (bit16 (flags .bits)) q);
     })
   where
     low : (v : ℕ) → v % 0x20 % 32 ≡ v % 0x20
     low v = omega arith
-
-    bit1 : flags .bits % 0x20 / 0x1 % 2 ≡ flags .bits / 0x1 % 2
-    bit1 = omega arith
-
-    bit2 : flags .bits % 0x20 / 0x2 % 2 ≡ flags .bits / 0x2 % 2
-    bit2 = omega arith
-
-    bit4 : flags .bits % 0x20 / 0x4 % 2 ≡ flags .bits / 0x4 % 2
-    bit4 = omega arith
-
-    bit8 : flags .bits % 0x20 / 0x8 % 2 ≡ flags .bits / 0x8 % 2
-    bit8 = omega arith
-
-    bit16 : flags .bits % 0x20 / 0x10 % 2 ≡ flags .bits / 0x10 % 2
-    bit16 = omega arith
 
     bit : (m : ℕ) → flags .bits % 0x20 / m % 2 ≡ flags .bits / m % 2 → eqb (flags .bits / m % 2) 1 ≡ true → eqb (flags .bits % 0x20 / m % 2) 1 ≡ true
     bit m e q = ap (λ (k : ℕ). eqb k 1) e ∙ q

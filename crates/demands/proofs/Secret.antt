@@ -23,7 +23,7 @@ use Rattle.line.specs.Line.{authNames, authText, authLine, authenticateLine, li
 use Rattle.demands.specs.Bench.{p1}
 use Rattle.demands.specs.Ignored.{SameBytes}
 use Rattle.demands.specs.Message.{authenticate, lenOf, offsetOf, Nonempty, Covers, Fails}
-use Rattle.demands.specs.Secret.{Secret, secret-field, mic, DifferInSecrets, SamePublic, SecretRead, p1Other, SecretExample}
+use Rattle.demands.specs.Secret.{Secret, secret-field, mic, DifferInSecrets, SecretRead, p1Other, SecretExample}
 use Rattle.demands.proofs.Alike.{same-part, same16, same32}
 use Rattle.demands.proofs.Message.{Stands}
 use Rattle.demands.proofs.OwnBytes.{taken-answer, none-fails}

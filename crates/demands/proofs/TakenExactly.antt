@@ -30,9 +30,10 @@ use Rattle.demands.specs.Order.{First}
 use Rattle.demands.specs.Message.{authenticate, Nonempty, Covers, Fails}
 use Rattle.demands.specs.TakenExactly.{IsTaken, RefusedWith, AuthenticateTaken, AuthenticateRefused}
 use Rattle.demands.proofs.Order.{Free, only-first, skip}
-use Rattle.demands.proofs.Message.{Stands, true-not-false, failed-false, held-true, ends-failed, ends-held, begins-failed, begins-held, even-failed, even-held, share-true, share-false}
+use Rattle.demands.proofs.Message.{Stands, ends-failed, ends-held, begins-failed, begins-held, even-failed, even-held, share-true, share-false}
 use Rattle.demands.proofs.Message as fields
 use Rattle.demands.proofs.Chain.{JudgedV, JudgedH, Links, over-judged, head-judged, then, beyond}
+use Rattle.demands.proofs.Bools.{true-not-false, failed-false, held-true}
 
 module _ (s : List ℕ) where
   -- each field of the reader is its head's
