@@ -12,32 +12,21 @@ use std::thread;
 use compare::{cases, compare};
 use programs::Program;
 
-const USAGE: &str = "usage: compare NTLM_LINE NL_AUTH_LINE [SEED [N]], SEED and N being numbers";
-
-/// Chosen once, so that every run of the gate sees the same messages.
-const SEED: u64 = 20_261_115;
-
-/// How many messages are drawn after those at the boundaries.
-const DRAWN: usize = 2_500;
+const USAGE: &str = "usage: compare NTLM_LINE NL_AUTH_LINE SEED N";
+const NOT_NUMBERS: &str = "SEED and N are whole numbers, as in make compare SEED=7 N=1000";
 
 /// More threads than processors would only wait for each other.
 const MAX_THREADS: usize = 4;
 
 fn main() -> ExitCode {
     let args: Vec<_> = env::args_os().skip(1).collect();
-    let (ntlm, nl_auth, numbers) = match args.as_slice() {
-        [ntlm, nl_auth, numbers @ ..] if numbers.len() <= 2 => (ntlm, nl_auth, numbers),
-        _ => return fail(2, &USAGE),
-    };
-    let number = |at: usize, usual: u64| match numbers.get(at) {
-        None => Some(usual),
-        Some(word) => word.to_str()?.parse().ok(),
-    };
-    let (Some(seed), Some(drawn)) = (number(0, SEED), number(1, DRAWN as u64)) else {
+    let [ntlm, nl_auth, seed, drawn] = args.as_slice() else {
         return fail(2, &USAGE);
     };
-    let Ok(drawn) = usize::try_from(drawn) else {
-        return fail(2, &USAGE);
+    let seed: Option<u64> = seed.to_str().and_then(|word| word.parse().ok());
+    let drawn: Option<usize> = drawn.to_str().and_then(|word| word.parse().ok());
+    let (Some(seed), Some(drawn)) = (seed, drawn) else {
+        return fail(2, &NOT_NUMBERS);
     };
     let no_words: [&str; 0] = [];
     let ntlm = Program::new(Path::new(ntlm), &no_words);

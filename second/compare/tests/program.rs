@@ -25,17 +25,18 @@ fn a_missing_program_is_one_plain_line() {
 
 #[test]
 fn wrong_words_are_status_2() {
-    let cases: [&[&str]; 6] = [
-        &[],
-        &["a"],
-        &["a", "b", "x"],
-        &["a", "b", "1", "x"],
-        &["a", "b", "-1"],
-        &["a", "b", "1", "2", "3"],
+    let cases: [(&[&str], &str); 6] = [
+        (&[], "usage: compare "),
+        (&["a", "b", "1"], "usage: compare "),
+        (&["a", "b", "1", "2", "3"], "usage: compare "),
+        (&["a", "b", "x", "1"], "SEED and N are whole numbers"),
+        (&["a", "b", "1", "-1"], "SEED and N are whole numbers"),
+        (&["a", "b", "", "1"], "SEED and N are whole numbers"),
     ];
-    for args in cases {
+    for (args, said) in cases {
         let (status, out, err) = compare(args);
         assert_eq!((status, out.as_str()), (Some(2), "0 passed, 1 failed\n"));
-        assert!(err.starts_with("usage: compare "), "{err}");
+        assert!(err.starts_with(said), "{err}");
+        assert_eq!(err.lines().count(), 1);
     }
 }
