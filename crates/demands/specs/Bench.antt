@@ -13,9 +13,10 @@ use Rattle.wire.specs.Head.{signatureHolds, readHead}
 use Rattle.wire.specs.Number.{standsAt}
 use Rattle.wire.specs.Refusal.{numberOf, fieldOf}
 use Rattle.challenge.specs.Challenge.{readChallenge, readingOf as challengeReadingOf, fieldsOf}
-use Rattle.line.specs.Digits.{hexDigit, hex, decimalSize, decimal}
-use Rattle.line.specs.Name.{escape, unitText, textOf, nameText}
-use Rattle.line.specs.Words.{numberWord, nameWord, stringWord, flagsWord, setWord, startText, micWord, kindWord, timeText, timeWord}
+use Rattle.word.specs.Digits.{hexDigit, hex, decimalSize, decimal}
+use Rattle.word.specs.Name.{escape, unitText, textOf, nameText}
+use Rattle.word.specs.Words.{numberWord, nameWord, stringWord, flagsWord, setWord, startText, micWord, kindWord}
+use Rattle.line.specs.Line.{timeText, timeWord}
 use Rattle.line.specs.Line.{refusedText, refusedLine, authNames, authLengths, authEnd, authText, authenticateLine, nlStart, nlOem, nlUtf8, nlText, nlAuthLine, chalEnd, chalText, challengeLine, ntlmLine, lineAnswer, lineAfter, shownLine}
 use Rattle.nl_auth.specs.NlAuth.{readNlAuth, readRequest, readUtf8, readResponse, stringUnder, stringAt}
 use Rattle.av_pairs.specs.declared.Count.{Count}

@@ -28,10 +28,11 @@ use Rattle.challenge.specs.declared.Timestamp.{Timestamp}
 use Rattle.challenge.specs.declared.Timestamp.the-variants.{Time, Nothing as NoTime}
 use Rattle.challenge.specs.Challenge.{fieldsOf, infoOf, readingOf, readChallenge, timestampIn}
 use Rattle.challenge.proofs.Laws.{eight}
-use Rattle.line.specs.Words.{Room, numberWord, nameWord, timeText, timeWord}
+use Rattle.word.specs.Words.{Room, numberWord, nameWord}
+use Rattle.line.specs.Line.{timeText, timeWord}
 use Rattle.line.specs.Line.{refusedLine, chalEnd, chalText, challengeLine}
-use Rattle.line.proofs.Labels.{start-size}
-use Rattle.line.proofs.Numbers.{length-hex}
+use Rattle.word.proofs.Labels.{start-size}
+use Rattle.word.proofs.Numbers.{length-hex}
 
 -- ---- the timestamp
 

@@ -34,9 +34,9 @@ use Rattle.nl_auth.specs.declared.reading.Reading.the-variants.{Taken as NlTake
 use Rattle.nl_auth.specs.Flags.{nbDomain, nbComputer, dnsDomain, dnsHost, utf8Computer}
 use Rattle.nl_auth.specs.NlAuth.{readNlAuth}
 use Rattle.line.specs.declared.nl.Given.{Given}
-use Rattle.line.specs.Words.{Room, numberWord, kindWord, startText}
+use Rattle.word.specs.Words.{Room, numberWord, kindWord, startText}
 use Rattle.line.specs.Line.{refusedText, refusedLine, authenticateLine, nlStart, nlOem, nlUtf8, givenBy, nlText, nlAuthLine, authNames, authLengths, authEnd, authText, lineHolds, lineAnswer, lineAfter}
-use Rattle.line.proofs.Labels.{flags-word-size, start-size, mic-size}
+use Rattle.word.proofs.Labels.{flags-word-size, start-size, mic-size}
 
 -- ---- lengths
 

@@ -1,4 +1,1 @@
-pub mod Digits
-pub mod Name
-pub mod Words
 pub mod Line

@@ -1,7 +1,7 @@
 -- The log lines of document 01, and what the call of a line answers and leaves in the lent output.
 use Prim.Native.Nat.{ℕ}
 use mathlib.Core.Bool.{Bool, _&&_, cond}
-use mathlib.Core.List.{List, _++_}
+use mathlib.Core.List.{List, [], _++_}
 use lib.Dec.{leb, eqb}
 use lib.ListN.{length}
 use Rattle.text.specs.Text.{ascii}
@@ -32,9 +32,11 @@ use Rattle.challenge.specs.declared.Challenge.{Challenge}
 use Rattle.challenge.specs.declared.Reading.{Reading as ChalReading}
 use Rattle.challenge.specs.declared.Reading.the-variants.{Taken as ChalTaken, Refused as ChalRefused}
 use Rattle.challenge.specs.declared.Timestamp.{Timestamp}
+use Rattle.challenge.specs.declared.Timestamp.the-variants.{Time, Nothing}
 use Rattle.challenge.specs.Challenge.{infoOf, timestampIn, readChallenge}
 use Rattle.line.specs.declared.nl.Given.{Given}
-use Rattle.line.specs.Words.{numberWord, nameWord, stringWord, flagsWord, startText, micWord, kindWord, timeWord, lineEnd}
+use Rattle.word.specs.Digits.{hex}
+use Rattle.word.specs.Words.{numberWord, nameWord, stringWord, flagsWord, startText, micWord, kindWord, lineEnd}
 
 -- ---- refused D field=D
 
@@ -125,6 +127,15 @@ unfoldable pub nlAuthLine : List ℕ → List ℕ
 nlAuthLine s = nlLine s (readNlAuth s)
 
 -- ---- chal flags=H set=S target=N pairs=D time=T
+
+-- T
+unfoldable pub timeText : ℕ → List ℕ
+timeText t = ascii " time=" ++ hex 16 t
+
+-- with no timestamp the word is left out
+unfoldable pub timeWord : Timestamp → List ℕ
+timeWord (Time t) = timeText t
+timeWord Nothing = []
 
 unfoldable pub chalEnd : ℕ → Timestamp → List ℕ
 chalEnd pairs time = numberWord (ascii " pairs=") pairs ++ (timeWord time ++ lineEnd)

@@ -1,11 +1,8 @@
 // Log lines: one for each message read.
 mod auth;
 mod chal;
-mod digits;
-mod name;
 mod nl;
 mod refused;
-mod words;
 
 ghost use mathlib.Core.Path.{_≡_};
 ghost use Rattle.line.specs.Line.{authenticateLine, nlAuthLine, challengeLine, isChallenge, ntlmLine, lineAnswer, lineAfter, shownLine};

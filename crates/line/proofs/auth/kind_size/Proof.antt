@@ -1,6 +1,6 @@
 -- `kind_size` is the length of the last word.
 use borrow.Author.Needs.{needs}
-use Rattle.line.proofs.Labels.{kind-none, kind-some}
+use Rattle.word.proofs.Labels.{kind-none, kind-some}
 use Rattle.line.proofs.auth.kind_size.Statement.{statement}
 use Rattle.line.proofs.auth.kind_size.Tie as tie
 

@@ -1,6 +1,6 @@
 -- `lengths_size` is the length of the words for LM response, NT response and key.
 use borrow.Author.Needs.{needs}
-use Rattle.line.proofs.Rooms.{sum}
+use Rattle.word.proofs.Rooms.{sum}
 use Rattle.line.proofs.auth.lengths_size.Statement.{statement}
 use Rattle.line.proofs.auth.lengths_size.Tie as tie
 use Rattle.line.specs.Line.{authLengths}

@@ -1,6 +1,6 @@
 -- `names_size` is the length of the names' words.
 use borrow.Author.Needs.{needs}
-use Rattle.line.proofs.Rooms.{sum}
+use Rattle.word.proofs.Rooms.{sum}
 use Rattle.line.proofs.auth.names_size.Statement.{statement}
 use Rattle.line.proofs.auth.names_size.Tie as tie
 use Rattle.line.specs.Line.{authNames}

@@ -1,10 +1,10 @@
 -- `put_kind` writes the last word.
 use borrow.Author.Needs.{needs}
 use native.Mathlib.Omega.{arith}
-use Rattle.line.proofs.Labels.{kind-none-room, kind-some-room, choice}
+use Rattle.word.proofs.Labels.{kind-none-room, kind-some-room, choice}
 use Rattle.line.proofs.auth.put_kind.Statement.{statement}
 use Rattle.line.proofs.auth.put_kind.Tie as tie
-use Rattle.line.specs.Words.{kindWord}
+use Rattle.word.specs.Words.{kindWord}
 
 pub put-kind-spec : {M : Type 1} → statement M
 unfolding kindWord

@@ -1,7 +1,7 @@
 -- `put_lengths` writes the lengths of LM response, NT response and key.
 use borrow.Author.Needs.{needs}
 use native.Mathlib.Omega.{arith}
-use Rattle.line.proofs.Rooms.{parts3}
+use Rattle.word.proofs.Rooms.{parts3}
 use Rattle.line.proofs.auth.put_lengths.Statement.{statement}
 use Rattle.line.proofs.auth.put_lengths.Tie as tie
 use Rattle.line.specs.Line.{authLengths}

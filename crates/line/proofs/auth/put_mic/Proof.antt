@@ -1,10 +1,10 @@
 -- `put_mic` writes 0 or 1.
 use borrow.Author.Needs.{needs}
 use native.Mathlib.Omega.{arith}
-use Rattle.line.proofs.Labels.{mic-room, choice}
+use Rattle.word.proofs.Labels.{mic-room, choice}
 use Rattle.line.proofs.auth.put_mic.Statement.{statement}
 use Rattle.line.proofs.auth.put_mic.Tie as tie
-use Rattle.line.specs.Words.{micWord}
+use Rattle.word.specs.Words.{micWord}
 
 pub put-mic-spec : {M : Type 1} → statement M
 unfolding micWord

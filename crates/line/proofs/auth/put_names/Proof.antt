@@ -1,7 +1,7 @@
 -- `put_names` writes the names' words.
 use borrow.Author.Needs.{needs}
 use native.Mathlib.Omega.{arith}
-use Rattle.line.proofs.Rooms.{parts3}
+use Rattle.word.proofs.Rooms.{parts3}
 use Rattle.line.proofs.auth.put_names.Statement.{statement}
 use Rattle.line.proofs.auth.put_names.Tie as tie
 use Rattle.line.specs.Line.{authNames}

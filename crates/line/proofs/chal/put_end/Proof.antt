@@ -1,7 +1,7 @@
 -- `put_end` writes the last words.
 use borrow.Author.Needs.{needs}
 use native.Mathlib.Omega.{arith}
-use Rattle.line.proofs.Rooms.{parts3}
+use Rattle.word.proofs.Rooms.{parts3}
 use Rattle.line.proofs.chal.put_end.Statement.{statement}
 use Rattle.line.proofs.chal.put_end.Tie as tie
 use Rattle.line.specs.Line.{chalEnd}

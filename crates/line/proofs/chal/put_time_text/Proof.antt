@@ -2,10 +2,10 @@
 use borrow.Author.Needs.{needs}
 use native.Mathlib.Omega.{arith}
 use Rattle.line.proofs.Challenges.{time-text-room}
-use Rattle.line.proofs.Rooms.{then-lent}
+use Rattle.word.proofs.Rooms.{then-lent}
 use Rattle.line.proofs.chal.put_time_text.Statement.{statement}
 use Rattle.line.proofs.chal.put_time_text.Tie as tie
-use Rattle.line.specs.Words.{timeText}
+use Rattle.line.specs.Line.{timeText}
 
 pub put-time-text-spec : {M : Type 1} → statement M
 unfolding timeText

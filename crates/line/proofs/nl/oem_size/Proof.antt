@@ -1,6 +1,6 @@
 -- `oem_size` is the length of the OEM strings' words.
 use borrow.Author.Needs.{needs}
-use Rattle.line.proofs.Rooms.{sum}
+use Rattle.word.proofs.Rooms.{sum}
 use Rattle.line.proofs.nl.oem_size.Statement.{statement}
 use Rattle.line.proofs.nl.oem_size.Tie as tie
 use Rattle.line.specs.Line.{nlOem}

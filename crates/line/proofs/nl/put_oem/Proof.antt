@@ -1,7 +1,7 @@
 -- `put_oem` writes the OEM strings' words.
 use borrow.Author.Needs.{needs}
 use native.Mathlib.Omega.{arith}
-use Rattle.line.proofs.Rooms.{parts}
+use Rattle.word.proofs.Rooms.{parts}
 use Rattle.line.proofs.nl.put_oem.Statement.{statement}
 use Rattle.line.proofs.nl.put_oem.Tie as tie
 use Rattle.line.specs.Line.{nlOem}

@@ -1,7 +1,7 @@
 -- `put_start` writes the words before the strings.
 use borrow.Author.Needs.{needs}
 use native.Mathlib.Omega.{arith}
-use Rattle.line.proofs.Rooms.{parts}
+use Rattle.word.proofs.Rooms.{parts}
 use Rattle.line.proofs.nl.put_start.Statement.{statement}
 use Rattle.line.proofs.nl.put_start.Tie as tie
 use Rattle.line.specs.Line.{nlStart}

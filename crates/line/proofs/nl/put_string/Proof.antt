@@ -1,9 +1,9 @@
 -- `put_string` writes a string's word, or nothing where its bit is clear.
 use borrow.Author.Needs.{needs}
-use Rattle.line.proofs.Labels.{string-room, choice}
+use Rattle.word.proofs.Labels.{string-room, choice}
 use Rattle.line.proofs.nl.put_string.Statement.{statement}
 use Rattle.line.proofs.nl.put_string.Tie as tie
-use Rattle.line.specs.Words.{stringWord}
+use Rattle.word.specs.Words.{stringWord}
 use Rattle.place.proofs.Laws.{nothing}
 
 pub put-string-spec : {M : Type 1} → statement M

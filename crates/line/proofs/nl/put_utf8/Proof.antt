@@ -1,7 +1,7 @@
 -- `put_utf8` writes the UTF-8 strings' words.
 use borrow.Author.Needs.{needs}
 use native.Mathlib.Omega.{arith}
-use Rattle.line.proofs.Rooms.{parts3}
+use Rattle.word.proofs.Rooms.{parts3}
 use Rattle.line.proofs.nl.put_utf8.Statement.{statement}
 use Rattle.line.proofs.nl.put_utf8.Tie as tie
 use Rattle.line.specs.Line.{nlUtf8}

@@ -1,6 +1,6 @@
 -- `string_size` is the length of a string's word.
 use borrow.Author.Needs.{needs}
-use Rattle.line.proofs.Labels.{string-size, string-none}
+use Rattle.word.proofs.Labels.{string-size, string-none}
 use Rattle.line.proofs.nl.string_size.Statement.{statement}
 use Rattle.line.proofs.nl.string_size.Tie as tie
 

@@ -1,6 +1,6 @@
 -- `utf8_size` is the length of the UTF-8 strings' words.
 use borrow.Author.Needs.{needs}
-use Rattle.line.proofs.Rooms.{sum}
+use Rattle.word.proofs.Rooms.{sum}
 use Rattle.line.proofs.nl.utf8_size.Statement.{statement}
 use Rattle.line.proofs.nl.utf8_size.Tie as tie
 use Rattle.line.specs.Line.{nlUtf8}

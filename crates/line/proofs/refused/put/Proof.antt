@@ -1,7 +1,7 @@
 -- `put` writes the line.
 use borrow.Author.Needs.{needs}
 use native.Mathlib.Omega.{arith}
-use Rattle.line.proofs.Rooms.{parts3}
+use Rattle.word.proofs.Rooms.{parts3}
 use Rattle.line.proofs.refused.put.Statement.{statement}
 use Rattle.line.proofs.refused.put.Tie as tie
 use Rattle.line.specs.Line.{refusedText}

@@ -1,6 +1,6 @@
 -- `size` is the length of the line.
 use borrow.Author.Needs.{needs}
-use Rattle.line.proofs.Rooms.{sum}
+use Rattle.word.proofs.Rooms.{sum}
 use Rattle.line.proofs.refused.size.Statement.{statement}
 use Rattle.line.proofs.refused.size.Tie as tie
 use Rattle.line.specs.Line.{refusedText}

@@ -1,0 +1,28 @@
+-- Laws of room in the output and of lengths, for texts that are made of parts.
+use Prim.Native.Nat.{ℕ, _+_, _-_, _≤_}
+use mathlib.Core.Path.{_≡_, refl, sym, ap, _∙_}
+use mathlib.Core.Bool.{Bool, true, false, cond}
+use mathlib.Core.List.{List, [], _∷_, _++_}
+use native.Mathlib.Omega.{arith}
+use borrow.Rule.Slice.PartMut.{putMid}
+use lib.ListN.{length, take, drop, length-append, length-take, length-drop}
+use Rattle.place.specs.Place.{Wrote}
+use Rattle.place.proofs.Laws.{and-then, kept, in-part}
+use Rattle.word.specs.Words.{Room}
+
+-- a text's room by the lengths of its parts
+module _ (at n : ℕ) where
+  pub parts : (xs ys : List ℕ) → Room at (xs ++ ys) n → at + (length xs + length ys) ≤ n
+  parts xs ys r = omega (arith, length-append xs ys, r .fits)
+
+  pub parts3 : (xs ys zs : List ℕ) → Room at (xs ++ (ys ++ zs)) n → at + (length xs + (length ys + length zs)) ≤ n
+  parts3 xs ys zs r = omega (arith, length-append xs (ys ++ zs), length-append ys zs, r .fits)
+
+-- a text's length by its parts
+pub sum : (xs ys : List ℕ) (m n : ℕ) → m ≡ length xs → n ≡ length ys → m + n ≡ length (xs ++ ys)
+sum xs ys m n e f = omega (arith, length-append xs ys)
+
+-- what is written at a place, and then what a writer put into its own part of the output from there on
+pub then-lent : (l k m zs xs ys : List ℕ) (i p q r : ℕ) → Wrote l k i p xs →
+    Wrote (take (length k - p) (drop p k)) zs 0 r ys → m ≡ putMid p (length k - p) k zs → q ≡ p + r → Wrote l m i q (xs ++ ys)
+then-lent l k m zs xs ys i p q r v w e f = and-then l k m xs ys i p q v (in-part k m zs ys p q r w e f)

@@ -1,0 +1,123 @@
+// A name in a log line, unit by unit.
+ghost use mathlib.Core.Path.{_≡_};
+ghost use Prim.Native.Nat.{_+_, _*_, _≤_, _<_};
+ghost use lib.ListN.{length};
+ghost use Rattle.wire.specs.Field.{fieldBytes};
+ghost use Rattle.place.specs.Place.{Wrote};
+ghost use mathlib.Core.List.{_∷_};
+ghost use Rattle.word.specs.Digits.{hex};
+ghost use Rattle.word.specs.Name.{plain, unitText, nameText, unitWidth, unitAt};
+use crate::digits::put_hex;
+use place::Place;
+use wire::field::Field;
+use wire::number::u16_at;
+
+// Whether a unit stands for itself.
+fn is_plain(u: u16) -> bool
+    ensures { λ r. ⌜ r ≡ plain u ⌝ }
+{
+    (0x21 <= u) & (u <= 0x7E) & (u != 0x5C)
+}
+
+// How many bytes a unit has.
+fn unit_width(unicode: bool) -> usize
+    ensures { λ r. ⌜ (r ≡ unitWidth unicode) × ((1 ≤ r) × (r ≤ 2)) ⌝ }
+{
+    if unicode {
+        return 2;
+    }
+    1
+}
+
+// The unit at a place of a name.
+fn unit_at(name: &[u8], at: usize, unicode: bool) -> u16
+    requires { ⌜ at + unitWidth unicode ≤ length (now name) ⌝ }
+    ensures { λ r. ⌜ r ≡ unitAt unicode (now (name .entry)) at ⌝ }
+{
+    if unicode {
+        return u16_at(name, at);
+    }
+    name[at] as u16
+}
+
+// How many bytes a unit's text has.
+fn unit_size(u: u16, unicode: bool) -> usize
+    ensures { λ r. ⌜ (r ≡ length (unitText unicode u)) × (r ≤ 6) ⌝ }
+{
+    if is_plain(u) {
+        return 1;
+    }
+    if unicode {
+        return 6;
+    }
+    4
+}
+
+// How many bytes a name's text has.
+fn name_size(name: &[u8], unicode: bool) -> usize
+    requires { ⌜ length (now name) ≤ 65535 ⌝ }
+    ensures { λ r. ⌜ (r ≡ length (nameText unicode (now (name .entry)))) × (r ≤ 6 * 65535) ⌝ }
+{
+    let width = unit_width(unicode);
+    let mut size: usize = 0;
+    let mut i: usize = 0;
+    while i + width <= name.len() {
+        size = size + unit_size(unit_at(name, i, unicode), unicode);
+        i = i + width;
+    }
+    size
+}
+
+// A backslash, a letter and so many hex digits.
+fn put_escape(p: Place, out: &mut [u8], letter: u8, u: u16, k: usize) -> Place
+    requires { ⌜ p .at + (2 + k) ≤ length (now out) ⌝ }
+    ensures { λ r. ⌜ Wrote (now (out .entry)) (now (out .exit)) (p .at) (r .at) (0x5C ∷ letter ∷ hex k u) ⌝ }
+{
+    let p = p.put_u8(out, b'\\');
+    let p = p.put_u8(out, letter);
+    let at = p.at;
+    let digits = put_hex(&mut out[at..], u as u64, k);
+    Place { at: at + digits.at }
+}
+
+fn put_unit(p: Place, out: &mut [u8], u: u16, unicode: bool) -> Place
+    requires { ⌜ p .at + length (unitText unicode u) ≤ length (now out) ⌝ }
+    ensures { λ r. ⌜ Wrote (now (out .entry)) (now (out .exit)) (p .at) (r .at) (unitText unicode u) ⌝ }
+{
+    if is_plain(u) {
+        return p.put_u8(out, u as u8);
+    }
+    if unicode {
+        return put_escape(p, out, b'u', u, 4);
+    }
+    put_escape(p, out, b'x', u, 2)
+}
+
+// A name's text, at the start of the output.
+fn put_name(out: &mut [u8], name: &[u8], unicode: bool) -> Place
+    requires { ⌜ length (nameText unicode (now name)) ≤ length (now out) ⌝ }
+    ensures { λ r. ⌜ Wrote (now (out .entry)) (now (out .exit)) 0 (r .at) (nameText unicode (now (name .entry))) ⌝ }
+{
+    let width = unit_width(unicode);
+    let mut p = Place { at: 0 };
+    let mut i: usize = 0;
+    while i + width <= name.len() {
+        p = put_unit(p, out, unit_at(name, i, unicode), unicode);
+        i = i + width;
+    }
+    p
+}
+
+pub fn field_size(msg: &[u8], f: Field, unicode: bool) -> usize
+    ensures { λ r. ⌜ (r ≡ length (nameText unicode (fieldBytes (now (msg .entry)) f))) × (r ≤ 6 * 65535) ⌝ }
+{
+    name_size(f.bytes(msg), unicode)
+}
+
+// The text of the name that a field holds, at the start of the output.
+pub fn put_field(out: &mut [u8], msg: &[u8], f: Field, unicode: bool) -> Place
+    requires { ⌜ length (nameText unicode (fieldBytes (now msg) f)) ≤ length (now out) ⌝ }
+    ensures { λ r. ⌜ Wrote (now (out .entry)) (now (out .exit)) 0 (r .at) (nameText unicode (fieldBytes (now (msg .entry)) f)) ⌝ }
+{
+    put_name(out, f.bytes(msg), unicode)
+}
