@@ -1,13 +1,12 @@
 -- Laws of room in the output and of lengths, for texts that are made of parts.
 use Prim.Native.Nat.{ℕ, _+_, _-_, _≤_}
-use mathlib.Core.Path.{_≡_, refl, sym, ap, _∙_}
-use mathlib.Core.Bool.{Bool, true, false, cond}
-use mathlib.Core.List.{List, [], _∷_, _++_}
+use mathlib.Core.Path.{_≡_}
+use mathlib.Core.List.{List, _++_}
 use native.Mathlib.Omega.{arith}
 use borrow.Rule.Slice.PartMut.{putMid}
-use lib.ListN.{length, take, drop, length-append, length-take, length-drop}
+use lib.ListN.{length, take, drop, length-append}
 use Rattle.place.specs.Place.{Wrote}
-use Rattle.place.proofs.Laws.{and-then, kept, in-part}
+use Rattle.place.proofs.Laws.{and-then, in-part}
 use Rattle.line.specs.Words.{Room}
 
 -- a text's room by the lengths of its parts

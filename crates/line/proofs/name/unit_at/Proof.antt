@@ -1,5 +1,4 @@
 -- `unit_at` reads the unit at a place.
-use borrow.Author.Needs.{needs}
 use native.Mathlib.Omega.{arith}
 use Rattle.line.proofs.Names.{wide-room, byte-room, wide-unit, byte-unit}
 use Rattle.line.proofs.name.unit_at.Statement.{statement}
