@@ -1,8 +1,8 @@
 -- Laws of CHALLENGE's line.
 use Prim.Native.Nat.{ℕ, _+_, _≤_}
-use mathlib.Core.Path.{_≡_, refl, sym, _∙_}
+use mathlib.Core.Path.{_≡_, sym, _∙_}
 use mathlib.Core.Bool.{Bool}
-use mathlib.Core.List.{List, _++_}
+use mathlib.Core.List.{List}
 use native.Mathlib.Omega.{arith}
 use lib.ListN.{length, length-append}
 use Rattle.text.specs.Text.{ascii}
@@ -56,7 +56,7 @@ module _ (l : List ℕ) (f : Found) (e : f ≡ firstPair (record { id = 7 }) l) 
 
 time-text-size : (t : ℕ) → length (timeText t) ≡ 22
 unfolding timeText
-time-text-size t = simp length-hex
+time-text-size t = simp (length-append, length-hex)
 
 pub time-text-room : (at n t : ℕ) → Room at (timeText t) n → at + 22 ≤ n
 time-text-room at n t r = omega (arith, r .fits, time-text-size t)

@@ -1,9 +1,8 @@
 -- Laws of the lines' lengths, and of the call of a line.
 use Prim.Native.Nat.{ℕ, _+_, _≤_}
-use mathlib.Core.Path.{_≡_, refl, sym, ap, _∙_}
-use mathlib.Core.Bool.{Bool, true, false}
-use mathlib.Core.List.{List, _++_}
-use native.Mathlib.Nat.{zero-add}
+use mathlib.Core.Path.{_≡_, refl, sym, _∙_}
+use mathlib.Core.Bool.{Bool}
+use mathlib.Core.List.{List}
 use native.Mathlib.Omega.{arith}
 use lib.Dec.{leb}
 use lib.ListN.{length, length-append}
@@ -11,7 +10,6 @@ use borrow.Author.Tests.{leb-true}
 use Rattle.text.specs.Text.{ascii}
 use Rattle.wire.specs.declared.check.Checked.{Checked}
 use Rattle.wire.specs.declared.check.Checked.the-variants.{Held, Failed}
-use Rattle.wire.specs.declared.check.Verdict.{Verdict}
 use Rattle.wire.specs.declared.check.Verdict.the-variants.{Clear, Refused as Not}
 use Rattle.wire.specs.declared.refusal.Refusal.{Refusal}
 use Rattle.wire.specs.declared.refusal.Refusal.the-variants.{NoRoom}
@@ -19,7 +17,7 @@ use Rattle.wire.proofs.Laws.{held-true}
 use Rattle.place.specs.declared.written.Written.{Written}
 use Rattle.place.specs.declared.written.Written.the-variants.{Length, Refused}
 use Rattle.place.specs.Place.{Wrote}
-use Rattle.place.specs.Written.{roomHolds, answered, outAfter}
+use Rattle.place.specs.Written.{roomHolds}
 use Rattle.place.proofs.Writings.{written, stored}
 use Rattle.wire.specs.Flags.{unicode}
 use Rattle.wire.specs.Refusal.{numberOf, fieldOf}

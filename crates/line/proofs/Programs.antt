@@ -14,8 +14,8 @@ use Rattle.wire.specs.Check.{checked, after}
 use Rattle.wire.specs.Number.{u32At}
 use Rattle.place.specs.declared.written.Written.{Written}
 use Rattle.place.specs.declared.written.Written.the-variants.{Length, Refused}
-use Rattle.place.specs.Written.{answered, outAfter}
-use Rattle.line.specs.Line.{refusedLine, authenticateLine, challengeLine, isChallenge, ntlmLine, lineHolds, lineAnswer, lineAfter, shownLine}
+use Rattle.place.specs.Written.{answered}
+use Rattle.line.specs.Line.{refusedLine, authenticateLine, challengeLine, isChallenge, ntlmLine, lineAnswer, lineAfter, shownLine}
 
 -- ---- CHALLENGE or AUTHENTICATE
 

@@ -5,11 +5,6 @@ ghost use lib.ListN.{length};
 ghost use Rattle.place.specs.Place.{Wrote};
 ghost use Rattle.word.specs.Words.{Room, micWord, kindWord};
 ghost use Rattle.line.specs.Line.{authNames, authLengths, authEnd, authText, lineAnswer, lineAfter};
-use word::words::name_word_size;
-use word::words::number_word_size;
-use word::words::put_name_word;
-use word::words::put_number_word;
-use word::words::put_start;
 use authenticate::Authenticate;
 use place::Place;
 use place::written::Written;
@@ -17,6 +12,11 @@ use place::written::room_holds;
 use wire::check::Checked;
 use wire::field::Field;
 use wire::refusal::Refusal;
+use word::words::name_word_size;
+use word::words::number_word_size;
+use word::words::put_name_word;
+use word::words::put_number_word;
+use word::words::put_start;
 
 fn names_size(msg: &[u8], domain: Field, user: Field, workstation: Field, unicode: bool) -> usize
     ensures { λ r. ⌜ (r ≡ length (authNames unicode (now (msg .entry)) domain user workstation)) × (r ≤ 1200000) ⌝ }

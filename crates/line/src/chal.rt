@@ -8,13 +8,7 @@ ghost use Rattle.place.specs.Place.{Wrote};
 ghost use Rattle.word.specs.Words.{Room};
 ghost use Rattle.line.specs.Line.{timeText, timeWord};
 ghost use Rattle.line.specs.Line.{chalEnd, chalText, challengeLine, lineAnswer, lineAfter};
-use word::digits::put_hex;
 use crate::refused;
-use word::words::name_word_size;
-use word::words::number_word_size;
-use word::words::put_name_word;
-use word::words::put_number_word;
-use word::words::put_start;
 use av_pairs::Count;
 use av_pairs::Found;
 use av_pairs::count_pairs;
@@ -28,6 +22,12 @@ use wire::av_id::AvId;
 use wire::check::Checked;
 use wire::number::u64_at;
 use wire::refusal::Refusal;
+use word::digits::put_hex;
+use word::words::name_word_size;
+use word::words::number_word_size;
+use word::words::put_name_word;
+use word::words::put_number_word;
+use word::words::put_start;
 
 // The timestamp of a list of pairs, as a number.
 fn time_in(list: &[u8]) -> Timestamp

@@ -6,11 +6,6 @@ ghost use Rattle.wire.specs.Field.{fieldBytes};
 ghost use Rattle.place.specs.Place.{Wrote};
 ghost use Rattle.word.specs.Words.{Room, stringWord};
 ghost use Rattle.line.specs.Line.{nlStart, nlOem, nlUtf8, givenBy, nlText, lineAnswer, lineAfter};
-use word::words::name_word_size;
-use word::words::number_word_size;
-use word::words::put_flags_word;
-use word::words::put_name_word;
-use word::words::put_number_word;
 use nl_auth::flags::NlAuthFlags;
 use nl_auth::reading::NlAuth;
 use place::Place;
@@ -19,6 +14,11 @@ use place::written::room_holds;
 use wire::check::Checked;
 use wire::field::Field;
 use wire::refusal::Refusal;
+use word::words::name_word_size;
+use word::words::number_word_size;
+use word::words::put_flags_word;
+use word::words::put_name_word;
+use word::words::put_number_word;
 
 // Which strings a message gives, by the letters of their bits.
 pub(crate) struct Given {

@@ -5,13 +5,13 @@ ghost use lib.ListN.{length};
 ghost use Rattle.place.specs.Place.{Wrote};
 ghost use Rattle.word.specs.Words.{Room};
 ghost use Rattle.line.specs.Line.{refusedText, refusedLine, lineAnswer, lineAfter};
-use word::words::number_word_size;
-use word::words::put_number_word;
 use place::Place;
 use place::written::Written;
 use place::written::room_holds;
 use wire::check::Checked;
 use wire::refusal::Refusal;
+use word::words::number_word_size;
+use word::words::put_number_word;
 
 fn size(number: u8, field: u8) -> usize
     ensures { λ r. ⌜ r ≡ length (refusedText number field) ⌝ }

@@ -1,25 +1,25 @@
 -- Laws of a name's text.
 use Prim.Native.Nat.{ℕ, suc, _+_, _-_, _*_, _≤_, _<_}
 use mathlib.Core.Path.{_≡_, refl, sym, ap, _∙_}
-use mathlib.Core.Bool.{Bool, true, false, _&&_, not, cond}
+use mathlib.Core.Bool.{Bool, true, false, cond}
 use mathlib.Core.List.{List, [], _∷_, _++_, append-assoc, append-nil}
-use native.Mathlib.Nat.{add-zero}
 use native.Mathlib.Numerals.{add-one}
 use native.Mathlib.Omega.{arith}
-use lib.Dec.{leb, eqb}
+use lib.Dec.{leb}
 use borrow.Rule.Slice.PartMut.{putMid}
 use lib.ListN.{length, getD, take, drop, length-append, length-drop, length-take, drop-of-length-le}
-use lib.Seq.{drop-cons, length-sets}
+use lib.Seq.{drop-cons}
 use borrow.Author.Tests.{leb-true}
 use Rattle.wire.specs.declared.field.Field.{Field}
 use Rattle.wire.specs.Field.{fieldBytes}
 use Rattle.wire.specs.Number.{u16At}
 use Rattle.wire.proofs.Stands.{and-left, and-right}
 use Rattle.place.specs.Place.{Wrote}
-use Rattle.place.proofs.Laws.{and-then, nothing, kept, in-part}
+use Rattle.place.proofs.Laws.{and-then, nothing, kept}
 use Rattle.word.specs.Digits.{hex}
 use Rattle.word.specs.Name.{plain, escape, unitText, textOf, numbers16, units, nameText, unitWidth, unitAt}
 use Rattle.word.proofs.Numbers.{length-hex}
+use Rattle.word.proofs.Rooms.{then-lent}
 
 -- ---- a unit: one that stands for itself, and any other
 
@@ -76,7 +76,7 @@ pub escaped : (l k m n ys xs : List ℕ) (letter i p q r s : ℕ) → Wrote l k 
     Wrote (take (length m - q) (drop q m)) ys 0 r xs → n ≡ putMid q (length m - q) m ys → s ≡ q + r →
     Wrote l n i s (0x5C ∷ letter ∷ xs)
 escaped l k m n ys xs letter i p q r s a b w e f =
-    and-then l m n (0x5C ∷ letter ∷ []) xs i q s (and-then l k m _ _ i p q a b) (in-part m n ys xs q s r w e f)
+    then-lent l m n ys (0x5C ∷ letter ∷ []) xs i q s r (and-then l k m _ _ i p q a b) w e f
 
 -- ---- a name's units, from a place on
 

@@ -1,6 +1,5 @@
 -- `put_kind` writes the last word.
 use borrow.Author.Needs.{needs}
-use native.Mathlib.Omega.{arith}
 use Rattle.word.proofs.Labels.{kind-none-room, kind-some-room, choice}
 use Rattle.line.proofs.auth.put_kind.Statement.{statement}
 use Rattle.line.proofs.auth.put_kind.Tie as tie
