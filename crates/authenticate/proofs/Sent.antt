@@ -23,9 +23,18 @@ use Rattle.place.proofs.Laws.{and-then}
 use Rattle.place.proofs.Numbers.{length-le16, length-le32}
 use Rattle.place.proofs.Writings.{measured, counted-on}
 use Rattle.authenticate.specs.declared.Fields.{Fields}
-use Rattle.authenticate.specs.Writing.{fieldsTo, headBytes, laterHeads, headsBytes, versionBytes, afterHeads, fixedBytes, secretsBytes, payloadBytes, authenticateBytes, checkNamesToWrite, keyHolds, sizeToWrite, checkToWrite, payloadSize}
+use Rattle.authenticate.specs.Writing.{fieldOf, fieldsTo, headBytes, laterHeads, headsBytes, versionBytes, afterHeads, fixedBytes, secretsBytes, payloadBytes, authenticateBytes, checkNamesToWrite, keyHolds, sizeToWrite, checkToWrite, payloadSize}
 
 -- ---- the fixed part
+
+-- the six fields are laid out one after the other
+pub laid-out : (lm nt domain user workstation key : ℕ) (a b c d e f : Field) →
+    a ≡ fieldOf (88 + domain + user + workstation) lm → b ≡ fieldOf (88 + domain + user + workstation + lm) nt →
+    c ≡ fieldOf 88 domain → d ≡ fieldOf (88 + domain) user → e ≡ fieldOf (88 + domain + user) workstation →
+    f ≡ fieldOf (88 + domain + user + workstation + lm + nt) key →
+    record { lm = a; nt = b; domain = c; user = d; workstation = e; key = f } ≡ fieldsTo lm nt domain user workstation key
+unfolding fieldsTo
+laid-out lm nt domain user workstation key a b c d e f pa pb pc pd pe pf = rw (pa, pb, pc, pd, pe, pf)
 
 -- Version by whether VERSION was told to be set
 module _ (flags : NegotiateFlags) (v : List ℕ) (b : Bool) (q : b ≡ version flags) (l k : List ℕ) (i p : ℕ) where

@@ -4,7 +4,7 @@ ghost use Prim.Native.Nat.{_+_, _≤_};
 ghost use lib.ListN.{length};
 ghost use Rattle.place.specs.Place.{Wrote};
 ghost use Rattle.place.specs.Written.{counted};
-ghost use Rattle.authenticate.specs.Writing.{fieldsTo, headBytes, laterHeads, headsBytes, versionBytes, afterHeads, fixedBytes, secretsBytes, payloadBytes, authenticateBytes, evenToWrite, checkNamesToWrite, keyHolds, sizeToWrite, checkToWrite, writeAnswer, writeOut, secretsSize, payloadSize};
+ghost use Rattle.authenticate.specs.Writing.{fieldOf, fieldsTo, headBytes, laterHeads, headsBytes, versionBytes, afterHeads, fixedBytes, secretsBytes, payloadBytes, authenticateBytes, evenToWrite, checkNamesToWrite, keyHolds, sizeToWrite, checkToWrite, writeAnswer, writeOut, secretsSize, payloadSize};
 use crate::Fields;
 use place::Place;
 use place::written::Written;
@@ -100,6 +100,16 @@ fn check_to_write(
     Verdict::Clear
 }
 
+fn field_to(offset: usize, len: usize) -> Field
+    requires { ⌜ (offset ≤ 65535) × (len ≤ 65535) ⌝ }
+    ensures { λ r. ⌜ r ≡ fieldOf offset len ⌝ }
+{
+    Field {
+        offset: offset as u32,
+        len: len as u16,
+    }
+}
+
 // Where fields of these lengths stand, in the order of the payload.
 fn fields_to(
     lm: usize,
@@ -118,30 +128,12 @@ fn fields_to(
     let nt_at = lm_at + lm;
     let key_at = nt_at + nt;
     Fields {
-        lm: Field {
-            offset: lm_at as u32,
-            len: lm as u16,
-        },
-        nt: Field {
-            offset: nt_at as u32,
-            len: nt as u16,
-        },
-        domain: Field {
-            offset: 88,
-            len: domain as u16,
-        },
-        user: Field {
-            offset: user_at as u32,
-            len: user as u16,
-        },
-        workstation: Field {
-            offset: workstation_at as u32,
-            len: workstation as u16,
-        },
-        key: Field {
-            offset: key_at as u32,
-            len: key as u16,
-        },
+        lm: field_to(lm_at, lm),
+        nt: field_to(nt_at, nt),
+        domain: field_to(88, domain),
+        user: field_to(user_at, user),
+        workstation: field_to(workstation_at, workstation),
+        key: field_to(key_at, key),
     }
 }
 
