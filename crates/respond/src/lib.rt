@@ -1,0 +1,2 @@
+// Answering a challenge (MS-NLMP 3.1.5.1.2).
+pub mod domain;
