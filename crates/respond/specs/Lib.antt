@@ -1,1 +1,3 @@
 pub mod Domain
+pub mod Decision
+pub mod Answer
