@@ -18,7 +18,8 @@ use Rattle.respond.specs.declared.decision.Decision.{Decision}
 use Rattle.respond.specs.declared.answer.Answered.{Answered}
 use Rattle.respond.specs.declared.answer.Answered.the-variants.{Sent, Refused}
 use Rattle.respond.specs.Domain.{domainToSend}
-use Rattle.respond.specs.Answer.{micDue, timeToSend, lmToSend, micToSend, keyToSend, answerWith, sendAnswer, sendOut}
+use Rattle.respond.specs.Decision.{defaults}
+use Rattle.respond.specs.Answer.{micDue, timeToSend, lmToSend, micToSend, keyToSend, answerWith, sendAnswer, sendOut, respondAnswer, respondOut}
 use Rattle.respond.proofs.Decisions.{with-decided, decision-stops}
 
 -- the MIC by whether it was told to be due
@@ -85,3 +86,16 @@ module _ (settings : Settings) (d : Decision) (v mic lm nt own s domain user wor
   out-of-domain out o h = rw (← e) h
 
 pub ruleset answering = (with-decided, decision-stops, of-domain, out-of-domain)
+
+-- with settings that are the defaults
+module _ (settings : Settings) (e : settings ≡ defaults) (s v mic lm nt domain user workstation key : List ℕ) where
+  pub default-answers : (room clock : ℕ) (r : Answered) →
+      r ≡ respondAnswer room s settings clock v mic lm nt domain user workstation key →
+      r ≡ respondAnswer room s defaults clock v mic lm nt domain user workstation key
+  default-answers room clock r h = rw (← e) h
+
+  pub default-leaves : (out o : List ℕ) → o ≡ respondOut out s settings v mic lm nt domain user workstation key →
+      o ≡ respondOut out s defaults v mic lm nt domain user workstation key
+  default-leaves out o h = rw (← e) h
+
+pub ruleset by-default = (default-answers, default-leaves)

@@ -70,6 +70,7 @@ pub decided-is : (w : NegotiateFlags) (t u : Timestamp) → t ≡ u →
 decided-is w t u e = rw e
 
 pub ruleset decision = (chain, with-taken, reading-stops, reading-is, names-known, time-known, of-names, decided-is)
+
 pub ruleset twice = (reading-is, names-there, time-there)
 
 pub refusal-is : (v w : Decided) (e : Refusal) → v ≡ w → e ≡ decidedRefusal w → e ≡ decidedRefusal v

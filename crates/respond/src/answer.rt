@@ -1,16 +1,15 @@
 // Answering a challenge: what is written, Time, and whether a MIC is due.
 ghost use mathlib.Core.Path.{_≡_};
 ghost use mathlib.Core.Bool.{_&&_, cond};
-ghost use lib.ListN.{length, replicate};
-ghost use Rattle.respond.specs.Decision.{defaults};
+ghost use lib.ListN.{length};
 ghost use Rattle.respond.specs.Answer.{micDue, timeToSend, micToSend, keyToSend, answerWith, sendAnswer, sendOut, respondAnswer, respondOut};
-use authenticate::writing::write;
-use challenge::Timestamp;
 use crate::decision::Decided;
 use crate::decision::Decision;
 use crate::decision::Settings;
 use crate::decision::decide;
 use crate::domain::domain_to_send;
+use authenticate::writing::write;
+use challenge::Timestamp;
 use place::written::Written;
 use wire::flags::NegotiateFlags;
 use wire::number::fill;
@@ -121,8 +120,23 @@ fn send(
     let zeros = [0u8; 24];
     let lm = lm_to_send(settings, timestamp, &zeros, lm);
     let key = key_to_send(flags, key);
-    let written = write(out, flags, version, &mic, lm, nt, domain, user, workstation, key);
-    answer_with(written, time_to_send(settings, timestamp, clock), mic_due(timestamp))
+    let written = write(
+        out,
+        flags,
+        version,
+        &mic,
+        lm,
+        nt,
+        domain,
+        user,
+        workstation,
+        key,
+    );
+    answer_with(
+        written,
+        time_to_send(settings, timestamp, clock),
+        mic_due(timestamp),
+    )
 }
 
 // Answers a challenge by the settings; `mic` and `key` are written where they are due.
@@ -148,5 +162,18 @@ pub fn respond<'a>(
         return Answered::Refused(decided.refusal());
     };
     let domain = domain_to_send(domain, challenge);
-    send(out, settings, d, clock, version, mic, lm, nt, domain, user, workstation, key)
+    send(
+        out,
+        settings,
+        d,
+        clock,
+        version,
+        mic,
+        lm,
+        nt,
+        domain,
+        user,
+        workstation,
+        key,
+    )
 }

@@ -8,4 +8,4 @@ pub answer-with-spec : {M : Type 1} → statement M
 answer-with-spec =
     tie.close
     (tie.spec
-    (λ c. search needs) (λ c. search needs) (λ c. search (sent, unsent)) (λ c. search (sent, unsent)))
+    (λ c. search needs) (λ c. search needs) (λ c. search sent) (λ c. search unsent))

@@ -8,5 +8,5 @@ pub key-to-send-spec : {M : Type 1} → statement M
 key-to-send-spec =
     tie.close
     (tie.spec
-    (λ c κs. search needs) (λ c κs. search needs) (λ c κs. search needs) (λ c. search (key-written, key-passed))
-    (λ c. search needs) (λ c. search (key-written, key-passed)))
+    (λ c κs. search needs) (λ c κs. search needs) (λ c κs. search needs) (λ c. search key-written)
+    (λ c. search needs) (λ c. search key-passed))

@@ -8,4 +8,4 @@ pub lm-to-send-spec : {M : Type 1} → statement M
 lm-to-send-spec =
     tie.close
     (tie.spec
-    (λ c κs. search needs) (λ c. search (lm-first, lm-second)) (λ c. search (lm-first, lm-second)))
+    (λ c κs. search needs) (λ c. search lm-first) (λ c. search lm-second))

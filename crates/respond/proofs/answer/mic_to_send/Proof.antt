@@ -8,5 +8,5 @@ pub mic-to-send-spec : {M : Type 1} → statement M
 mic-to-send-spec =
     tie.close
     (tie.spec
-    (λ c κs. search needs) (λ c. search needs) (λ c κs. search needs) (λ c. search (mic-written, mic-zeros))
-    (λ c. search (mic-written, mic-zeros)))
+    (λ c κs. search needs) (λ c. search needs) (λ c κs. search needs) (λ c. search mic-written)
+    (λ c. search mic-zeros))

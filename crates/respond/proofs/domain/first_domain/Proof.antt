@@ -8,5 +8,5 @@ pub first-domain-spec : {M : Type 1} → statement M
 first-domain-spec =
     tie.close
     (tie.spec
-    (λ c κs. search needs) (λ c. search needs) (λ c. search needs) (λ c. search (done-inside, done-found, not-done))
-    (λ c. search (done-inside, done-found, not-done)))
+    (λ c κs. search needs) (λ c. search needs) (λ c. search needs) (λ c. search not-done)
+    (λ c. search (done-inside, done-found)))
