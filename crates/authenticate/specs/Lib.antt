@@ -1,1 +1,2 @@
 pub mod Authenticate
+pub mod Writing

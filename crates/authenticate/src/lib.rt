@@ -1,4 +1,6 @@
-// AUTHENTICATE_MESSAGE (MS-NLMP 2.2.1.3): reading.
+// AUTHENTICATE_MESSAGE (MS-NLMP 2.2.1.3): reading; `writing` has the writer.
+pub mod writing;
+
 ghost use mathlib.Core.Path.{_≡_};
 ghost use Prim.Native.Nat.{_≤_};
 ghost use lib.ListN.{length};

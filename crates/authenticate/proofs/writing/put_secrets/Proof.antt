@@ -1,0 +1,13 @@
+-- `put_secrets` writes the secrets.
+use borrow.Author.Needs.{needs}
+use Rattle.authenticate.proofs.writing.put_secrets.Statement.{statement}
+use Rattle.authenticate.proofs.writing.put_secrets.Tie as tie
+use Rattle.authenticate.specs.Writing.{secretsBytes}
+use Rattle.place.proofs.Laws.{and-then}
+
+pub put-secrets-spec : {M : Type 1} → statement M
+unfolding secretsBytes
+put-secrets-spec =
+    tie.close
+    (tie.spec
+    (λ c κs. search needs) (λ c κs. search needs) (λ c κs. search needs) (λ c. search needs) (λ c. search and-then))

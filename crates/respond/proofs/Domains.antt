@@ -1,0 +1,137 @@
+-- Laws of the domain to send.
+use Prim.Native.Nat.{ℕ, _+_, _-_, _≤_, _<_, _^_}
+use mathlib.Core.Path.{_≡_, refl, sym, ap, _∙_}
+use mathlib.Core.Bool.{Bool, true, false, cond}
+use mathlib.Core.List.{List, []}
+use native.Mathlib.Omega.{arith}
+use lib.Dec.{leb}
+use lib.ListN.{length, take, drop, length-take, length-drop}
+use mir.Val.{Fits}
+use mir.Syntax.{w64}
+use borrow.Author.Tests.{leb-true}
+use borrow.Rule.Slice.Shared.{byByte}
+use Rattle.wire.specs.declared.av_id.AvId.{AvId}
+use Rattle.wire.specs.declared.check.Verdict.{Verdict}
+use Rattle.wire.specs.declared.check.Verdict.the-variants.{Clear, Refused as Not}
+use Rattle.wire.specs.declared.field.Field.{Field}
+use Rattle.wire.specs.declared.refusal.Refusal.{Refusal}
+use Rattle.wire.specs.AvId.{isNbDomainName, sameId}
+use Rattle.wire.specs.Check.{onClear}
+use Rattle.wire.specs.Field.{PartAt, fieldBytes, fieldStart}
+use Rattle.wire.proofs.Laws.{branches}
+use Rattle.av_pairs.specs.declared.AvPair.{AvPair}
+use Rattle.av_pairs.specs.declared.Found.{Found}
+use Rattle.av_pairs.specs.declared.Found.the-variants.{At, Nothing}
+use Rattle.av_pairs.specs.declared.Search.{Search}
+use Rattle.av_pairs.specs.declared.Search.the-variants.{Done, Refused as Unsearched}
+use Rattle.av_pairs.specs.AvPairs.{pairsOf, checkPairs, firstBy, firstPair, findPair}
+use Rattle.av_pairs.proofs.Searches.{was-done, was-refused, found-in}
+use Rattle.challenge.specs.declared.Answer.{Answer}
+use Rattle.challenge.specs.declared.Challenge.{Challenge}
+use Rattle.challenge.specs.declared.Reading.{Reading}
+use Rattle.challenge.specs.declared.Reading.the-variants.{Taken, Refused}
+use Rattle.challenge.specs.Challenge.{fieldsOf, readingOf, readChallenge, onTaken, infoOf}
+use Rattle.challenge.proofs.Laws.{with-taken}
+use Rattle.respond.specs.Domain.{Part, ownPart, valuePart, onFound, domainPart, domainToSend, lent, Within, foundBy, ValueInside}
+
+-- ---- a search for pair 2
+
+module _ (l : List ℕ) (r : Search) (e : r ≡ findPair (record { id = 2 }) l) where
+  pub done-inside : (f : Found) → r ≡ Done f → ValueInside f (length l)
+  unfolding firstPair
+  done-inside f h = go f (was-done (record { id = 2 }) l r e f h .1) where
+    go : (f : Found) → f ≡ firstPair (record { id = 2 }) l → ValueInside f (length l)
+    go (At p) k = found-in (sameId (record { id = 2 })) l p (sym k) .gave .inside
+    go Nothing k = tt
+
+  pub done-found : (f : Found) → r ≡ Done f → f ≡ foundBy (findPair (record { id = 2 }) l)
+  done-found f h = rw (← e, h)
+
+  pub not-done : (d : Refusal) → r ≡ Unsearched d → Nothing ≡ foundBy (findPair (record { id = 2 }) l)
+  not-done d h = rw (← e, h)
+
+-- a pair that was found ends within its list
+pub value-end : (f : Found) (p : AvPair) (n : ℕ) → ValueInside f n → f ≡ At p → p .at + p .len ≤ n
+value-end f p n v h = rw h at v
+
+pub end-fits : (f : Found) (p : AvPair) (l : List ℕ) → ValueInside f (length l) → f ≡ At p → length l < 2 ^ 64 → Fits w64 (p .at + p .len)
+end-fits f p l v h b = record { fits = omega (arith, value-end f p (length l) v h) }
+
+-- ---- the challenge's pair 2
+
+pub reading-is : (s : List ℕ) (a : Answer) → a ≡ readChallenge s → a .reading ≡ readingOf s
+unfolding readChallenge
+reading-is s a e = rw e
+
+-- a taken challenge's pairs passed checks 10 to 13
+pairs-clear : (s : List ℕ) (c : Challenge) → readingOf s ≡ Taken c → checkPairs (infoOf s c) ≡ Clear
+unfolding readingOf
+pairs-clear s c h = go (fieldsOf s) h where
+  inner : (b : Challenge) (v : Verdict) → checkPairs (infoOf s b) ≡ v → onClear Refused v (Taken b) ≡ Taken c → checkPairs (infoOf s c) ≡ Clear
+  inner b Clear e h = let same : b ≡ c = cc in rw same at e
+  inner b (Not d) e h = absurd (let z : _≡_ {A = ℕ} 0 1 = cc in omega arith)
+
+  go : (k : Reading) → onTaken Refused k (λ b. onClear Refused (checkPairs (infoOf s b)) (Taken b)) ≡ Taken c → checkPairs (infoOf s c) ≡ Clear
+  go (Taken b) h = inner b (checkPairs (infoOf s b)) refl h
+  go (Refused d) h = absurd (let z : _≡_ {A = ℕ} 0 1 = cc in omega arith)
+
+pub first-is : (s l : List ℕ) (r : Reading) (c : Challenge) (f : Found) → r ≡ readingOf s → r ≡ Taken c → l ≡ infoOf s c →
+    f ≡ foundBy (findPair (record { id = 2 }) l) → f ≡ firstBy isNbDomainName (pairsOf (infoOf s c))
+unfolding findPair firstPair
+first-is s l r c f e h k q = q ∙ simp (k, pairs-clear s c (sym e ∙ h))
+
+pub untaken : {A : Type 0} (f : Refusal → A) (k r : Reading) (e : Refusal) (x : Challenge → A) (y : A) →
+    r ≡ k → r ≡ Refused e → y ≡ f e → y ≡ onTaken f k x
+untaken f k r e x y p h q = simp (← p, h) q
+
+pub found-at : {A : Type 0} (k f : Found) (p : AvPair) (x : AvPair → A) (z y : A) → f ≡ k → f ≡ At p → y ≡ x p → y ≡ onFound k x z
+found-at k f p x z y e h q = simp (← e, h) q
+
+pub found-none : {A : Type 0} (k f : Found) (x : AvPair → A) (z y : A) → f ≡ k → f ≡ Nothing → y ≡ z → y ≡ onFound k x z
+found-none k f x z y e h q = simp (← e, h) q
+
+pub ruleset ways = (branches, with-taken, untaken, found-at, found-none, reading-is, first-is)
+
+-- ---- what is handed out
+
+-- the settings' domain
+module _ (own s : List ℕ) (e : ownPart own ≡ domainPart own s) where
+  pub own-content : own ≡ domainToSend own s
+  own-content = ap (λ (d : Part). d .bytes) e
+
+  pub own-place : (a b : ℕ × ℕ) → PartAt a (lent (domainPart own s) a b) (domainPart own s .start)
+  own-place a b = rw (← e) (refl, omega arith)
+
+  pub own-within : Within (domainPart own s) (lent (domainPart own s) (length own) (length s))
+  own-within = rw (← e) (omega arith)
+
+-- a field's bytes lie within its message
+part-within : (s : List ℕ) (f : Field) → fieldStart s f + length (fieldBytes s f) ≤ length s
+unfolding fieldStart fieldBytes
+part-within s f = go (leb (f .offset + f .len) (length s)) refl where
+  go : (t : Bool) → leb (f .offset + f .len) (length s) ≡ t →
+      cond t (f .offset) 0 + length (cond t (take (f .len) (drop (f .offset) s)) []) ≤ length s
+  go true e = simp (length-take, length-drop) (omega (arith, leb-true (f .offset + f .len) (length s) e))
+  go false e = omega arith
+
+-- the value of a pair that was found in a challenge that was taken
+module _ (own s : List ℕ) (r : Reading) (c : Challenge) (f : Found) (p : AvPair) (t : r ≡ Taken c) (h : f ≡ At p)
+    (e : valuePart s c p ≡ domainPart own s) where
+  pub value-content : (l : List ℕ) → l ≡ infoOf s c → take (p .at + p .len - p .at) (drop (p .at) l) ≡ domainToSend own s
+  value-content l k =
+      let n : p .at + p .len - p .at ≡ p .len = omega arith in
+      simp (n, k) (ap (λ (d : Part). d .bytes) e)
+
+  pub value-place : (m x n : ℕ) (a b : ℕ × ℕ) → n ≡ p .at → m ≡ b .0 → x ≡ b .1 + fieldStart s (c .fields .«target_info») →
+      PartAt (m, byByte n x) (lent (domainPart own s) a b) (domainPart own s .start)
+  value-place m x n a b k y z = rw (← e) (y, simp k (omega arith))
+
+  pub value-within : (l : List ℕ) → l ≡ infoOf s c → ValueInside f (length l) →
+      Within (domainPart own s) (lent (domainPart own s) (length own) (length s))
+  value-within l k v =
+      let inside : p .at + p .len ≤ length l = value-end f p (length l) v h in
+      rw (← e) (simp (length-take, length-drop) (omega (arith, inside, ap length k, part-within s (c .fields .«target_info»))))
+
+pub ruleset own = (own-content, own-place, own-within, ways)
+
+pub ruleset value = (value-content, value-place, value-within, ways)

@@ -1,0 +1,3 @@
+pub mod Domains
+pub mod Decisions
+pub mod Answers

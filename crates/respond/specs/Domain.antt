@@ -1,0 +1,74 @@
+-- The domain to send: a part of the settings or of the challenge.
+use Prim.Native.Nat.{ℕ, _+_, _≤_}
+use mathlib.Core.Bool.{Bool, true, false, cond}
+use mathlib.Core.List.{List}
+use lib.Dec.{eqb}
+use lib.ListN.{length, take, drop}
+use Rattle.wire.specs.declared.av_id.AvId.{AvId}
+use Rattle.wire.specs.AvId.{isNbDomainName}
+use Rattle.wire.specs.Field.{fieldStart}
+use Rattle.wire.specs.Flags.{unicode}
+use Rattle.av_pairs.specs.declared.AvPair.{AvPair}
+use Rattle.av_pairs.specs.declared.Found.{Found}
+use Rattle.av_pairs.specs.declared.Found.the-variants.{At, Nothing}
+use Rattle.av_pairs.specs.declared.Search.{Search}
+use Rattle.av_pairs.specs.declared.Search.the-variants.{Done, Refused as Unsearched}
+use Rattle.av_pairs.specs.AvPairs.{pairsOf, firstBy, findPair}
+use Rattle.challenge.specs.declared.Challenge.{Challenge}
+use Rattle.challenge.specs.Challenge.{readingOf, onTaken, infoOf}
+
+-- a part of one of the two that are lent: whether it is the challenge, where the part starts in it, and its bytes
+pub record Part : Type 0 where
+  pub ofChallenge : Bool
+  pub start : ℕ
+  pub bytes : List ℕ
+
+-- the settings' domain, whole; of an empty one this is the empty part
+abbrev pub ownPart : List ℕ → Part
+ownPart own = record { ofChallenge = false; start = 0; bytes = own }
+
+-- the value of a pair of the challenge's TargetInfo
+abbrev pub valuePart : List ℕ → Challenge → AvPair → Part
+valuePart s c p =
+    record {
+      ofChallenge = true;
+      start = fieldStart s (c .fields .«target_info») + p .at;
+      bytes = take (p .len) (drop (p .at) (infoOf s c));
+    }
+
+abbrev pub onFound : {A : Type 0} → Found → (AvPair → A) → A → A
+onFound (At p) x y = x p
+onFound Nothing x y = y
+
+-- the settings' domain; if that is empty and UNICODE is set, the challenge's first pair 2; if there is none, the empty part
+-- of the settings. A refused challenge has none
+unfoldable pub domainPart : List ℕ → List ℕ → Part
+domainPart own s =
+    cond (eqb (length own) 0)
+    (onTaken (λ e. ownPart own) (readingOf s) (λ c.
+    cond (unicode (c .flags))
+    (onFound (firstBy isNbDomainName (pairsOf (infoOf s c))) (valuePart s c) (ownPart own))
+    (ownPart own)))
+    (ownPart own)
+
+-- the domain's bytes
+abbrev pub domainToSend : List ℕ → List ℕ → List ℕ
+domainToSend own s = domainPart own s .bytes
+
+-- of two values, one for the settings and one for the challenge, that of the one which the part lies in
+abbrev pub lent : {A : Type 0} → Part → A → A → A
+lent part own challenge = cond (part .ofChallenge) challenge own
+
+-- a part ends within the n bytes that it is a part of
+abbrev pub Within : Part → ℕ → Type 0
+Within part n = part .start + length (part .bytes) ≤ n
+
+-- what a search found; in a list that is refused, nothing
+abbrev pub foundBy : Search → Found
+foundBy (Done f) = f
+foundBy (Unsearched e) = Nothing
+
+-- a pair's value ends within the n bytes of its list
+abbrev pub ValueInside : Found → ℕ → Type 0
+ValueInside (At p) n = p .at + p .len ≤ n
+ValueInside Nothing n = Unit

@@ -1,0 +1,110 @@
+// Answering a challenge with the default settings, a call for each of those who do.
+ghost use mathlib.Core.Path.{_≡_};
+ghost use lib.ListN.{length};
+ghost use Rattle.respond.specs.Decision.{defaults};
+ghost use Rattle.respond.specs.Answer.{respondAnswer, respondOut};
+use crate::answer::Answered;
+use crate::answer::respond;
+use crate::decision::Settings;
+
+// For the bench.
+pub fn respond_for_bench<'a>(
+    out: &mut [u8],
+    challenge: &'a [u8],
+    clock: u64,
+    version: &[u8; 8],
+    mic: &[u8; 16],
+    lm: &[u8],
+    nt: &[u8],
+    domain: &'a [u8],
+    user: &[u8],
+    workstation: &[u8],
+    key: &[u8],
+) -> Answered
+    ensures answer { λ r. ⌜ r ≡ respondAnswer (length (now (out .entry))) (now (challenge .entry)) defaults clock (now (version .entry)) (now (mic .entry)) (now (lm .entry)) (now (nt .entry)) (now (domain .entry)) (now (user .entry)) (now (workstation .entry)) (now (key .entry)) ⌝ }
+    ensures content { λ _. ⌜ now (out .exit) ≡ respondOut (now (out .entry)) (now (challenge .entry)) defaults (now (version .entry)) (now (mic .entry)) (now (lm .entry)) (now (nt .entry)) (now (domain .entry)) (now (user .entry)) (now (workstation .entry)) (now (key .entry)) ⌝ }
+{
+    let settings = Settings::defaults();
+    respond(
+        out,
+        challenge,
+        settings,
+        clock,
+        version,
+        mic,
+        lm,
+        nt,
+        domain,
+        user,
+        workstation,
+        key,
+    )
+}
+
+// For old servers.
+pub fn respond_to_old_server<'a>(
+    out: &mut [u8],
+    challenge: &'a [u8],
+    clock: u64,
+    version: &[u8; 8],
+    mic: &[u8; 16],
+    lm: &[u8],
+    nt: &[u8],
+    domain: &'a [u8],
+    user: &[u8],
+    workstation: &[u8],
+    key: &[u8],
+) -> Answered
+    ensures answer { λ r. ⌜ r ≡ respondAnswer (length (now (out .entry))) (now (challenge .entry)) defaults clock (now (version .entry)) (now (mic .entry)) (now (lm .entry)) (now (nt .entry)) (now (domain .entry)) (now (user .entry)) (now (workstation .entry)) (now (key .entry)) ⌝ }
+    ensures content { λ _. ⌜ now (out .exit) ≡ respondOut (now (out .entry)) (now (challenge .entry)) defaults (now (version .entry)) (now (mic .entry)) (now (lm .entry)) (now (nt .entry)) (now (domain .entry)) (now (user .entry)) (now (workstation .entry)) (now (key .entry)) ⌝ }
+{
+    let settings = Settings::defaults();
+    respond(
+        out,
+        challenge,
+        settings,
+        clock,
+        version,
+        mic,
+        lm,
+        nt,
+        domain,
+        user,
+        workstation,
+        key,
+    )
+}
+
+// For the relay.
+pub fn respond_for_relay<'a>(
+    out: &mut [u8],
+    challenge: &'a [u8],
+    clock: u64,
+    version: &[u8; 8],
+    mic: &[u8; 16],
+    lm: &[u8],
+    nt: &[u8],
+    domain: &'a [u8],
+    user: &[u8],
+    workstation: &[u8],
+    key: &[u8],
+) -> Answered
+    ensures answer { λ r. ⌜ r ≡ respondAnswer (length (now (out .entry))) (now (challenge .entry)) defaults clock (now (version .entry)) (now (mic .entry)) (now (lm .entry)) (now (nt .entry)) (now (domain .entry)) (now (user .entry)) (now (workstation .entry)) (now (key .entry)) ⌝ }
+    ensures content { λ _. ⌜ now (out .exit) ≡ respondOut (now (out .entry)) (now (challenge .entry)) defaults (now (version .entry)) (now (mic .entry)) (now (lm .entry)) (now (nt .entry)) (now (domain .entry)) (now (user .entry)) (now (workstation .entry)) (now (key .entry)) ⌝ }
+{
+    let settings = Settings::defaults();
+    respond(
+        out,
+        challenge,
+        settings,
+        clock,
+        version,
+        mic,
+        lm,
+        nt,
+        domain,
+        user,
+        workstation,
+        key,
+    )
+}

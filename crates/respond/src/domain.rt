@@ -1,0 +1,54 @@
+// The domain to send: a part of the lent settings or of the lent challenge.
+ghost use mathlib.Core.Path.{_≡_};
+ghost use lib.ListN.{length};
+ghost use Rattle.wire.specs.Field.{PartAt};
+ghost use Rattle.av_pairs.specs.AvPairs.{findPair};
+ghost use Rattle.respond.specs.Domain.{domainPart, domainToSend, lent, Within, foundBy, ValueInside};
+use av_pairs::Found;
+use av_pairs::Search;
+use av_pairs::find_pair;
+use challenge::Reading;
+use challenge::read;
+use wire::av_id::AvId;
+
+// The first pair 2 of a list.
+fn first_domain(list: &[u8]) -> Found
+    ensures inside { λ r. ⌜ ValueInside r (length (now (list .entry))) ⌝ }
+    ensures { λ r. ⌜ r ≡ foundBy (findPair (record { id = 2 }) (now (list .entry))) ⌝ }
+{
+    let search = find_pair(
+        list,
+        AvId {
+            id: AvId::NB_DOMAIN_NAME,
+        },
+    );
+    let Search::Done(found) = search else {
+        return Found::Nothing;
+    };
+    found
+}
+
+// The domain to send: the settings' own, or where that is empty and UNICODE is set the value of the challenge's first pair 2.
+pub fn domain_to_send<'a>(own: &'a [u8], challenge: &'a [u8]) -> &'a [u8]
+    ensures content { λ r. ⌜ now r ≡ domainToSend (now (own .entry)) (now (challenge .entry)) ⌝ }
+    ensures place { λ r. ⌜ PartAt (r .ptr) (lent (domainPart (now (own .entry)) (now (challenge .entry))) (own .entry .ptr) (challenge .entry .ptr)) (domainPart (now (own .entry)) (now (challenge .entry)) .start) ⌝ }
+    ensures within { λ r. ⌜ Within (domainPart (now (own .entry)) (now (challenge .entry))) (lent (domainPart (now (own .entry)) (now (challenge .entry))) (length (now (own .entry))) (length (now (challenge .entry)))) ⌝ }
+{
+    if own.len() != 0 {
+        return own;
+    }
+    let reading = read(challenge).reading;
+    let Reading::Taken(c) = reading else {
+        return own;
+    };
+    if c.flags.unicode() {
+        let list = c.fields.target_info.bytes(challenge);
+        let Found::At(p) = first_domain(list) else {
+            return own;
+        };
+        let at = p.at;
+        let end = at + p.len as usize;
+        return &list[at..end];
+    }
+    own
+}
