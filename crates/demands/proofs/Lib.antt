@@ -21,3 +21,4 @@ pub mod Bench
 pub mod LineIgnored
 pub mod Secret
 pub mod Walk
+pub mod WriteBack

@@ -56,12 +56,12 @@ at-zero (b ∷ bs) h = go (eqb b 0) refl h (at-zero bs) where
   go false p q rest = rest (omega arith)
 
 -- what holds for each of 1 to 5
-above : (k n : ℕ) → n ≤ k → eqb k n ≡ false → n + 1 ≤ k
+pub above : (k n : ℕ) → n ≤ k → eqb k n ≡ false → n + 1 ≤ k
 above k n l h = go (eqb-false k n h) where
   go : (k ≡ n → ⊥) → n + 1 ≤ k
   go d = omega (arith, d)
 
-five : (P : ℕ → Type 0) → P 1 → P 2 → P 3 → P 4 → P 5 → (k : ℕ) → 1 ≤ k → k ≤ 5 → P k
+pub five : (P : ℕ → Type 0) → P 1 → P 2 → P 3 → P 4 → P 5 → (k : ℕ) → 1 ≤ k → k ≤ 5 → P k
 five P a b c d e k l r = go (eqb k 1) (eqb k 2) (eqb k 3) (eqb k 4) refl refl refl refl where
   is-5 : 5 ≤ k → 5 ≡ k
   is-5 h = omega arith

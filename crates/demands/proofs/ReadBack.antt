@@ -202,7 +202,7 @@ module _ (w : NlAuthFlags) (a b c d e : List ℕ) where
       simp (le-leb (length (requestBytes w a b c d e)) 65535 size, le-leb 8 (length (requestBytes w a b c d e)) long, type-back, w-same) (request-back held zeros)
 
 -- the bytes that were written are the whole message
-written-is : (v : Verdict) (bytes out : List ℕ) (n : ℕ) → answered v bytes ≡ Length n → (v ≡ Clear) × (take n (outAfter v bytes out) ≡ bytes)
+pub written-is : (v : Verdict) (bytes out : List ℕ) (n : ℕ) → answered v bytes ≡ Length n → (v ≡ Clear) × (take n (outAfter v bytes out) ≡ bytes)
 written-is Clear bytes out n h = (refl, subst (λ (k : ℕ). take k (atFront bytes out) ≡ bytes) (same h) (take-append-seam bytes (drop (length bytes) out))) where
   same : Length (length bytes) ≡ Length n → length bytes ≡ n
   same p = cc

@@ -1,4 +1,5 @@
--- What is written reads back: document 01's NL_AUTH, type, flags A to E and each string under a set bit.
+-- Demand 2: "An AUTHENTICATE we write reads back with the same flags, six fields and MIC." And NL_AUTH: type, flags A to E and
+-- each string under a set bit.
 use Prim.Native.Nat.{ℕ}
 use mathlib.Core.Path.{_≡_}
 use mathlib.Core.Bool.{true}
@@ -6,6 +7,11 @@ use mathlib.Core.List.{List}
 use lib.ListN.{length, take}
 use Rattle.wire.specs.Field.{fieldBytes}
 use Rattle.place.specs.declared.written.Written.the-variants.{Length}
+use Rattle.wire.specs.declared.flags.NegotiateFlags.{NegotiateFlags}
+use Rattle.authenticate.specs.declared.Authenticate.{Authenticate}
+use Rattle.authenticate.specs.declared.Reading.the-variants.{Taken as AuthenticateTaken}
+use Rattle.authenticate.specs.Authenticate.{readAuthenticate}
+use Rattle.authenticate.specs.Writing.{writeAnswer, writeOut}
 use Rattle.nl_auth.specs.declared.flags.NlAuthFlags.{NlAuthFlags}
 use Rattle.nl_auth.specs.declared.reading.NlAuth.{NlAuth}
 use Rattle.nl_auth.specs.declared.reading.Reading.the-variants.{Taken}
@@ -42,3 +48,25 @@ pub record ResponseBack (s : List ℕ) : Type 0 where
 abbrev pub NlResponseReadsBack : Type 0
 NlResponseReadsBack =
     (out : List ℕ) (n : ℕ) → responseAnswer (length out) ≡ Length n → ResponseBack (take n (responseOut out))
+
+-- the message read back from the bytes s: these flags, this MIC and these six fields
+pub record AuthenticateBack (s : List ℕ) (flags : NegotiateFlags) (mic lm nt domain user workstation key : List ℕ) : Type 0 where
+  pub message : Authenticate
+  pub read : readAuthenticate s .reading ≡ AuthenticateTaken message
+  pub flags-same : message .flags .bits ≡ flags .bits
+  pub mic-there : message .«mic_present» ≡ true
+  pub mic-same : readAuthenticate s .mic ≡ mic
+  pub lm-same : fieldBytes s (message .fields .lm) ≡ lm
+  pub nt-same : fieldBytes s (message .fields .nt) ≡ nt
+  pub domain-same : fieldBytes s (message .fields .domain) ≡ domain
+  pub user-same : fieldBytes s (message .fields .user) ≡ user
+  pub workstation-same : fieldBytes s (message .fields .workstation) ≡ workstation
+  pub key-same : fieldBytes s (message .fields .key) ≡ key
+
+-- for every call that is not refused; Version and MIC are of 8 and 16 bytes, as the call takes them
+abbrev pub AuthenticateReadsBack : Type 0
+AuthenticateReadsBack =
+    (out : List ℕ) (flags : NegotiateFlags) (version mic lm nt domain user workstation key : List ℕ) (n : ℕ) →
+    length version ≡ 8 → length mic ≡ 16 →
+    writeAnswer (length out) flags version mic lm nt domain user workstation key ≡ Length n →
+    AuthenticateBack (take n (writeOut out flags version mic lm nt domain user workstation key)) flags mic lm nt domain user workstation key

@@ -1,0 +1,497 @@
+-- What AUTHENTICATE's writer writes, byte by byte.
+use Prim.Native.Nat.{ℕ, zero, suc, _+_, _/_, _%_, _≤_, _<_}
+use mathlib.Core.Path.{_≡_, refl, sym, ap, _∙_, subst}
+use mathlib.Core.Bool.{Bool, true, false, _||_, _&&_, not, cond}
+use mathlib.Core.Logic.{_⊎_, ⊎-elim}
+use mathlib.Core.List.{List, [], _∷_, _++_, append-assoc}
+use native.Mathlib.Omega.{arith}
+use lib.Dec.{eqb}
+use lib.ListN.{length, take, drop, replicate, length-append}
+use lib.Seq.{take-at, drop-at}
+use borrow.Author.Tests.{eqb-true, eqb-false, eq-eqb, leb-true}
+use Rattle.wire.specs.declared.field.Field.{Field}
+use Rattle.wire.specs.declared.check.Checked.the-variants.{Held}
+use Rattle.wire.specs.declared.check.Verdict.the-variants.{Clear, Refused as Not}
+use Rattle.wire.specs.declared.check.Verdict.{Verdict}
+use Rattle.wire.specs.declared.flags.NegotiateFlags.{NegotiateFlags}
+use Rattle.wire.specs.declared.refusal.Refusal.the-variants.{NoCharset, OddNameToWrite, WrongKey, TooLongToWrite}
+use Rattle.wire.specs.Field.{headAt, fieldBytes}
+use Rattle.wire.specs.Flags.{unicode, oem, keyExch, version, charsetHolds}
+use Rattle.wire.specs.Head.{signature}
+use Rattle.wire.specs.Number.{u16At, u32At}
+use Rattle.wire.specs.Check.{onClear}
+use Rattle.wire.proofs.Stands.{and-right}
+use Rattle.place.specs.Place.{le16, le32}
+use Rattle.place.specs.Written.{sizeHolds}
+use Rattle.place.proofs.Numbers.{length-le16, length-le32, back16, back32}
+use Rattle.authenticate.specs.declared.Fields.{Fields}
+use Rattle.authenticate.specs.declared.Reading.{Reading}
+use Rattle.authenticate.specs.declared.Reading.the-variants.{Taken, Refused}
+use Rattle.authenticate.specs.Authenticate.{readAuthenticate}
+use Rattle.demands.proofs.Bools.{true-not-false, held-true, or-either, after-held}
+use Rattle.demands.proofs.NlAuth.{above, five}
+use Rattle.demands.specs.OwnBytes.{OwnField}
+use Rattle.demands.specs.ReadBack.{AuthenticateBack, AuthenticateReadsBack}
+use Rattle.demands.specs.TakenExactly.{IsTaken}
+use Rattle.demands.proofs.OwnBytes.{authenticate-own}
+use Rattle.demands.proofs.ReadBack.{written-is}
+use Rattle.demands.proofs.TakenExactly.{authenticate-taken}
+use Rattle.demands.specs.Message.{authenticate, lenOf, offsetOf, Nonempty, Set, MicThere, Fails}
+use Rattle.authenticate.specs.Writing.{fieldsTo, headBytes, laterHeads, headsBytes, versionBytes, afterHeads, fixedBytes, secretsBytes, payloadBytes, authenticateBytes, evenToWrite, checkNamesToWrite, keyHolds, sizeToWrite, checkToWrite, writeAnswer, writeOut}
+
+append-none : (l : List ℕ) → l ++ [] ≡ l
+append-none [] = refl
+append-none (x ∷ xs) = ap (λ (l : List ℕ). x ∷ l) (append-none xs)
+
+three : (P : ℕ → Type 0) → P 3 → P 4 → P 5 → (k : ℕ) → 3 ≤ k → k ≤ 5 → P k
+three P a b c k l r = go (eqb k 3) (eqb k 4) refl refl where
+  is-5 : 5 ≤ k → 5 ≡ k
+  is-5 h = omega arith
+
+  go : (x y : Bool) → eqb k 3 ≡ x → eqb k 4 ≡ y → P k
+  go true y p q = subst P (sym (eqb-true k 3 p)) a
+  go false true p q = subst P (sym (eqb-true k 4 q)) b
+  go false false p q = subst P (is-5 (above k 4 (above k 3 l p) q)) c
+
+six-cases : (P : ℕ → Type 0) → P 1 → P 2 → P 3 → P 4 → P 5 → P 6 → (k : ℕ) → 1 ≤ k → k ≤ 6 → P k
+six-cases P a b c d e g k l r = go (eqb k 6) refl where
+  go : (x : Bool) → eqb k 6 ≡ x → P k
+  go true p = subst P (sym (eqb-true k 6 p)) g
+  go false p = five P a b c d e k l (below (eqb-false k 6 p)) where
+    below : (k ≡ 6 → ⊥) → k ≤ 5
+    below h = omega (arith, h)
+
+-- a table's row by its number
+by-row : {s : List ℕ} (n i : ℕ) → (Fails authenticate s 1 i → ⊥) → (Fails authenticate s 2 i → ⊥) → (Fails authenticate s 3 i → ⊥) → (Fails authenticate s 4 i → ⊥) → (Fails authenticate s 5 i → ⊥) → (Fails authenticate s 6 i → ⊥) → (Fails authenticate s 7 i → ⊥) → (Fails authenticate s 8 i → ⊥) → (Fails authenticate s 9 i → ⊥) → Fails authenticate s n i → ⊥
+by-row {s} n i a b c d e f g h k w = go (eqb n 1) (eqb n 2) (eqb n 3) (eqb n 4) (eqb n 5) (eqb n 6) (eqb n 7) (eqb n 8) (eqb n 9) refl refl refl refl refl refl refl refl refl where
+  go : (x1 x2 x3 x4 x5 x6 x7 x8 x9 : Bool) → eqb n 1 ≡ x1 → eqb n 2 ≡ x2 → eqb n 3 ≡ x3 → eqb n 4 ≡ x4 → eqb n 5 ≡ x5 → eqb n 6 ≡ x6 → eqb n 7 ≡ x7 → eqb n 8 ≡ x8 → eqb n 9 ≡ x9 → ⊥
+  go true x2 x3 x4 x5 x6 x7 x8 x9 p1 p2 p3 p4 p5 p6 p7 p8 p9 = a (subst (λ (z : ℕ). Fails authenticate s z i) (eqb-true n 1 p1) w)
+  go false true x3 x4 x5 x6 x7 x8 x9 p1 p2 p3 p4 p5 p6 p7 p8 p9 = b (subst (λ (z : ℕ). Fails authenticate s z i) (eqb-true n 2 p2) w)
+  go false false true x4 x5 x6 x7 x8 x9 p1 p2 p3 p4 p5 p6 p7 p8 p9 = c (subst (λ (z : ℕ). Fails authenticate s z i) (eqb-true n 3 p3) w)
+  go false false false true x5 x6 x7 x8 x9 p1 p2 p3 p4 p5 p6 p7 p8 p9 = d (subst (λ (z : ℕ). Fails authenticate s z i) (eqb-true n 4 p4) w)
+  go false false false false true x6 x7 x8 x9 p1 p2 p3 p4 p5 p6 p7 p8 p9 = e (subst (λ (z : ℕ). Fails authenticate s z i) (eqb-true n 5 p5) w)
+  go false false false false false true x7 x8 x9 p1 p2 p3 p4 p5 p6 p7 p8 p9 = f (subst (λ (z : ℕ). Fails authenticate s z i) (eqb-true n 6 p6) w)
+  go false false false false false false true x8 x9 p1 p2 p3 p4 p5 p6 p7 p8 p9 = g (subst (λ (z : ℕ). Fails authenticate s z i) (eqb-true n 7 p7) w)
+  go false false false false false false false true x9 p1 p2 p3 p4 p5 p6 p7 p8 p9 = h (subst (λ (z : ℕ). Fails authenticate s z i) (eqb-true n 8 p8) w)
+  go false false false false false false false false true p1 p2 p3 p4 p5 p6 p7 p8 p9 = k (subst (λ (z : ℕ). Fails authenticate s z i) (eqb-true n 9 p9) w)
+  go false false false false false false false false false p1 p2 p3 p4 p5 p6 p7 p8 p9 = simp (p1, p2, p3, p4, p5, p6, p7, p8, p9) at w
+
+-- a head reads back
+head-back : (p r : List ℕ) (g : Field) → headAt (p ++ (headBytes g ++ r)) (length p) ≡ g
+unfolding headBytes
+head-back p r g =
+    let l = g .len in
+    let o = g .offset in
+    let one : u16At (p ++ ((le16 l ++ (le16 l ++ le32 o)) ++ r)) (length p) ≡ l =
+    ap (λ (x : List ℕ). u16At (p ++ x) (length p)) (append-assoc (le16 l) (le16 l ++ le32 o) r) ∙ back16 p ((le16 l ++ le32 o) ++ r) l (length p) refl in
+    let two : p ++ ((le16 l ++ (le16 l ++ le32 o)) ++ r) ≡ (p ++ (le16 l ++ le16 l)) ++ (le32 o ++ r) = simp append-assoc in
+    let far : length (p ++ (le16 l ++ le16 l)) ≡ length p + 4 = simp (length-append, length-le16) (omega arith) in
+    let four : u32At (p ++ ((le16 l ++ (le16 l ++ le32 o)) ++ r)) (length p + 4) ≡ o =
+    ap (λ (x : List ℕ). u32At x (length p + 4)) two ∙ back32 (p ++ (le16 l ++ le16 l)) r o (length p + 4) far in
+    λ i. record { offset = four i; len = one i }
+
+head-long : (g : Field) → length (headBytes g) ≡ 8
+unfolding headBytes
+head-long g = simp (length-append, length-le16, length-le32)
+
+module _ (w : NegotiateFlags) (v mic lm nt dom usr wks key : List ℕ) (v8 : length v ≡ 8) (m16 : length mic ≡ 16) where
+  f : Fields
+  f = fieldsTo (length lm) (length nt) (length dom) (length usr) (length wks) (length key)
+
+  tail : List ℕ
+  tail = le32 (w .bits) ++ (versionBytes w v ++ (mic ++ payloadBytes lm nt dom usr wks key))
+
+  abbrev rest0 : List ℕ
+  rest0 = headBytes (f .lm) ++ (headBytes (f .nt) ++ (headBytes (f .domain) ++ (headBytes (f .user) ++ (headBytes (f .workstation) ++ (headBytes (f .key) ++ tail)))))
+
+  at0 : authenticateBytes w v mic lm nt dom usr wks key ≡ (signature ++ le32 3) ++ rest0
+  unfolding authenticateBytes fixedBytes headsBytes laterHeads afterHeads f tail
+  at0 = simp append-assoc
+
+  M : List ℕ
+  M = authenticateBytes w v mic lm nt dom usr wks key
+
+  -- what stands before each part
+  q0 : List ℕ
+  q0 = signature ++ le32 3
+
+  q1 : List ℕ
+  q1 = q0 ++ headBytes (f .lm)
+
+  q2 : List ℕ
+  q2 = q1 ++ headBytes (f .nt)
+
+  q3 : List ℕ
+  q3 = q2 ++ headBytes (f .domain)
+
+  q4 : List ℕ
+  q4 = q3 ++ headBytes (f .user)
+
+  q5 : List ℕ
+  q5 = q4 ++ headBytes (f .workstation)
+
+  q6 : List ℕ
+  q6 = q5 ++ headBytes (f .key)
+
+  q8 : List ℕ
+  q8 = q6 ++ (le32 (w .bits) ++ versionBytes w v)
+
+  q9 : List ℕ
+  q9 = q8 ++ mic
+
+  at1 : M ≡ q1 ++ (headBytes (f .nt) ++ (headBytes (f .domain) ++ (headBytes (f .user) ++ (headBytes (f .workstation) ++ (headBytes (f .key) ++ tail)))))
+  unfolding M q0 q1
+  at1 = at0 ∙ sym (append-assoc q0 (headBytes (f .lm)) _)
+
+  at2 : M ≡ q2 ++ (headBytes (f .domain) ++ (headBytes (f .user) ++ (headBytes (f .workstation) ++ (headBytes (f .key) ++ tail))))
+  unfolding q2
+  at2 = at1 ∙ sym (append-assoc q1 (headBytes (f .nt)) _)
+
+  at3 : M ≡ q3 ++ (headBytes (f .user) ++ (headBytes (f .workstation) ++ (headBytes (f .key) ++ tail)))
+  unfolding q3
+  at3 = at2 ∙ sym (append-assoc q2 (headBytes (f .domain)) _)
+
+  at4 : M ≡ q4 ++ (headBytes (f .workstation) ++ (headBytes (f .key) ++ tail))
+  unfolding q4
+  at4 = at3 ∙ sym (append-assoc q3 (headBytes (f .user)) _)
+
+  at5 : M ≡ q5 ++ (headBytes (f .key) ++ tail)
+  unfolding q5
+  at5 = at4 ∙ sym (append-assoc q4 (headBytes (f .workstation)) _)
+
+  at6 : M ≡ q6 ++ tail
+  unfolding q6
+  at6 = at5 ∙ sym (append-assoc q5 (headBytes (f .key)) tail)
+
+  at8 : M ≡ q8 ++ (mic ++ payloadBytes lm nt dom usr wks key)
+  unfolding q8 tail
+  at8 =
+      at6 ∙ ap (λ (x : List ℕ). q6 ++ x) (sym (append-assoc (le32 (w .bits)) (versionBytes w v) (mic ++ payloadBytes lm nt dom usr wks key)))
+      ∙ sym (append-assoc q6 (le32 (w .bits) ++ versionBytes w v) (mic ++ payloadBytes lm nt dom usr wks key))
+
+  at9 : M ≡ q9 ++ payloadBytes lm nt dom usr wks key
+  unfolding q9
+  at9 = at8 ∙ sym (append-assoc q8 mic (payloadBytes lm nt dom usr wks key))
+
+  -- their lengths
+  l0 : length q0 ≡ 12
+  unfolding q0
+  l0 = simp (length-append, length-le32)
+
+  l1 : length q1 ≡ 20
+  unfolding q1
+  l1 = simp (length-append, head-long, l0)
+
+  l2 : length q2 ≡ 28
+  unfolding q2
+  l2 = simp (length-append, head-long, l1)
+
+  l3 : length q3 ≡ 36
+  unfolding q3
+  l3 = simp (length-append, head-long, l2)
+
+  l4 : length q4 ≡ 44
+  unfolding q4
+  l4 = simp (length-append, head-long, l3)
+
+  l5 : length q5 ≡ 52
+  unfolding q5
+  l5 = simp (length-append, head-long, l4)
+
+  l6 : length q6 ≡ 60
+  unfolding q6
+  l6 = simp (length-append, head-long, l5)
+
+  version-long : length (versionBytes w v) ≡ 8
+  unfolding versionBytes
+  version-long = go (version w) where
+    go : (b : Bool) → length (cond b v (replicate 8 0)) ≡ 8
+    go true = v8
+    go false = refl
+
+  l8 : length q8 ≡ 72
+  unfolding q8
+  l8 = simp (length-append, length-le32, version-long, l6)
+
+  l9 : length q9 ≡ 88
+  unfolding q9
+  l9 = simp (length-append, l8, m16)
+
+  -- the heads, the flags and the MIC read back
+  back-at : (p r : List ℕ) (g : Field) (at : ℕ) → M ≡ p ++ (headBytes g ++ r) → length p ≡ at → headAt M at ≡ g
+  back-at p r g at e l = subst (λ (k : ℕ). headAt M k ≡ g) l (ap (λ (x : List ℕ). headAt x (length p)) e ∙ head-back p r g)
+
+  lm-head : headAt M 12 ≡ f .lm
+  unfolding M q0
+  lm-head = back-at q0 _ (f .lm) 12 at0 l0
+
+  nt-head : headAt M 20 ≡ f .nt
+  nt-head = back-at q1 _ (f .nt) 20 at1 l1
+
+  domain-head : headAt M 28 ≡ f .domain
+  domain-head = back-at q2 _ (f .domain) 28 at2 l2
+
+  user-head : headAt M 36 ≡ f .user
+  user-head = back-at q3 _ (f .user) 36 at3 l3
+
+  workstation-head : headAt M 44 ≡ f .workstation
+  workstation-head = back-at q4 _ (f .workstation) 44 at4 l4
+
+  key-head : headAt M 52 ≡ f .key
+  key-head = back-at q5 tail (f .key) 52 at5 l5
+
+  flags-back : u32At M 60 ≡ w .bits
+  unfolding tail
+  flags-back = ap (λ (x : List ℕ). u32At x 60) at6 ∙ back32 q6 _ (w .bits) 60 l6
+
+  mic-back : take 16 (drop 72 M) ≡ mic
+  mic-back =
+      ap (λ (x : List ℕ). take 16 (drop 72 x)) at8 ∙ ap (λ (x : List ℕ). take 16 x) (drop-at q8 (mic ++ payloadBytes lm nt dom usr wks key) 72 l8)
+      ∙ take-at mic (payloadBytes lm nt dom usr wks key) 16 m16
+
+  type-back : u32At M 8 ≡ 3
+  unfolding M
+  type-back = ap (λ (x : List ℕ). u32At x 8) (at0 ∙ append-assoc signature (le32 3) rest0) ∙ back32 signature rest0 3 8 refl
+
+  signature-back : take 8 M ≡ signature
+  unfolding M
+  signature-back = ap (λ (x : List ℕ). take 8 x) (at0 ∙ append-assoc signature (le32 3) rest0) ∙ take-at signature (le32 3 ++ rest0) 8 refl
+
+  long : length M ≡ 88 + length (payloadBytes lm nt dom usr wks key)
+  long = ap length at9 ∙ simp (length-append, l9)
+
+  -- lengths and offsets by their heads
+  len-of : (g h : Field) → g ≡ h → g .len ≡ h .len
+  len-of g h e = ap (λ (x : Field). x .len) e
+
+  off-of : (g h : Field) → g ≡ h → g .offset ≡ h .offset
+  off-of g h e = ap (λ (x : Field). x .offset) e
+
+  len1 : lenOf authenticate M 1 ≡ length lm
+  unfolding f fieldsTo
+  len1 = len-of _ _ lm-head
+
+  off1 : offsetOf authenticate M 1 ≡ 88 + length dom + length usr + length wks
+  unfolding f fieldsTo
+  off1 = off-of _ _ lm-head
+
+  len2 : lenOf authenticate M 2 ≡ length nt
+  unfolding f fieldsTo
+  len2 = len-of _ _ nt-head
+
+  off2 : offsetOf authenticate M 2 ≡ 88 + length dom + length usr + length wks + length lm
+  unfolding f fieldsTo
+  off2 = off-of _ _ nt-head
+
+  len3 : lenOf authenticate M 3 ≡ length dom
+  unfolding f fieldsTo
+  len3 = len-of _ _ domain-head
+
+  off3 : offsetOf authenticate M 3 ≡ 88
+  unfolding f fieldsTo
+  off3 = off-of _ _ domain-head
+
+  len4 : lenOf authenticate M 4 ≡ length usr
+  unfolding f fieldsTo
+  len4 = len-of _ _ user-head
+
+  off4 : offsetOf authenticate M 4 ≡ 88 + length dom
+  unfolding f fieldsTo
+  off4 = off-of _ _ user-head
+
+  len5 : lenOf authenticate M 5 ≡ length wks
+  unfolding f fieldsTo
+  len5 = len-of _ _ workstation-head
+
+  off5 : offsetOf authenticate M 5 ≡ 88 + length dom + length usr
+  unfolding f fieldsTo
+  off5 = off-of _ _ workstation-head
+
+  len6 : lenOf authenticate M 6 ≡ length key
+  unfolding f fieldsTo
+  len6 = len-of _ _ key-head
+
+  off6 : offsetOf authenticate M 6 ≡ 88 + length dom + length usr + length wks + length lm + length nt
+  unfolding f fieldsTo
+  off6 = off-of _ _ key-head
+
+  whole : length M ≡ 88 + length dom + length usr + length wks + length lm + length nt + length key
+  unfolding payloadBytes secretsBytes
+  whole = long ∙ simp length-append (omega arith)
+
+  -- the bytes of the fields
+  in-payload : (p x r : List ℕ) (o n : ℕ) → M ≡ p ++ (x ++ r) → length p ≡ o → length x ≡ n → take n (drop o M) ≡ x
+  in-payload p x r o n e lp lx =
+      ap (λ (l : List ℕ). take n (drop o l)) e ∙ ap (λ (l : List ℕ). take n l) (drop-at p (x ++ r) o lp) ∙ take-at x r n lx
+
+  dom-bytes : take (length dom) (drop 88 M) ≡ dom
+  unfolding payloadBytes
+  dom-bytes = in-payload q9 dom _ 88 (length dom) at9 l9 refl
+
+  at-user : M ≡ (q9 ++ dom) ++ (usr ++ (wks ++ secretsBytes lm nt key))
+  unfolding payloadBytes
+  at-user = at9 ∙ sym (append-assoc q9 dom (usr ++ (wks ++ secretsBytes lm nt key)))
+
+  at-work : M ≡ ((q9 ++ dom) ++ usr) ++ (wks ++ secretsBytes lm nt key)
+  at-work = at-user ∙ sym (append-assoc (q9 ++ dom) usr (wks ++ secretsBytes lm nt key))
+
+  at-lm : M ≡ (((q9 ++ dom) ++ usr) ++ wks) ++ (lm ++ (nt ++ key))
+  unfolding secretsBytes
+  at-lm = at-work ∙ sym (append-assoc ((q9 ++ dom) ++ usr) wks (lm ++ (nt ++ key)))
+
+  at-nt : M ≡ ((((q9 ++ dom) ++ usr) ++ wks) ++ lm) ++ (nt ++ key)
+  at-nt = at-lm ∙ sym (append-assoc (((q9 ++ dom) ++ usr) ++ wks) lm (nt ++ key))
+
+  at-key : M ≡ (((((q9 ++ dom) ++ usr) ++ wks) ++ lm) ++ nt) ++ (key ++ [])
+  at-key =
+      at-nt ∙ sym (append-assoc ((((q9 ++ dom) ++ usr) ++ wks) ++ lm) nt key)
+      ∙ ap (λ (x : List ℕ). (((((q9 ++ dom) ++ usr) ++ wks) ++ lm) ++ nt) ++ x) (sym (append-none key))
+
+  usr-bytes : take (length usr) (drop (88 + length dom) M) ≡ usr
+  usr-bytes = in-payload (q9 ++ dom) usr _ (88 + length dom) (length usr) at-user (simp (length-append, l9)) refl
+
+  wks-bytes : take (length wks) (drop (88 + length dom + length usr) M) ≡ wks
+  wks-bytes = in-payload ((q9 ++ dom) ++ usr) wks _ (88 + length dom + length usr) (length wks) at-work (simp (length-append, l9)) refl
+
+  lm-bytes : take (length lm) (drop (88 + length dom + length usr + length wks) M) ≡ lm
+  lm-bytes = in-payload (((q9 ++ dom) ++ usr) ++ wks) lm _ (88 + length dom + length usr + length wks) (length lm) at-lm (simp (length-append, l9)) refl
+
+  nt-bytes : take (length nt) (drop (88 + length dom + length usr + length wks + length lm) M) ≡ nt
+  nt-bytes = in-payload ((((q9 ++ dom) ++ usr) ++ wks) ++ lm) nt key (88 + length dom + length usr + length wks + length lm) (length nt) at-nt (simp (length-append, l9)) refl
+
+  key-bytes : take (length key) (drop (88 + length dom + length usr + length wks + length lm + length nt) M) ≡ key
+  key-bytes = in-payload (((((q9 ++ dom) ++ usr) ++ wks) ++ lm) ++ nt) key [] (88 + length dom + length usr + length wks + length lm + length nt) (length key) at-key (simp (length-append, l9)) refl
+
+  -- the names lie before the secrets
+  name-end : (i : ℕ) → authenticate .Name i → offsetOf authenticate M i + lenOf authenticate M i ≤ 88 + length dom + length usr + length wks
+  name-end i n = three (λ k. offsetOf authenticate M k + lenOf authenticate M k ≤ 88 + length dom + length usr + length wks)
+      (omega (arith, off3, len3)) (omega (arith, off4, len4)) (omega (arith, off5, len5)) i (n .0) (n .1)
+
+  secret-start : (j : ℕ) → authenticate .Secret j → 88 + length dom + length usr + length wks ≤ offsetOf authenticate M j
+  secret-start j q =
+      ⊎-elim (λ e. subst (λ (k : ℕ). 88 + length dom + length usr + length wks ≤ offsetOf authenticate M k) (sym e) (omega (arith, off1)))
+      (⊎-elim (λ e. subst (λ (k : ℕ). 88 + length dom + length usr + length wks ≤ offsetOf authenticate M k) (sym e) (omega (arith, off2)))
+      (λ e. subst (λ (k : ℕ). 88 + length dom + length usr + length wks ≤ offsetOf authenticate M k) (sym e) (omega (arith, off6))))
+      q
+
+  -- every field lies within the message, from 88 on
+  field-end : (i : ℕ) → 1 ≤ i → i ≤ 6 → offsetOf authenticate M i + lenOf authenticate M i ≤ length M
+  field-end =
+      six-cases (λ k. offsetOf authenticate M k + lenOf authenticate M k ≤ length M)
+      (omega (arith, off1, len1, whole)) (omega (arith, off2, len2, whole)) (omega (arith, off3, len3, whole))
+      (omega (arith, off4, len4, whole)) (omega (arith, off5, len5, whole)) (omega (arith, off6, len6, whole))
+
+  field-start : (i : ℕ) → 1 ≤ i → i ≤ 6 → 88 ≤ offsetOf authenticate M i
+  field-start =
+      six-cases (λ k. 88 ≤ offsetOf authenticate M k)
+      (omega (arith, off1)) (omega (arith, off2)) (omega (arith, off3)) (omega (arith, off4)) (omega (arith, off5)) (omega (arith, off6))
+
+  -- the written message passes every check
+  module _ (charset : charsetHolds w ≡ Held) (names : checkNamesToWrite (unicode w) dom usr wks ≡ Clear) (size : length M ≤ 65535) where
+    flag : (mask : ℕ) → eqb (w .bits / mask % 2) 1 ≡ true → Set authenticate M mask
+    flag mask e = ap (λ (n : ℕ). n / mask % 2) flags-back ∙ eqb-true _ 1 e
+
+    unicode-set : Set authenticate M 0x1 → unicode w ≡ true
+    unicode-set e = eq-eqb _ 1 (ap (λ (n : ℕ). n / 0x1 % 2) (sym flags-back) ∙ e)
+
+    no-5 : (i : ℕ) → Fails authenticate M 5 i → ⊥
+    no-5 i h = ⊎-elim (λ e. h .1 (flag 0x1 e)) (λ e. h .2 (flag 0x2 e)) (or-either (unicode w) (oem w) (held-true _ charset))
+
+    even : (x : List ℕ) → evenToWrite (unicode w) x ≡ Held → unicode w ≡ true → length x % 2 ≡ 0
+    even x h u = go (unicode w) u (held-true _ h) where
+      go : (b : Bool) → b ≡ true → (not b || eqb (length x % 2) 0) ≡ true → length x % 2 ≡ 0
+      go true p q = eqb-true _ 0 q
+      go false p q = absurd (true-not-false (sym p))
+
+    no-8 : (i : ℕ) → Fails authenticate M 8 i → ⊥
+    unfolding checkNamesToWrite
+    no-8 i h =
+        let u = unicode-set (h .2) in
+        let n3 = after-held (evenToWrite (unicode w) dom) (OddNameToWrite 3) _ names in
+        let n4 = after-held (evenToWrite (unicode w) usr) (OddNameToWrite 4) _ (n3 .1) in
+        let n5 = after-held (evenToWrite (unicode w) wks) (OddNameToWrite 5) _ (n4 .1) in
+        three (λ k. (offsetOf authenticate M k % 2 ≡ 1) ⊎ (lenOf authenticate M k % 2 ≡ 1) → ⊥)
+        (odd 88 (length dom) _ _ off3 len3 refl (even dom (n3 .0) u))
+        (odd (88 + length dom) (length usr) _ _ off4 len4 (step 88 (length dom) refl (even dom (n3 .0) u)) (even usr (n4 .0) u))
+        (odd (88 + length dom + length usr) (length wks) _ _ off5 len5 (step (88 + length dom) (length usr) (step 88 (length dom) refl (even dom (n3 .0) u)) (even usr (n4 .0) u)) (even wks (n5 .0) u))
+        i (h .1 .0) (h .1 .1) (h .3)
+      where
+        step : (a b : ℕ) → a % 2 ≡ 0 → b % 2 ≡ 0 → (a + b) % 2 ≡ 0
+        step a b p q = omega arith
+
+        odd : (a b x y : ℕ) → x ≡ a → y ≡ b → a % 2 ≡ 0 → b % 2 ≡ 0 → (x % 2 ≡ 1) ⊎ (y % 2 ≡ 1) → ⊥
+        odd a b x y p q ea eb s = ⊎-elim (λ o. omega arith) (λ o. omega arith) s
+
+    no-9 : (i : ℕ) → Fails authenticate M 9 i → ⊥
+    no-9 i h =
+        let s = h .2 in
+        omega (arith, name-end i (h .1), secret-start (s .0) (s .3), s .4 .1, s .5 .0)
+
+    none-fails : (n i : ℕ) → Fails authenticate M n i → ⊥
+    none-fails n i =
+        by-row n i (λ h. omega (arith, h .1)) (λ h. omega (arith, h .1, whole)) (λ h. h .1 signature-back) (λ h. h .1 type-back) (no-5 i)
+        (λ h. omega (arith, h .1, field-end i (h .0 .first) (h .0 .last)))
+        (λ h. omega (arith, h .1, field-start i (h .0 .first) (h .0 .last)))
+        (no-8 i) (no-9 i)
+
+    -- and so it is taken, with the fields as they were given
+    own-same : (i : ℕ) (g : Field) (x : List ℕ) → OwnField authenticate M i g → (0 < lenOf authenticate M i → Nonempty authenticate M i) →
+        lenOf authenticate M i ≡ length x → take (length x) (drop (offsetOf authenticate M i) M) ≡ x → fieldBytes M g ≡ x
+    own-same i g x o full l e = go (length x) refl where
+      go : (n : ℕ) → length x ≡ n → fieldBytes M g ≡ x
+      go zero p = o .none (λ ne. omega (arith, ne .some)) .2 ∙ sym (empty x p) where
+        empty : (y : List ℕ) → length y ≡ 0 → y ≡ []
+        empty [] q = refl
+        empty (y ∷ ys) q = absurd (omega arith)
+      go (suc n) p = o .bytes (full (omega arith)) ∙ ap (λ (k : ℕ). take k (drop (offsetOf authenticate M i) M)) l ∙ e
+
+    there : MicThere authenticate M
+    there = record { kind = tt; fields = λ i ne. field-start i (ne .first) (ne .last); message = λ h. omega (arith, whole) }
+
+    at-offset : (i n o : ℕ) (x : List ℕ) → offsetOf authenticate M i ≡ o → take n (drop o M) ≡ x → take n (drop (offsetOf authenticate M i) M) ≡ x
+    at-offset i n o x e h = ap (λ (k : ℕ). take n (drop k M)) e ∙ h
+
+    counted : (i : ℕ) → 1 ≤ i → i ≤ 5 → 0 < lenOf authenticate M i → Nonempty authenticate M i
+    counted i l r s = record { first = l; last = omega arith; counts = λ e. absurd (omega arith); some = s }
+
+    key-counts : keyHolds w key ≡ Held → 0 < lenOf authenticate M 6 → Nonempty authenticate M 6
+    key-counts h s = record { first = omega arith; last = omega arith; counts = λ e. flag 0x40000000 (go (eqb (length key) 0) refl (held-true _ h)); some = s } where
+      go : (b : Bool) → eqb (length key) 0 ≡ b → (b || (eqb (length key) 16 && keyExch w)) ≡ true → keyExch w ≡ true
+      go true p q = absurd (omega (arith, eqb-true (length key) 0 p, len6))
+      go false p q = and-right (eqb (length key) 16) (keyExch w) q
+
+    back : keyHolds w key ≡ Held → AuthenticateBack M w mic lm nt dom usr wks key
+    back held = go (readAuthenticate M .reading) refl (authenticate-taken M .1 none-fails) where
+      go : (r : Reading) → readAuthenticate M .reading ≡ r → IsTaken r → AuthenticateBack M w mic lm nt dom usr wks key
+      go (Taken a) e t =
+          let o = authenticate-own M a e in
+          record {
+            message = a;
+            read = e;
+            flags-same = o .flags ∙ flags-back;
+            mic-there = o .mic-present .1 there;
+            mic-same = o .mic-bytes there ∙ mic-back;
+            lm-same = own-same 1 (a .fields .lm) lm (o .lm) (counted 1 (omega arith) (omega arith)) len1 (at-offset 1 (length lm) _ lm off1 lm-bytes);
+            nt-same = own-same 2 (a .fields .nt) nt (o .nt) (counted 2 (omega arith) (omega arith)) len2 (at-offset 2 (length nt) _ nt off2 nt-bytes);
+            domain-same = own-same 3 (a .fields .domain) dom (o .domain) (counted 3 (omega arith) (omega arith)) len3 (at-offset 3 (length dom) 88 dom off3 dom-bytes);
+            user-same = own-same 4 (a .fields .user) usr (o .user) (counted 4 (omega arith) (omega arith)) len4 (at-offset 4 (length usr) _ usr off4 usr-bytes);
+            workstation-same = own-same 5 (a .fields .workstation) wks (o .workstation) (counted 5 (omega arith) (omega arith)) len5 (at-offset 5 (length wks) _ wks off5 wks-bytes);
+            key-same = own-same 6 (a .fields .key) key (o .key) (key-counts held) len6 (at-offset 6 (length key) _ key off6 key-bytes);
+          }
+      go (Refused d) e t = absurd t
+
+clear-both : (c x : Verdict) → onClear Not c x ≡ Clear → (c ≡ Clear) × (x ≡ Clear)
+clear-both Clear x h = (refl, h)
+clear-both (Not e) x h = (cc, cc)
+
+pub authenticate-reads-back : AuthenticateReadsBack
+unfolding writeAnswer writeOut checkToWrite M
+authenticate-reads-back out w v mic lm nt dom usr wks key n v8 m16 h =
+    let t = written-is (checkToWrite (length out) w lm nt dom usr wks key) (authenticateBytes w v mic lm nt dom usr wks key) out n h in
+    let c = after-held (charsetHolds w) NoCharset _ (t .0) in
+    let m = clear-both (checkNamesToWrite (unicode w) dom usr wks) _ (c .1) in
+    let k = after-held (keyHolds w key) WrongKey _ (m .1) in
+    let z = after-held (sizeHolds (sizeToWrite lm nt dom usr wks key)) TooLongToWrite _ (k .1) in
+    let size = leb-true (sizeToWrite lm nt dom usr wks key) 65535 (held-true _ (z .0)) in
+    rw (t .1)
+    (back w v mic lm nt dom usr wks key v8 m16 (c .0) (m .0) (omega (arith, size, long w v mic lm nt dom usr wks key v8 m16)) (k .0))
