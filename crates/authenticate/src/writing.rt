@@ -143,9 +143,9 @@ fn put_head(place: Place, out: &mut [u8], f: Field) -> Place
     ensures next { λ r. ⌜ r .at ≡ place .at + 8 ⌝ }
     ensures { λ r. ⌜ Wrote (now (out .entry)) (now (out .exit)) (place .at) (r .at) (headBytes f) ⌝ }
 {
-    let place = place.put_u16(out, f.len);
-    let place = place.put_u16(out, f.len);
-    place.put_u32(out, f.offset)
+    let max_len = place.put_u16(out, f.len);
+    let offset = max_len.put_u16(out, f.len);
+    offset.put_u32(out, f.offset)
 }
 
 // The heads of fields 3 to 6.

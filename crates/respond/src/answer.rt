@@ -132,11 +132,8 @@ fn send(
         workstation,
         key,
     );
-    answer_with(
-        written,
-        time_to_send(settings, timestamp, clock),
-        mic_due(timestamp),
-    )
+    let time = time_to_send(settings, timestamp, clock);
+    answer_with(written, time, mic_due(timestamp))
 }
 
 // Answers a challenge by the settings; `mic` and `key` are written where they are due.
