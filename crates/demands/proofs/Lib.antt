@@ -22,3 +22,4 @@ pub mod LineIgnored
 pub mod Secret
 pub mod Walk
 pub mod WriteBack
+pub mod Answered

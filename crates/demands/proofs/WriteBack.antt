@@ -1,14 +1,14 @@
 -- What AUTHENTICATE's writer writes, byte by byte.
-use Prim.Native.Nat.{ℕ, zero, suc, _+_, _/_, _%_, _≤_, _<_}
+use Prim.Native.Nat.{ℕ, zero, suc, _+_, _-_, _/_, _%_, _≤_, _<_}
 use mathlib.Core.Path.{_≡_, refl, sym, ap, _∙_, subst}
 use mathlib.Core.Bool.{Bool, true, false, _||_, _&&_, not, cond}
-use mathlib.Core.Logic.{_⊎_, ⊎-elim}
+use mathlib.Core.Logic.{_⊎_, inl, inr, ⊎-elim}
 use mathlib.Core.List.{List, [], _∷_, _++_, append-assoc}
 use native.Mathlib.Omega.{arith}
-use lib.Dec.{eqb}
-use lib.ListN.{length, take, drop, replicate, length-append}
-use lib.Seq.{take-at, drop-at}
-use borrow.Author.Tests.{eqb-true, eqb-false, eq-eqb, leb-true}
+use lib.Dec.{eqb, ltb}
+use lib.ListN.{List·getD-append, List·getD-eq-default, getD, length, take, drop, replicate, length-append}
+use lib.Seq.{take-at, drop-at, getD-append-add}
+use borrow.Author.Tests.{eqb-true, eqb-false, eq-eqb, leb-true, ltb-true, ltb-false}
 use Rattle.wire.specs.declared.field.Field.{Field}
 use Rattle.wire.specs.declared.check.Checked.the-variants.{Held}
 use Rattle.wire.specs.declared.check.Verdict.the-variants.{Clear, Refused as Not}
@@ -31,6 +31,7 @@ use Rattle.authenticate.specs.Authenticate.{readAuthenticate}
 use Rattle.demands.proofs.Bools.{true-not-false, held-true, or-either, after-held}
 use Rattle.demands.proofs.NlAuth.{above, five}
 use Rattle.demands.specs.OwnBytes.{OwnField}
+use Rattle.demands.specs.Secret.{Secret, secret-field, mic as mic-byte, AsLong, AlikeOutside}
 use Rattle.demands.specs.ReadBack.{AuthenticateBack, AuthenticateReadsBack}
 use Rattle.demands.specs.TakenExactly.{IsTaken}
 use Rattle.demands.proofs.OwnBytes.{authenticate-own}
@@ -480,6 +481,124 @@ module _ (w : NegotiateFlags) (v mic lm nt dom usr wks key : List ℕ) (v8 : len
           }
       go (Refused d) e t = absurd t
 
+-- two messages with secrets of the same lengths: alike outside the secrets and the MIC
+module _ (w : NegotiateFlags) (v dom usr wks mic lm nt key mic′ lm′ nt′ key′ : List ℕ) (v8 : length v ≡ 8) (long-as : AsLong mic lm nt key mic′ lm′ nt′ key′) where
+  S : List ℕ
+  S = M w v mic lm nt dom usr wks key v8 (long-as .mic-16)
+
+  T : List ℕ
+  T = M w v mic′ lm′ nt′ dom usr wks key′ v8 (sym (long-as .mic-same) ∙ long-as .mic-16)
+
+  front : List ℕ
+  front = q8 w v mic lm nt dom usr wks key v8 (long-as .mic-16)
+
+  named : List ℕ
+  named = dom ++ (usr ++ wks)
+
+  front-same : q8 w v mic′ lm′ nt′ dom usr wks key′ v8 (sym (long-as .mic-same) ∙ long-as .mic-16) ≡ front
+  unfolding front q8 q6 q5 q4 q3 q2 q1 q0 f
+  front-same = simp (long-as .lm-same, long-as .nt-same, long-as .key-same)
+
+  S-is : S ≡ front ++ (mic ++ (named ++ (lm ++ (nt ++ key))))
+  unfolding S front named payloadBytes secretsBytes
+  S-is = at8 w v mic lm nt dom usr wks key v8 (long-as .mic-16) ∙ ap (λ (x : List ℕ). front ++ (mic ++ x)) (simp append-assoc)
+
+  T-is : T ≡ front ++ (mic′ ++ (named ++ (lm′ ++ (nt′ ++ key′))))
+  unfolding T named payloadBytes secretsBytes
+  T-is =
+      at8 w v mic′ lm′ nt′ dom usr wks key′ v8 (sym (long-as .mic-same) ∙ long-as .mic-16)
+      ∙ ap (λ (x : List ℕ). x ++ (mic′ ++ (dom ++ (usr ++ (wks ++ (lm′ ++ (nt′ ++ key′))))))) front-same
+      ∙ ap (λ (x : List ℕ). front ++ (mic′ ++ x)) (simp append-assoc)
+
+  getD-T : (p : ℕ) → getD T p 0 ≡ getD (front ++ (mic′ ++ (named ++ (lm′ ++ (nt′ ++ key′))))) p 0
+  getD-T p = ap (λ (x : List ℕ). getD x p 0) T-is
+
+  getD-S : (p : ℕ) → getD S p 0 ≡ getD (front ++ (mic ++ (named ++ (lm ++ (nt ++ key))))) p 0
+  getD-S p = ap (λ (x : List ℕ). getD x p 0) S-is
+
+  front-72 : length front ≡ 72
+  unfolding front
+  front-72 = l8 w v mic lm nt dom usr wks key v8 (long-as .mic-16)
+
+  -- past two lists of one length
+  past : (x y r q : List ℕ) (p : ℕ) → length x ≡ length y → length x ≤ p → getD r (p - length x) 0 ≡ getD q (p - length x) 0 → getD (x ++ r) p 0 ≡ getD (y ++ q) p 0
+  past x y r q p e l h =
+      let is : length x + (p - length x) ≡ p = omega arith in
+      let js : length y + (p - length x) ≡ p = omega arith in
+      subst (λ (k : ℕ). getD (x ++ r) k 0 ≡ getD (y ++ q) p 0) is
+      (getD-append-add x r (p - length x) 0 ∙ h ∙ sym (subst (λ (k : ℕ). getD (y ++ q) k 0 ≡ getD q (p - length x) 0) js (getD-append-add y q (p - length x) 0)))
+
+  before : (x r q : List ℕ) (p : ℕ) → p < length x → getD (x ++ r) p 0 ≡ getD (x ++ q) p 0
+  before x r q p l = List·getD-append x r 0 p l ∙ sym (List·getD-append x q 0 p l)
+
+  in-front : (p : ℕ) → p < 72 → getD S p 0 ≡ getD T p 0
+  in-front p l = getD-S p ∙ before front _ _ p (omega (arith, front-72)) ∙ sym (getD-T p)
+
+  in-names : (p : ℕ) → 88 ≤ p → p < 88 + length named → getD S p 0 ≡ getD T p 0
+  in-names p l r =
+      getD-S p
+      ∙ past front front _ _ p refl (omega (arith, front-72))
+      (past mic mic′ _ _ (p - length front) (long-as .mic-same) (omega (arith, front-72, long-as .mic-16))
+      (before named _ _ (p - length front - length mic) (omega (arith, front-72, long-as .mic-16))))
+      ∙ sym (getD-T p)
+
+  named-long : length named ≡ length dom + (length usr + length wks)
+  unfolding named
+  named-long = simp length-append
+
+  lengths-same : length S ≡ length T
+  unfolding S T
+  lengths-same =
+      whole w v mic lm nt dom usr wks key v8 (long-as .mic-16)
+      ∙ simp (long-as .lm-same, long-as .nt-same, long-as .key-same) (sym (whole w v mic′ lm′ nt′ dom usr wks key′ v8 (sym (long-as .mic-same) ∙ long-as .mic-16)))
+
+  alike : keyHolds w key ≡ Held → AlikeOutside S T
+  unfolding S
+  alike held = record { length-same = lengths-same; elsewhere = λ p. go p (ltb p 72) (ltb p 88) (ltb p a) (ltb p b) (ltb p c) (ltb p (length S)) refl refl refl refl refl refl }
+    where
+      a : ℕ
+      a = 88 + length named
+
+      b : ℕ
+      b = a + length lm
+
+      c : ℕ
+      c = b + length nt
+
+      fixed-there : 64 ≤ length S
+      fixed-there = omega (arith, whole w v mic lm nt dom usr wks key v8 (long-as .mic-16))
+
+      exchanged : 0 < length key → keyExch w ≡ true
+      exchanged some = by (eqb (length key) 0) refl (held-true _ held) where
+        by : (z : Bool) → eqb (length key) 0 ≡ z → (z || (eqb (length key) 16 && keyExch w)) ≡ true → keyExch w ≡ true
+        by true q r = absurd (omega (arith, eqb-true (length key) 0 q))
+        by false q r = and-right (eqb (length key) 16) (keyExch w) r
+
+      go : (p : ℕ) (x1 x2 x3 x4 x5 x6 : Bool) → ltb p 72 ≡ x1 → ltb p 88 ≡ x2 → ltb p a ≡ x3 → ltb p b ≡ x4 → ltb p c ≡ x5 → ltb p (length S) ≡ x6 → (getD S p 0 ≡ getD T p 0) ⊎ Secret S p
+      go p true x2 x3 x4 x5 x6 p1 p2 p3 p4 p5 p6 = inl (in-front p (ltb-true p 72 p1))
+      go p false true x3 x4 x5 x6 p1 p2 p3 p4 p5 p6 =
+          inr (mic-byte fixed-there (record { kind = tt; fields = λ i ne. field-start w v mic lm nt dom usr wks key v8 (long-as .mic-16) i (ne .first) (ne .last); message = λ h. omega (arith, whole w v mic lm nt dom usr wks key v8 (long-as .mic-16)) }) (ltb-false p 72 p1) (ltb-true p 88 p2))
+      go p false false true x4 x5 x6 p1 p2 p3 p4 p5 p6 = inl (in-names p (ltb-false p 88 p2) (ltb-true p a p3))
+      go p false false false true x5 x6 p1 p2 p3 p4 p5 p6 =
+          inr (secret-field 1 fixed-there (inl refl)
+          (record { first = omega arith; last = omega arith; counts = λ e. absurd (omega arith); some = omega (arith, ltb-false p a p3, ltb-true p b p4, len1 w v mic lm nt dom usr wks key v8 (long-as .mic-16)) })
+          (omega (arith, ltb-false p a p3, off1 w v mic lm nt dom usr wks key v8 (long-as .mic-16), named-long), omega (arith, ltb-true p b p4, off1 w v mic lm nt dom usr wks key v8 (long-as .mic-16), len1 w v mic lm nt dom usr wks key v8 (long-as .mic-16), named-long)))
+      go p false false false false true x6 p1 p2 p3 p4 p5 p6 =
+          inr (secret-field 2 fixed-there (inr (inl refl))
+          (record { first = omega arith; last = omega arith; counts = λ e. absurd (omega arith); some = omega (arith, ltb-false p b p4, ltb-true p c p5, len2 w v mic lm nt dom usr wks key v8 (long-as .mic-16)) })
+          (omega (arith, ltb-false p b p4, off2 w v mic lm nt dom usr wks key v8 (long-as .mic-16), named-long), omega (arith, ltb-true p c p5, off2 w v mic lm nt dom usr wks key v8 (long-as .mic-16), len2 w v mic lm nt dom usr wks key v8 (long-as .mic-16), named-long)))
+      go p false false false false false true p1 p2 p3 p4 p5 p6 =
+          let some : 0 < length key = omega (arith, ltb-false p c p5, ltb-true p (length S) p6, whole w v mic lm nt dom usr wks key v8 (long-as .mic-16), named-long) in
+          inr (secret-field 6 fixed-there (inr (inr refl))
+          (record { first = omega arith; last = omega arith; counts = λ e. ap (λ (n : ℕ). n / 0x40000000 % 2) (flags-back w v mic lm nt dom usr wks key v8 (long-as .mic-16)) ∙ eqb-true _ 1 (exchanged some); some = omega (arith, some, len6 w v mic lm nt dom usr wks key v8 (long-as .mic-16)) })
+          (omega (arith, ltb-false p c p5, off6 w v mic lm nt dom usr wks key v8 (long-as .mic-16), named-long), omega (arith, ltb-true p (length S) p6, off6 w v mic lm nt dom usr wks key v8 (long-as .mic-16), len6 w v mic lm nt dom usr wks key v8 (long-as .mic-16), whole w v mic lm nt dom usr wks key v8 (long-as .mic-16))))
+      go p false false false false false false p1 p2 p3 p4 p5 p6 = inl (List·getD-eq-default S 0 (ltb-false p (length S) p6) ∙ sym (List·getD-eq-default T 0 (omega (arith, ltb-false p (length S) p6, lengths-same))))
+
+pub messages-alike : (w : NegotiateFlags) (v dom usr wks mic lm nt key mic′ lm′ nt′ key′ : List ℕ) → length v ≡ 8 → AsLong mic lm nt key mic′ lm′ nt′ key′ →
+    keyHolds w key ≡ Held → AlikeOutside (authenticateBytes w v mic lm nt dom usr wks key) (authenticateBytes w v mic′ lm′ nt′ dom usr wks key′)
+unfolding S T M
+messages-alike w v dom usr wks mic lm nt key mic′ lm′ nt′ key′ v8 long-as held = alike w v dom usr wks mic lm nt key mic′ lm′ nt′ key′ v8 long-as held
+
 clear-both : (c x : Verdict) → onClear Not c x ≡ Clear → (c ≡ Clear) × (x ≡ Clear)
 clear-both Clear x h = (refl, h)
 clear-both (Not e) x h = (cc, cc)
@@ -495,3 +614,11 @@ authenticate-reads-back out w v mic lm nt dom usr wks key n v8 m16 h =
     let size = leb-true (sizeToWrite lm nt dom usr wks key) 65535 (held-true _ (z .0)) in
     rw (t .1)
     (back w v mic lm nt dom usr wks key v8 m16 (c .0) (m .0) (omega (arith, size, long w v mic lm nt dom usr wks key v8 m16)) (k .0))
+
+-- a written message's key passed check 32
+pub key-held : (room : ℕ) (w : NegotiateFlags) (lm nt dom usr wks key : List ℕ) → checkToWrite room w lm nt dom usr wks key ≡ Clear → keyHolds w key ≡ Held
+unfolding checkToWrite
+key-held room w lm nt dom usr wks key h =
+    let c = after-held (charsetHolds w) NoCharset _ h in
+    let m = clear-both (checkNamesToWrite (unicode w) dom usr wks) _ (c .1) in
+    after-held (keyHolds w key) WrongKey _ (m .1) .0

@@ -5,11 +5,15 @@ use Prim.Native.Nat.{ℕ, _≤_, _<_}
 use mathlib.Core.Path.{_≡_}
 use mathlib.Core.Logic.{_⊎_}
 use mathlib.Core.List.{List}
-use lib.ListN.{length, getD, set}
+use lib.ListN.{length, getD, set, take}
 use Rattle.authenticate.specs.declared.Authenticate.{Authenticate}
 use Rattle.authenticate.specs.declared.Reading.the-variants.{Taken}
 use Rattle.authenticate.specs.Authenticate.{readAuthenticate}
 use Rattle.line.specs.Line.{authenticateLine, lineAnswer, lineAfter}
+use Rattle.respond.specs.declared.answer.Answer.{Answer}
+use Rattle.respond.specs.declared.answer.Answered.the-variants.{Sent}
+use Rattle.respond.specs.declared.decision.Settings.{Settings}
+use Rattle.respond.specs.Answer.{respondAnswer, respondOut}
 use Rattle.demands.specs.Bench.{p1}
 use Rattle.demands.specs.Ignored.{SameBytes}
 use Rattle.demands.specs.Message.{authenticate, Nonempty, Covers, MicThere}
@@ -47,3 +51,30 @@ p1Other = set p1 96 0xBB
 
 abbrev pub SecretExample : Type 0
 SecretExample = DifferInSecrets p1 p1Other × (p1 ≡ p1Other → ⊥)
+
+-- "Now let a box answer one challenge twice by the same call, with the same settings, clock reading and length of output,
+-- but with any other LM response, NT response, key and MIC bytes, each as long as before. Both times it gets the same answer
+-- or the same refusal. Where messages are written, the two are of one length and alike outside those four places."
+pub record AlikeOutside (s t : List ℕ) : Type 0 where
+  pub length-same : length s ≡ length t
+  pub elsewhere : (p : ℕ) → (getD s p 0 ≡ getD t p 0) ⊎ Secret s p
+
+-- what the two callings have of their own, each as long as before; Version and MIC are of 8 and 16 bytes, as the call takes them
+pub record AsLong (mic lm nt key mic′ lm′ nt′ key′ : List ℕ) : Type 0 where
+  pub mic-16 : length mic ≡ 16
+  pub mic-same : length mic ≡ length mic′
+  pub lm-same : length lm ≡ length lm′
+  pub nt-same : length nt ≡ length nt′
+  pub key-same : length key ≡ length key′
+
+-- for every settings, so also for the three calls with the defaults
+abbrev pub SecretAnswered : Type 0
+SecretAnswered =
+    (out out′ s version domain user workstation : List ℕ) (settings : Settings) (clock : ℕ)
+    (mic lm nt key mic′ lm′ nt′ key′ : List ℕ) →
+    length out ≡ length out′ → length version ≡ 8 → AsLong mic lm nt key mic′ lm′ nt′ key′ →
+    (respondAnswer (length out) s settings clock version mic lm nt domain user workstation key
+    ≡ respondAnswer (length out′) s settings clock version mic′ lm′ nt′ domain user workstation key′)
+    × ((x : Answer) → respondAnswer (length out) s settings clock version mic lm nt domain user workstation key ≡ Sent x →
+    AlikeOutside (take (x .len) (respondOut out s settings version mic lm nt domain user workstation key))
+    (take (x .len) (respondOut out′ s settings version mic′ lm′ nt′ domain user workstation key′)))
