@@ -88,7 +88,7 @@ sent-long settings d mic lm nt key mic′ lm′ nt′ key′ s =
     other x y false p = p
 
 -- an answer that was sent was written
-sent-written : (r : Written) (time : ℕ) (due : Bool) (x : Answer) → answerWith r time due ≡ Sent x → r ≡ Length (x .len)
+pub sent-written : (r : Written) (time : ℕ) (due : Bool) (x : Answer) → answerWith r time due ≡ Sent x → r ≡ Length (x .len)
 sent-written (Length n) time due x h = ap Length (ap len h) where
   len : Answered → ℕ
   len (Sent y) = y .len

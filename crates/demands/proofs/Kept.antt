@@ -60,7 +60,7 @@ pub record RequestHolds (room : ℕ) (w : NlAuthFlags) (a b c d e : List ℕ) : 
   pub size : length (requestBytes w a b c d e) ≤ 65535
   pub room-there : length (requestBytes w a b c d e) ≤ room
 
-clear-both : (v x : Verdict) → onClear Not v x ≡ Clear → (v ≡ Clear) × (x ≡ Clear)
+pub clear-both : (v x : Verdict) → onClear Not v x ≡ Clear → (v ≡ Clear) × (x ≡ Clear)
 clear-both Clear x h = (refl, h)
 clear-both (Not e) x h = (cc, cc)
 

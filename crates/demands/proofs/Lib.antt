@@ -23,3 +23,4 @@ pub mod Secret
 pub mod Walk
 pub mod WriteBack
 pub mod Answered
+pub mod AnswerKept

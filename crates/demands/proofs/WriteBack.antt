@@ -11,15 +11,13 @@ use lib.Seq.{take-at, drop-at, getD-append-add}
 use borrow.Author.Tests.{eqb-true, eqb-false, eq-eqb, leb-true, ltb-true, ltb-false}
 use Rattle.wire.specs.declared.field.Field.{Field}
 use Rattle.wire.specs.declared.check.Checked.the-variants.{Held}
-use Rattle.wire.specs.declared.check.Verdict.the-variants.{Clear, Refused as Not}
-use Rattle.wire.specs.declared.check.Verdict.{Verdict}
+use Rattle.wire.specs.declared.check.Verdict.the-variants.{Clear}
 use Rattle.wire.specs.declared.flags.NegotiateFlags.{NegotiateFlags}
 use Rattle.wire.specs.declared.refusal.Refusal.the-variants.{NoCharset, OddNameToWrite, WrongKey, TooLongToWrite}
 use Rattle.wire.specs.Field.{headAt, fieldBytes}
 use Rattle.wire.specs.Flags.{unicode, oem, keyExch, version, charsetHolds}
 use Rattle.wire.specs.Head.{signature}
 use Rattle.wire.specs.Number.{u16At, u32At}
-use Rattle.wire.specs.Check.{onClear}
 use Rattle.wire.proofs.Stands.{and-right}
 use Rattle.place.specs.Place.{le16, le32}
 use Rattle.place.specs.Written.{sizeHolds}
@@ -29,6 +27,7 @@ use Rattle.authenticate.specs.declared.Reading.{Reading}
 use Rattle.authenticate.specs.declared.Reading.the-variants.{Taken, Refused}
 use Rattle.authenticate.specs.Authenticate.{readAuthenticate}
 use Rattle.demands.proofs.Bools.{true-not-false, held-true, or-either, after-held}
+use Rattle.demands.proofs.Kept.{clear-both}
 use Rattle.demands.proofs.NlAuth.{above, five}
 use Rattle.demands.specs.OwnBytes.{OwnField}
 use Rattle.demands.specs.Secret.{Secret, secret-field, mic as mic-byte, AsLong, AlikeOutside}
@@ -598,10 +597,6 @@ pub messages-alike : (w : NegotiateFlags) (v dom usr wks mic lm nt key mic′ lm
     keyHolds w key ≡ Held → AlikeOutside (authenticateBytes w v mic lm nt dom usr wks key) (authenticateBytes w v mic′ lm′ nt′ dom usr wks key′)
 unfolding S T M
 messages-alike w v dom usr wks mic lm nt key mic′ lm′ nt′ key′ v8 long-as held = alike w v dom usr wks mic lm nt key mic′ lm′ nt′ key′ v8 long-as held
-
-clear-both : (c x : Verdict) → onClear Not c x ≡ Clear → (c ≡ Clear) × (x ≡ Clear)
-clear-both Clear x h = (refl, h)
-clear-both (Not e) x h = (cc, cc)
 
 pub authenticate-reads-back : AuthenticateReadsBack
 unfolding writeAnswer writeOut checkToWrite M

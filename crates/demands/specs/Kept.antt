@@ -7,6 +7,13 @@ use lib.ListN.{length, drop}
 use Rattle.wire.specs.declared.refusal.Refusal.{Refusal}
 use Rattle.place.specs.declared.written.Written.{Written}
 use Rattle.place.specs.declared.written.Written.the-variants.{Length, Refused}
+use Rattle.wire.specs.declared.flags.NegotiateFlags.{NegotiateFlags}
+use Rattle.authenticate.specs.Writing.{writeAnswer, writeOut}
+use Rattle.respond.specs.declared.answer.Answer.{Answer}
+use Rattle.respond.specs.declared.answer.Answered.{Answered}
+use Rattle.respond.specs.declared.answer.Answered.the-variants.{Sent, Refused as Unanswered}
+use Rattle.respond.specs.declared.decision.Settings.{Settings}
+use Rattle.respond.specs.Answer.{respondAnswer, respondOut}
 use Rattle.line.specs.Line.{lineAnswer, lineAfter}
 use Rattle.nl_auth.specs.declared.flags.NlAuthFlags.{NlAuthFlags}
 use Rattle.nl_auth.specs.Flags.{known}
@@ -29,3 +36,21 @@ NlResponseKept = (out : List ℕ) → Kept (responseAnswer (length out)) out (re
 -- every call of a line, whatever the line
 abbrev pub LineKept : Type 0
 LineKept = (line out : List ℕ) → Kept (lineAnswer line out) out (lineAfter line out)
+
+-- Version and MIC are of 8 and 16 bytes, as the call takes them
+abbrev pub AuthenticateKept : Type 0
+AuthenticateKept =
+    (out : List ℕ) (flags : NegotiateFlags) (version mic lm nt domain user workstation key : List ℕ) → length version ≡ 8 → length mic ≡ 16 →
+    Kept (writeAnswer (length out) flags version mic lm nt domain user workstation key) out (writeOut out flags version mic lm nt domain user workstation key)
+
+-- the same of answering a challenge, with every settings
+pub record KeptAnswer (answer : Answered) (before after : List ℕ) : Type 0 where
+  pub refused : (e : Refusal) → answer ≡ Unanswered e → after ≡ before
+  pub same-length : (x : Answer) → answer ≡ Sent x → length after ≡ length before
+  pub rest : (x : Answer) → answer ≡ Sent x → drop (x .len) after ≡ drop (x .len) before
+
+abbrev pub RespondKept : Type 0
+RespondKept =
+    (out s version mic lm nt domain user workstation key : List ℕ) (settings : Settings) (clock : ℕ) → length version ≡ 8 → length mic ≡ 16 →
+    KeptAnswer (respondAnswer (length out) s settings clock version mic lm nt domain user workstation key) out
+    (respondOut out s settings version mic lm nt domain user workstation key)
