@@ -6,17 +6,17 @@ use mathlib.Core.List.{List}
 use native.Mathlib.Omega.{arith}
 use lib.ListN.{length}
 use Rattle.wire.specs.declared.check.Verdict.{Verdict}
-use Rattle.wire.specs.declared.field.Field.{Field}
-use Rattle.wire.specs.declared.flags.NegotiateFlags.{NegotiateFlags}
+use Rattle.field.specs.declared.Field.{Field}
+use Rattle.negotiate_flags.specs.declared.NegotiateFlags.{NegotiateFlags}
 use Rattle.wire.specs.declared.check.Verdict.the-variants.{Clear, Refused as Not}
-use Rattle.wire.specs.declared.head.Head.{Head}
-use Rattle.wire.specs.declared.head.Head.the-variants.{Flags, Refused as Stopped}
+use Rattle.head.specs.declared.Head.{Head}
+use Rattle.head.specs.declared.Head.the-variants.{Flags, Refused as Stopped}
 use Rattle.wire.specs.Check.{onClear}
-use Rattle.wire.specs.Field.{fieldAt}
-use Rattle.wire.specs.Flags.{unicode, keyExch}
-use Rattle.wire.specs.Head.{readHead, onFlags}
+use Rattle.field.specs.Field.{fieldAt}
+use Rattle.negotiate_flags.specs.Flags.{unicode, keyExch}
+use Rattle.head.specs.Head.{readHead, onFlags}
 use Rattle.wire.proofs.Laws.{groups}
-use Rattle.wire.proofs.Heads.{flagged}
+use Rattle.head.proofs.Heads.{flagged}
 use Rattle.authenticate.specs.declared.Authenticate.{Authenticate}
 use Rattle.authenticate.specs.declared.Fields.{Fields}
 use Rattle.authenticate.specs.declared.Reading.{Reading}

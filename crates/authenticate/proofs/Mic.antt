@@ -9,16 +9,16 @@ use lib.Dec.{leb}
 use lib.ListN.{length, take, drop, replicate}
 use borrow.Author.Tests.{leb-true, leb-false, le-leb, lt-leb}
 use Rattle.wire.specs.declared.check.Verdict.the-variants.{Clear}
-use Rattle.wire.specs.declared.field.Field.{Field}
+use Rattle.field.specs.declared.Field.{Field}
 use Rattle.wire.specs.declared.refusal.Refusal.the-variants.{PastEnd}
 use Rattle.wire.specs.Check.{overAll}
-use Rattle.wire.specs.Field.{isEmpty, endsInside}
+use Rattle.field.specs.Field.{isEmpty, endsInside, begins}
 use Rattle.wire.proofs.Laws.{after-clear}
 use Rattle.authenticate.specs.declared.Authenticate.{Authenticate}
 use Rattle.authenticate.specs.declared.Fields.{Fields}
 use Rattle.authenticate.specs.declared.Reading.{Reading}
 use Rattle.authenticate.specs.declared.Reading.the-variants.{Taken, Refused}
-use Rattle.authenticate.specs.Authenticate.{fieldsAt, allFields, checkEnds, lowestOffset, micPresent, begins, readingOf, micBytes, readAuthenticate, MicInside}
+use Rattle.authenticate.specs.Authenticate.{fieldsAt, allFields, checkEnds, lowestOffset, micPresent, readingOf, micBytes, readAuthenticate}
 use Rattle.authenticate.proofs.Laws.{TakenBy, taken-by, fields-held}
 
 leb-min : (k a b : ℕ) → leb k (min a b) ≡ (leb k a && leb k b)
@@ -85,7 +85,11 @@ lowest-inside n (f ∷ fs) d l h =
     go false p q = omega (arith, leb-true (f .1 .offset + f .1 .len) n p)
 
 -- a MIC that reading found lies within the message
-pub mic-inside : (s : List ℕ) (r : Reading) → r ≡ readingOf s → MicInside r (length s)
+abbrev MicInside : Reading → ℕ → Type 0
+MicInside (Taken a) n = a .«mic_present» ≡ true → 88 ≤ n
+MicInside (Refused e) n = Unit
+
+mic-inside : (s : List ℕ) (r : Reading) → r ≡ readingOf s → MicInside r (length s)
 unfolding micPresent checkEnds
 mic-inside s (Taken a) e = λ m.
     let t : TakenBy s a = taken-by s a (sym e) in
@@ -101,8 +105,8 @@ mic-there s m r a p h q = simp (p, h) q
 pub mic-absent : (s : List ℕ) (r : Reading) (a : Authenticate) → r ≡ Taken a → a .«mic_present» ≡ false → replicate 16 0 ≡ micBytes r s
 mic-absent s r a p h = simp (p, h)
 
-pub mic-room : (n : ℕ) (r : Reading) (a : Authenticate) → r ≡ Taken a → a .«mic_present» ≡ true → MicInside r n → 88 ≤ n
-mic-room n r a p h m = (rw p at m) h
+pub mic-room : (s : List ℕ) (r : Reading) (a : Authenticate) → r ≡ readingOf s → r ≡ Taken a → a .«mic_present» ≡ true → 88 ≤ length s
+mic-room s r a e p h = (rw p at (mic-inside s r e)) h
 
 -- the six fields' tests as they were made
 pub mic-by : (n : ℕ) (f : Fields) (a b c d e g : Bool) →

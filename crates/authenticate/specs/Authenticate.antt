@@ -1,6 +1,5 @@
 -- AUTHENTICATE_MESSAGE (MS-NLMP 2.2.1.3), read as document 01 sets it out.
-use Prim.Native.Nat.{ℕ, _≤_, min}
-use mathlib.Core.Path.{_≡_}
+use Prim.Native.Nat.{ℕ, min}
 use mathlib.Core.Bool.{Bool, true, _||_, not, cond}
 use mathlib.Core.List.{List, [], _∷_}
 use lib.Dec.{leb}
@@ -8,14 +7,14 @@ use lib.ListN.{length, take, drop, replicate}
 use Rattle.wire.specs.declared.check.Checked.{Checked}
 use Rattle.wire.specs.declared.check.Verdict.{Verdict}
 use Rattle.wire.specs.declared.check.Verdict.the-variants.{Refused as Not}
-use Rattle.wire.specs.declared.field.Field.{Field}
-use Rattle.wire.specs.declared.flags.NegotiateFlags.{NegotiateFlags}
-use Rattle.wire.specs.declared.head.Layout.{Layout}
+use Rattle.field.specs.declared.Field.{Field}
+use Rattle.negotiate_flags.specs.declared.NegotiateFlags.{NegotiateFlags}
+use Rattle.head.specs.declared.Layout.{Layout}
 use Rattle.wire.specs.declared.refusal.Refusal.the-variants.{PastEnd, InFixedPart, OddName, NameOverSecret}
 use Rattle.wire.specs.Check.{checked, overAll, onClear}
-use Rattle.wire.specs.Field.{isEmpty, fieldAt, endsInside, beginsAfter, evenName, share}
-use Rattle.wire.specs.Flags.{unicode, keyExch}
-use Rattle.wire.specs.Head.{readHead, onFlags}
+use Rattle.field.specs.Field.{isEmpty, fieldAt, endsInside, beginsAfter, evenName, share}
+use Rattle.negotiate_flags.specs.Flags.{unicode, keyExch}
+use Rattle.head.specs.Head.{readHead, onFlags}
 use Rattle.authenticate.specs.declared.Fields.{Fields}
 use Rattle.authenticate.specs.declared.Reading.{Reading}
 use Rattle.authenticate.specs.declared.Reading.the-variants.{Taken, Refused}
@@ -103,12 +102,3 @@ micBytes (Refused e) s = replicate 16 0
 -- what reading answers
 unfoldable pub readAuthenticate : List ℕ → Answer
 readAuthenticate s = record { reading = readingOf s; mic = micBytes (readingOf s) s }
-
--- whether a field leaves room for what ends at k: it is empty or begins at k or later
-abbrev pub begins : ℕ → Field → Bool
-begins k f = isEmpty f || leb k (f .offset)
-
--- a MIC that a reading found lies within the n bytes of its message
-abbrev pub MicInside : Reading → ℕ → Type 0
-MicInside (Taken a) n = a .«mic_present» ≡ true → 88 ≤ n
-MicInside (Refused e) n = Unit

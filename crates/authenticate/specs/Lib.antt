@@ -1,2 +1,1 @@
 pub mod Authenticate
-pub mod Writing

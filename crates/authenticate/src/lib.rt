@@ -1,19 +1,18 @@
-// AUTHENTICATE_MESSAGE (MS-NLMP 2.2.1.3): reading; `writing` has the writer.
-pub mod writing;
+// AUTHENTICATE_MESSAGE (MS-NLMP 2.2.1.3): reading.
 
 ghost use mathlib.Core.Path.{_≡_};
 ghost use Prim.Native.Nat.{_≤_};
 ghost use lib.ListN.{length};
-ghost use Rattle.authenticate.specs.Authenticate.{layout, fieldsAt, checkEnds, checkBegins, checkNames, apart, checkShared, checkFields, begins, micPresent, readingOf, micBytes, readAuthenticate, MicInside};
+ghost use Rattle.authenticate.specs.Authenticate.{fieldsAt, checkEnds, checkBegins, checkNames, apart, checkShared, checkFields, micPresent, readingOf, micBytes, readAuthenticate};
+use field::Field;
+use field::field_at;
+use head::Head;
+use head::Layout;
+use head::read_head;
+use negotiate_flags::NegotiateFlags;
 use wire::check::Checked;
 use wire::check::Verdict;
 use wire::check::check;
-use wire::field::Field;
-use wire::field::field_at;
-use wire::flags::NegotiateFlags;
-use wire::head::Head;
-use wire::head::Layout;
-use wire::head::read_head;
 use wire::number::fill;
 use wire::refusal::Refusal;
 
@@ -147,20 +146,14 @@ pub fn check_shared(f: Fields) -> Verdict
     Verdict::Clear
 }
 
-// Whether a field leaves room for the MIC: it is empty or begins at 88 or later.
-fn begins(f: Field) -> bool
-    ensures { λ r. ⌜ r ≡ begins 88 f ⌝ }
-{
-    (f.len == 0) | (88 <= f.offset)
-}
-
 // Whether a MIC is there: the lowest offset of a nonempty field, or else the message's length, is at least 88.
 pub fn mic_present(f: Fields, n: usize) -> bool
     ensures { λ r. ⌜ r ≡ micPresent n f ⌝ }
 {
-    let room = begins(f.lm)
-        & (begins(f.nt)
-            & (begins(f.domain) & (begins(f.user) & (begins(f.workstation) & begins(f.key)))));
+    let room = f.lm.begins(88)
+        & (f.nt.begins(88)
+            & (f.domain.begins(88)
+                & (f.user.begins(88) & (f.workstation.begins(88) & f.key.begins(88)))));
     let some = (f.lm.len != 0)
         | ((f.nt.len != 0)
             | ((f.domain.len != 0)
@@ -214,9 +207,9 @@ fn reading_of(msg: &[u8]) -> Reading
     })
 }
 
-// The sixteen bytes at 72 where the reading found a MIC, zeros otherwise.
+// The sixteen bytes at 72 where the message's reading found a MIC, zeros otherwise.
 fn mic_bytes(msg: &[u8], reading: Reading) -> [u8; 16]
-    requires { ⌜ MicInside reading (length (now msg)) ⌝ }
+    requires { ⌜ reading ≡ readingOf (now msg) ⌝ }
     ensures { λ r. ⌜ r ≡ micBytes reading (now (msg .entry)) ⌝ }
 {
     let mut mic = [0u8; 16];

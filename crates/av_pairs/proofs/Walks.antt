@@ -11,11 +11,11 @@ use mir.Syntax.{w64}
 use mir.Val.{Fits}
 use types.Run.{OneOf}
 use denote.Enum.Declared.{tagOf}
-use Rattle.wire.specs.declared.av_id.AvId.{AvId}
+use Rattle.av_id.specs.declared.AvId.{AvId}
 use Rattle.wire.specs.declared.check.Verdict.{Verdict}
 use Rattle.wire.specs.declared.check.Verdict.the-variants.{Clear, Refused as Not}
 use Rattle.wire.specs.declared.refusal.Refusal.{Refusal}
-use Rattle.wire.specs.AvId.{sameId}
+use Rattle.av_id.specs.AvId.{sameId}
 use Rattle.wire.specs.Check.{onClear}
 use Rattle.av_pairs.specs.declared.AvPair.{AvPair}
 use Rattle.av_pairs.specs.declared.Step.{Step}

@@ -4,13 +4,13 @@ use mathlib.Core.Bool.{Bool, true, false, _&&_, cond}
 use mathlib.Core.List.{List, [], _∷_}
 use lib.Dec.{leb, eqb}
 use lib.ListN.{length}
-use Rattle.wire.specs.declared.av_id.AvId.{AvId}
+use Rattle.av_id.specs.declared.AvId.{AvId}
 use Rattle.wire.specs.declared.check.Checked.{Checked}
 use Rattle.wire.specs.declared.check.Verdict.{Verdict}
 use Rattle.wire.specs.declared.check.Verdict.the-variants.{Clear, Refused as Not}
 use Rattle.wire.specs.declared.refusal.Refusal.{Refusal}
 use Rattle.wire.specs.declared.refusal.Refusal.the-variants.{TooLong, PairPastEnd, PairMissing, WrongEndPair, WrongPairSize}
-use Rattle.wire.specs.AvId.{isEnd, sizeAllowed, sameId, implies}
+use Rattle.av_id.specs.AvId.{isEnd, sizeAllowed, sameId, implies}
 use Rattle.wire.specs.Check.{checked, after, onClear}
 use Rattle.wire.specs.Number.{u16At}
 use Rattle.av_pairs.specs.declared.AvPair.{AvPair}

@@ -2,7 +2,7 @@
 ghost use mathlib.Core.Path.{_≡_};
 ghost use Prim.Native.Nat.{_+_, _<_, _^_};
 ghost use Rattle.av_pairs.specs.AvPairs.{left, pairThere, endPairHolds, valueInside, sizeHolds, pairOf, stepAt, countPairs, checkPairs, firstPair, findPair, searchRefusal, isThere, askAt};
-use wire::av_id::AvId;
+use av_id::AvId;
 use wire::check::Checked;
 use wire::check::Verdict;
 use wire::check::check;

@@ -8,23 +8,23 @@ use native.Mathlib.Omega.{arith}
 use lib.Dec.{T, leb, eqb, leb→le}
 use lib.ListN.{length, take, drop}
 use borrow.Author.Tests.{eqb-true}
-use Rattle.wire.specs.declared.av_id.AvId.{AvId}
+use Rattle.av_id.specs.declared.AvId.{AvId}
 use Rattle.wire.specs.declared.check.Verdict.{Verdict}
 use Rattle.wire.specs.declared.check.Verdict.the-variants.{Clear, Refused as Not}
-use Rattle.wire.specs.declared.field.Field.{Field}
-use Rattle.wire.specs.declared.flags.NegotiateFlags.{NegotiateFlags}
-use Rattle.wire.specs.declared.head.Head.{Head}
-use Rattle.wire.specs.declared.head.Head.the-variants.{Flags, Refused as Stopped}
+use Rattle.field.specs.declared.Field.{Field}
+use Rattle.negotiate_flags.specs.declared.NegotiateFlags.{NegotiateFlags}
+use Rattle.head.specs.declared.Head.{Head}
+use Rattle.head.specs.declared.Head.the-variants.{Flags, Refused as Stopped}
 use Rattle.wire.specs.declared.refusal.Refusal.{Refusal}
-use Rattle.wire.specs.AvId.{isTimestamp, sizeAllowed}
+use Rattle.av_id.specs.AvId.{isTimestamp, sizeAllowed}
 use Rattle.wire.specs.Check.{onClear}
-use Rattle.wire.specs.Field.{fieldAt}
-use Rattle.wire.specs.Flags.{requestTarget, targetInfo, unicode}
-use Rattle.wire.specs.Head.{readHead, onFlags}
+use Rattle.field.specs.Field.{fieldAt}
+use Rattle.negotiate_flags.specs.Flags.{requestTarget, targetInfo, unicode}
+use Rattle.head.specs.Head.{readHead, onFlags}
 use Rattle.wire.specs.Number.{u64At}
 use Rattle.wire.proofs.Laws.{groups}
-use Rattle.wire.proofs.Heads.{flagged, head-long}
-use Rattle.wire.proofs.Stands.{and-left}
+use Rattle.head.proofs.Heads.{flagged, head-long}
+use Rattle.wire.proofs.Bools.{and-left}
 use Rattle.av_pairs.specs.declared.AvPair.{AvPair}
 use Rattle.av_pairs.specs.declared.Found.{Found}
 use Rattle.av_pairs.specs.declared.Found.the-variants.{At, Nothing}

@@ -5,16 +5,16 @@ use mathlib.Core.List.{List, [], _∷_}
 use lib.ListN.{length, take, drop, replicate}
 use Rattle.wire.specs.declared.check.Verdict.{Verdict}
 use Rattle.wire.specs.declared.check.Verdict.the-variants.{Refused as Not}
-use Rattle.wire.specs.declared.field.Field.{Field}
-use Rattle.wire.specs.declared.flags.NegotiateFlags.{NegotiateFlags}
-use Rattle.wire.specs.declared.head.Layout.{Layout}
+use Rattle.field.specs.declared.Field.{Field}
+use Rattle.negotiate_flags.specs.declared.NegotiateFlags.{NegotiateFlags}
+use Rattle.head.specs.declared.Layout.{Layout}
 use Rattle.wire.specs.declared.refusal.Refusal.{Refusal}
 use Rattle.wire.specs.declared.refusal.Refusal.the-variants.{TooLong, PastEnd, InFixedPart, OddName}
-use Rattle.wire.specs.AvId.{isNbComputerName, isNbDomainName, isTimestamp}
+use Rattle.av_id.specs.AvId.{isNbComputerName, isNbDomainName, isTimestamp}
 use Rattle.wire.specs.Check.{overAll, onClear}
-use Rattle.wire.specs.Field.{fieldAt, endsInside, beginsAfter, evenName, fieldBytes}
-use Rattle.wire.specs.Flags.{unicode, requestTarget, targetInfo}
-use Rattle.wire.specs.Head.{readHead, onFlags}
+use Rattle.field.specs.Field.{fieldAt, endsInside, beginsAfter, evenName, fieldBytes}
+use Rattle.negotiate_flags.specs.Flags.{unicode, requestTarget, targetInfo}
+use Rattle.head.specs.Head.{readHead, onFlags}
 use Rattle.wire.specs.Number.{u64At}
 use Rattle.av_pairs.specs.declared.Found.{Found}
 use Rattle.av_pairs.specs.declared.Found.the-variants.{At, Nothing}

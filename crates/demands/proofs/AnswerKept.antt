@@ -8,12 +8,12 @@ use lib.ListN.{length, replicate}
 use borrow.Author.Tests.{leb-true}
 use Rattle.wire.specs.declared.refusal.Refusal.{Refusal}
 use Rattle.wire.specs.declared.refusal.Refusal.the-variants.{NoCharset, WrongKey, TooLongToWrite, NoRoom}
-use Rattle.wire.specs.Flags.{unicode, charsetHolds}
+use Rattle.negotiate_flags.specs.Flags.{unicode, charsetHolds}
 use Rattle.place.specs.declared.written.Written.{Written}
 use Rattle.place.specs.declared.written.Written.the-variants.{Length, Refused as Unwritten}
 use Rattle.place.specs.Written.{sizeHolds, roomHolds}
-use Rattle.authenticate.specs.Writing.{authenticateBytes, checkNamesToWrite, keyHolds, sizeToWrite, checkToWrite, writeAnswer, writeOut}
-use Rattle.authenticate.proofs.Sent.{length-message}
+use Rattle.authenticate_writing.specs.Writing.{authenticateBytes, checkNamesToWrite, keyHolds, sizeToWrite, checkToWrite, writeAnswer, writeOut}
+use Rattle.authenticate_writing.proofs.Sent.{length-message}
 use Rattle.challenge.specs.declared.Timestamp.{Timestamp}
 use Rattle.respond.specs.declared.answer.Answered.the-variants.{Refused}
 use Rattle.respond.specs.declared.decision.Decided.{Decided}

@@ -7,12 +7,12 @@ use native.Mathlib.Omega.{arith}
 use lib.ListN.{length, take, replicate, length-append}
 use Rattle.wire.specs.declared.check.Verdict.{Verdict}
 use Rattle.wire.specs.declared.check.Verdict.the-variants.{Clear, Refused as Not}
-use Rattle.wire.specs.declared.flags.NegotiateFlags.{NegotiateFlags}
-use Rattle.wire.specs.Flags.{keyExch, sign, seal}
+use Rattle.negotiate_flags.specs.declared.NegotiateFlags.{NegotiateFlags}
+use Rattle.negotiate_flags.specs.Flags.{keyExch, sign, seal}
 use Rattle.place.specs.declared.written.Written.{Written}
 use Rattle.place.specs.declared.written.Written.the-variants.{Length, Refused as Unwritten}
 use Rattle.place.specs.Written.{answered}
-use Rattle.authenticate.specs.Writing.{secretsBytes, payloadBytes, authenticateBytes, checkToWrite, writeAnswer, writeOut}
+use Rattle.authenticate_writing.specs.Writing.{payloadBytes, authenticateBytes, checkToWrite, writeAnswer, writeOut}
 use Rattle.respond.specs.declared.answer.Answer.{Answer}
 use Rattle.respond.specs.declared.answer.Answered.{Answered}
 use Rattle.respond.specs.declared.answer.Answered.the-variants.{Sent, Refused}
@@ -34,7 +34,7 @@ answered-same (Not d) x y e = refl
 -- writing, twice
 module _ (room room′ : ℕ) (rooms : room ≡ room′) (w : NegotiateFlags) (v dom usr wks mic lm nt key mic′ lm′ nt′ key′ : List ℕ) (v8 : length v ≡ 8) (same : AsLong mic lm nt key mic′ lm′ nt′ key′) where
   verdict-same : checkToWrite room w lm nt dom usr wks key ≡ checkToWrite room′ w lm′ nt′ dom usr wks key′
-  unfolding checkToWrite payloadBytes secretsBytes
+  unfolding checkToWrite payloadBytes
   verdict-same = simp (rooms, length-append, same .lm-same, same .nt-same, same .key-same)
 
   write-same : writeAnswer room w v mic lm nt dom usr wks key ≡ writeAnswer room′ w v mic′ lm′ nt′ dom usr wks key′

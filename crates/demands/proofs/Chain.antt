@@ -14,17 +14,17 @@ use Rattle.wire.specs.declared.check.Checked.{Checked}
 use Rattle.wire.specs.declared.check.Checked.the-variants.{Held, Failed}
 use Rattle.wire.specs.declared.check.Verdict.{Verdict}
 use Rattle.wire.specs.declared.check.Verdict.the-variants.{Clear, Refused as Not}
-use Rattle.wire.specs.declared.field.Field.{Field}
-use Rattle.wire.specs.declared.head.Head.{Head}
-use Rattle.wire.specs.declared.head.Head.the-variants.{Flags, Refused as Stopped}
-use Rattle.wire.specs.declared.head.Layout.{Layout}
+use Rattle.field.specs.declared.Field.{Field}
+use Rattle.head.specs.declared.Head.{Head}
+use Rattle.head.specs.declared.Head.the-variants.{Flags, Refused as Stopped}
+use Rattle.head.specs.declared.Layout.{Layout}
 use Rattle.wire.specs.declared.refusal.Refusal.{Refusal}
 use Rattle.wire.specs.Check.{after, overAll, onClear}
-use Rattle.wire.specs.Flags.{unicode, oem, charsetHolds}
-use Rattle.wire.specs.Head.{signature, signatureHolds, flagsAt, readHead}
+use Rattle.negotiate_flags.specs.Flags.{unicode, oem, charsetHolds}
+use Rattle.head.specs.Head.{signature, signatureHolds, flagsAt, readHead}
 use Rattle.wire.specs.Number.{u32At, standsAt}
 use Rattle.wire.specs.Refusal.{numberOf, fieldOf}
-use Rattle.wire.proofs.Stands.{stands, stand}
+use Rattle.head.proofs.Stands.{stands, stand}
 use Rattle.demands.specs.Order.{First}
 use Rattle.demands.specs.Message.{Kind, Fails}
 use Rattle.demands.proofs.Order.{Free, first, next-field, next-check}

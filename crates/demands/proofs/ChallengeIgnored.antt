@@ -6,13 +6,13 @@ use mathlib.Core.List.{List}
 use native.Mathlib.Omega.{arith}
 use lib.ListN.{length}
 use borrow.Author.Tests.{eqb-true}
-use Rattle.wire.specs.declared.flags.NegotiateFlags.{NegotiateFlags}
-use Rattle.wire.specs.declared.head.Head.{Head}
-use Rattle.wire.specs.declared.head.Head.the-variants.{Flags, Refused as Stopped}
+use Rattle.negotiate_flags.specs.declared.NegotiateFlags.{NegotiateFlags}
+use Rattle.head.specs.declared.Head.{Head}
+use Rattle.head.specs.declared.Head.the-variants.{Flags, Refused as Stopped}
 use Rattle.wire.specs.declared.refusal.Refusal.{Refusal}
 use Rattle.wire.specs.Check.{onClear}
-use Rattle.wire.specs.Flags.{unicode, requestTarget, targetInfo}
-use Rattle.wire.specs.Head.{flagsAt, readHead, onFlags}
+use Rattle.negotiate_flags.specs.Flags.{unicode, requestTarget, targetInfo}
+use Rattle.head.specs.Head.{flagsAt, readHead, onFlags}
 use Rattle.av_pairs.specs.AvPairs.{checkPairs}
 use Rattle.challenge.specs.declared.Reading.{Reading}
 use Rattle.challenge.specs.declared.Reading.the-variants.{Taken, Refused}

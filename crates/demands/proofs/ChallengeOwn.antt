@@ -7,12 +7,12 @@ use mathlib.Core.List.{List}
 use native.Mathlib.Omega.{arith}
 use lib.Dec.{eqb}
 use borrow.Author.Tests.{eqb-true, eq-eqb}
-use Rattle.wire.specs.declared.av_id.AvId.{AvId}
+use Rattle.av_id.specs.declared.AvId.{AvId}
 use Rattle.wire.specs.declared.check.Verdict.{Verdict}
 use Rattle.wire.specs.declared.check.Verdict.the-variants.{Clear, Refused as Not}
-use Rattle.wire.specs.AvId.{isTimestamp, isNbComputerName, isNbDomainName}
+use Rattle.av_id.specs.AvId.{isTimestamp, isNbComputerName, isNbDomainName}
 use Rattle.wire.specs.Check.{onClear}
-use Rattle.wire.specs.Head.{flagsAt}
+use Rattle.head.specs.Head.{flagsAt}
 use Rattle.wire.specs.Number.{u64At}
 use Rattle.av_pairs.specs.declared.AvPair.{AvPair}
 use Rattle.av_pairs.specs.declared.Found.{Found}

@@ -7,10 +7,10 @@ use mathlib.Core.List.{List, [], _∷_}
 use native.Mathlib.Omega.{arith}
 use lib.ListN.{length}
 use borrow.Author.Tests.{eqb-true, eq-eqb}
-use Rattle.wire.specs.declared.av_id.AvId.{AvId}
+use Rattle.av_id.specs.declared.AvId.{AvId}
 use Rattle.wire.specs.declared.check.Verdict.{Verdict}
 use Rattle.wire.specs.declared.check.Verdict.the-variants.{Clear, Refused as Not}
-use Rattle.wire.specs.AvId.{sameId}
+use Rattle.av_id.specs.AvId.{sameId}
 use Rattle.wire.specs.Check.{onClear}
 use Rattle.wire.specs.Refusal.{numberOf}
 use Rattle.av_pairs.specs.declared.Found.{Found}

@@ -7,13 +7,13 @@ use mathlib.Core.List.{List}
 use native.Mathlib.Omega.{arith}
 use lib.ListN.{length, take, drop, replicate}
 use borrow.Author.Tests.{eqb-true}
-use Rattle.wire.specs.declared.flags.NegotiateFlags.{NegotiateFlags}
-use Rattle.wire.specs.declared.head.Head.{Head}
-use Rattle.wire.specs.declared.head.Head.the-variants.{Flags, Refused as Stopped}
+use Rattle.negotiate_flags.specs.declared.NegotiateFlags.{NegotiateFlags}
+use Rattle.head.specs.declared.Head.{Head}
+use Rattle.head.specs.declared.Head.the-variants.{Flags, Refused as Stopped}
 use Rattle.wire.specs.Check.{onClear}
-use Rattle.wire.specs.Field.{fieldAt}
-use Rattle.wire.specs.Flags.{unicode, keyExch}
-use Rattle.wire.specs.Head.{flagsAt, readHead, onFlags}
+use Rattle.field.specs.Field.{fieldAt}
+use Rattle.negotiate_flags.specs.Flags.{unicode, keyExch}
+use Rattle.head.specs.Head.{flagsAt, readHead, onFlags}
 use Rattle.authenticate.specs.declared.Reading.{Reading}
 use Rattle.authenticate.specs.declared.Reading.the-variants.{Taken, Refused}
 use Rattle.authenticate.specs.Authenticate.{layout, fieldsAt, checkFields, micPresent, micBytes, readingOf, readAuthenticate}

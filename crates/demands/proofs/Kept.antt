@@ -16,10 +16,10 @@ use Rattle.wire.specs.declared.refusal.Refusal.the-variants.{NoStrings, TooLong
 use Rattle.wire.specs.Check.{checked, after, onClear}
 use Rattle.place.specs.declared.written.Written.the-variants.{Length, Refused}
 use Rattle.place.specs.Written.{atFront, answered, outAfter, sizeHolds, roomHolds}
-use Rattle.nl_auth.specs.declared.flags.NlAuthFlags.{NlAuthFlags}
-use Rattle.nl_auth.specs.Flags.{known, stringsHold}
-use Rattle.nl_auth.specs.Writing.{requestBytes, responseBytes, checkZeros, checkRequest, requestAnswer, requestOut, responseAnswer, responseOut}
-use Rattle.line.specs.Line.{lineHolds, lineAnswer, lineAfter}
+use Rattle.nl_auth_flags.specs.declared.NlAuthFlags.{NlAuthFlags}
+use Rattle.nl_auth_flags.specs.Flags.{known, stringsHold}
+use Rattle.nl_auth_writing.specs.Writing.{requestBytes, responseBytes, checkZeros, checkRequest, requestAnswer, requestOut, responseAnswer, responseOut}
+use Rattle.word.specs.Call.{lineHolds, lineAnswer, lineAfter}
 use Rattle.demands.specs.Kept.{Kept, NlRequestKept, NlResponseKept, LineKept}
 use Rattle.demands.proofs.Bools.{held-true, after-held}
 

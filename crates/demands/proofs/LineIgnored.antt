@@ -13,10 +13,13 @@ use Rattle.challenge.specs.declared.Answer.{Answer as ChallengeAnswer}
 use Rattle.challenge.specs.declared.Reading.{Reading as ChallengeReading}
 use Rattle.challenge.specs.declared.Reading.the-variants.{Taken as ChallengeTaken, Refused as ChallengeRefused}
 use Rattle.challenge.specs.Challenge.{readChallenge}
-use Rattle.nl_auth.specs.declared.reading.Reading.{Reading as NlReading}
-use Rattle.nl_auth.specs.declared.reading.Reading.the-variants.{Taken as NlTaken, Refused as NlRefused}
+use Rattle.nl_auth.specs.declared.Reading.{Reading as NlReading}
+use Rattle.nl_auth.specs.declared.Reading.the-variants.{Taken as NlTaken, Refused as NlRefused}
 use Rattle.nl_auth.specs.NlAuth.{readNlAuth}
-use Rattle.line.specs.Line.{authNames, authText, authLine, authenticateLine, chalText, chalLine, challengeLine, isChallenge, ntlmLine, nlOem, nlUtf8, nlText, nlLine, nlAuthLine}
+use Rattle.line_auth.specs.Auth.{authNames, authText}
+use Rattle.line.specs.Line.{authLine, authenticateLine, chalLine, challengeLine, isChallenge, ntlmLine, nlLine, nlAuthLine}
+use Rattle.line_chal.specs.Chal.{chalText}
+use Rattle.line_nl.specs.Nl.{nlOem, nlUtf8, nlText}
 use Rattle.demands.specs.Ignored.{SameFields, SameChallenge, SameNlAuth, AuthenticateLineIgnored, ChallengeLineIgnored, NtlmLineIgnored, NlAuthLineIgnored}
 use Rattle.demands.specs.Message.{Kind, authenticate, challenge, DifferInIgnored}
 use Rattle.demands.proofs.Alike.{same32}

@@ -8,11 +8,11 @@ use native.Mathlib.Omega.{arith}
 use lib.Dec.{leb, ltb}
 use lib.ListN.{length}
 use borrow.Author.Tests.{leb-true, le-leb, ltb-true, ltb-false}
-use Rattle.wire.specs.declared.field.Field.{Field}
-use Rattle.wire.specs.Field.{isEmpty}
-use Rattle.wire.specs.Head.{flagsAt}
-use Rattle.wire.proofs.Stands.{and-left, and-right, and-both}
-use Rattle.authenticate.specs.Authenticate.{fieldsAt, allFields, begins, micPresent}
+use Rattle.field.specs.declared.Field.{Field}
+use Rattle.field.specs.Field.{isEmpty, begins}
+use Rattle.head.specs.Head.{flagsAt}
+use Rattle.wire.proofs.Bools.{and-left, and-right, and-both}
+use Rattle.authenticate.specs.Authenticate.{fieldsAt, allFields, micPresent}
 use Rattle.authenticate.proofs.Mic.{room, some, lowest}
 use Rattle.demands.specs.Message.{authenticate, offsetOf, Nonempty, MicThere}
 use Rattle.demands.proofs.Message.{Stands, test-held}

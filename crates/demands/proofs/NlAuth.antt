@@ -10,19 +10,19 @@ use lib.ListN.{length, take, drop, getD, length-drop}
 use lib.Seq.{getD-drop}
 use borrow.Author.Tests.{leb-true, leb-false, ltb-true, ltb-false, eqb-true, eqb-false, eq-eqb, ne-eqb}
 use Rattle.wire.specs.declared.check.Checked.the-variants.{Held, Failed}
-use Rattle.wire.specs.declared.field.Field.{Field}
+use Rattle.field.specs.declared.Field.{Field}
 use Rattle.wire.specs.declared.refusal.Refusal.{Refusal}
 use Rattle.wire.specs.declared.refusal.Refusal.the-variants.{Unterminated}
 use Rattle.wire.specs.Check.{checked}
-use Rattle.wire.specs.Field.{noField}
+use Rattle.field.specs.Field.{noField}
 use Rattle.wire.specs.Number.{u32At}
 use Rattle.wire.specs.Refusal.{numberOf, fieldOf}
-use Rattle.wire.proofs.Fields.{own-bytes}
-use Rattle.wire.proofs.Stands.{and-left, and-right, and-both}
-use Rattle.nl_auth.specs.declared.reading.Reading.{Reading}
-use Rattle.nl_auth.specs.declared.reading.Reading.the-variants.{Taken, Refused}
+use Rattle.field.proofs.Fields.{own-bytes}
+use Rattle.wire.proofs.Bools.{and-left, and-right, and-both}
+use Rattle.nl_auth.specs.declared.Reading.{Reading}
+use Rattle.nl_auth.specs.declared.Reading.the-variants.{Taken, Refused}
 use Rattle.nl_auth.specs.declared.string.Scan.the-variants.{Found, Missing}
-use Rattle.nl_auth.specs.Flags.{nbDomain, nbComputer, dnsDomain, dnsHost, utf8Computer, stringsHold}
+use Rattle.nl_auth_flags.specs.Flags.{nbDomain, nbComputer, dnsDomain, dnsHost, utf8Computer, stringsHold}
 use Rattle.nl_auth.specs.NlAuth.{beforeZero, holdsZero, stringAt, stringUnder, onFound, flagsAt, readUtf8, readRequest, readResponse, readNlAuth}
 use Rattle.demands.specs.Order.{First}
 use Rattle.demands.specs.NlAuth.{typeOf, masks, maskOf, BitSet, ZeroAt, Strings, StartsAt, NlFails}

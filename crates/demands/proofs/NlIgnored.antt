@@ -9,19 +9,19 @@ use lib.Dec.{eqb, leb}
 use lib.ListN.{length, take, drop, length-drop}
 use lib.Seq.{ext-getD, getD-drop}
 use borrow.Author.Tests.{eqb-true, eqb-false}
-use Rattle.wire.specs.declared.field.Field.{Field}
+use Rattle.field.specs.declared.Field.{Field}
 use Rattle.wire.specs.declared.refusal.Refusal.the-variants.{TooLong, TooShort, WrongType, Unterminated}
 use Rattle.wire.specs.Check.{checked, after}
-use Rattle.wire.specs.Field.{noField}
+use Rattle.field.specs.Field.{noField}
 use Rattle.wire.specs.Number.{u32At}
-use Rattle.wire.proofs.Fields.{own-bytes}
-use Rattle.nl_auth.specs.declared.flags.NlAuthFlags.{NlAuthFlags}
-use Rattle.nl_auth.specs.declared.reading.NlAuth.{NlAuth}
-use Rattle.nl_auth.specs.declared.reading.Reading.{Reading}
-use Rattle.nl_auth.specs.declared.reading.Reading.the-variants.{Taken, Refused}
+use Rattle.field.proofs.Fields.{own-bytes}
+use Rattle.nl_auth_flags.specs.declared.NlAuthFlags.{NlAuthFlags}
+use Rattle.nl_auth.specs.declared.NlAuth.{NlAuth}
+use Rattle.nl_auth.specs.declared.Reading.{Reading}
+use Rattle.nl_auth.specs.declared.Reading.the-variants.{Taken, Refused}
 use Rattle.nl_auth.specs.declared.string.Scan.{Scan}
 use Rattle.nl_auth.specs.declared.string.Scan.the-variants.{Found, Missing}
-use Rattle.nl_auth.specs.Flags.{nbDomain, nbComputer, dnsDomain, dnsHost, utf8Computer}
+use Rattle.nl_auth_flags.specs.Flags.{nbDomain, nbComputer, dnsDomain, dnsHost, utf8Computer}
 use Rattle.nl_auth.specs.NlAuth.{beforeZero, holdsZero, stringAt, stringUnder, onFound, flagsAt, readUtf8, readRequest, readResponse, readNlAuth}
 use Rattle.demands.specs.Ignored.{SameBytes, NlDifferInIgnored, NlAuthIgnored}
 use Rattle.demands.specs.NlAuth.{typeOf, masks, maskOf, Strings}

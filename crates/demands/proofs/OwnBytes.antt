@@ -5,10 +5,10 @@ use mathlib.Core.Bool.{Bool, true, false, cond}
 use mathlib.Core.List.{List}
 use native.Mathlib.Omega.{arith}
 use lib.ListN.{length, take, drop, replicate}
-use Rattle.wire.specs.declared.field.Field.{Field}
-use Rattle.wire.specs.Field.{isEmpty, noField, fieldBytes}
-use Rattle.wire.specs.Head.{flagsAt}
-use Rattle.wire.proofs.Fields.{own-bytes}
+use Rattle.field.specs.declared.Field.{Field}
+use Rattle.field.specs.Field.{isEmpty, noField, fieldBytes}
+use Rattle.head.specs.Head.{flagsAt}
+use Rattle.field.proofs.Fields.{own-bytes}
 use Rattle.authenticate.specs.declared.Authenticate.{Authenticate}
 use Rattle.authenticate.specs.declared.Reading.{Reading}
 use Rattle.authenticate.specs.declared.Reading.the-variants.{Taken}

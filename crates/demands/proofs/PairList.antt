@@ -8,10 +8,10 @@ use native.Mathlib.Omega.{arith}
 use lib.Dec.{eqb}
 use lib.ListN.{length}
 use borrow.Author.Tests.{leb-true, leb-false, eqb-true, eqb-false, eq-eqb, ne-eqb}
-use Rattle.wire.specs.declared.av_id.AvId.{AvId}
+use Rattle.av_id.specs.declared.AvId.{AvId}
 use Rattle.wire.specs.declared.check.Verdict.{Verdict}
 use Rattle.wire.specs.declared.check.Verdict.the-variants.{Clear, Refused as Not}
-use Rattle.wire.specs.AvId.{isEnd, isText, sizeAllowed, implies}
+use Rattle.av_id.specs.AvId.{isEnd, isText, sizeAllowed, implies}
 use Rattle.wire.specs.Check.{onClear}
 use Rattle.wire.specs.Refusal.{numberOf, fieldOf}
 use Rattle.av_pairs.specs.declared.Step.{Step}
@@ -22,7 +22,7 @@ use Rattle.av_pairs.specs.AvPairs.{left, idAt, pairOf, stepAt, endOf, onStep, p
 use Rattle.demands.specs.PairList.{idOf, sizeOf, nextOf, SizeAllowed, PairAt, EndAt, WellFormed, end, pair, Holds, empty, listed, Fails10, Fails11, Fails12, FaultAt, fault10, fault11, fault12, fault13, FirstFault, here, later}
 use Rattle.demands.specs.TakenExactly.{CountRefused, PairsTaken, PairsRefused}
 use Rattle.demands.proofs.Chain.{chained}
-use Rattle.wire.proofs.Stands.{and-left, and-right, and-both}
+use Rattle.wire.proofs.Bools.{and-left, and-right, and-both}
 use Rattle.demands.proofs.Bools.{true-not-false, both-ways, failed-false, held-true, or-left, or-right, or-either}
 
 -- a test that an id other than the asked one passes

@@ -11,23 +11,23 @@ use borrow.Author.Tests.{ltb-false, lt-ltb, le-ltb, le-leb, eq-eqb}
 use Rattle.wire.specs.declared.check.Checked.the-variants.{Held}
 use Rattle.wire.specs.declared.check.Verdict.{Verdict}
 use Rattle.wire.specs.declared.check.Verdict.the-variants.{Clear, Refused as Not}
-use Rattle.wire.specs.declared.field.Field.{Field}
+use Rattle.field.specs.declared.Field.{Field}
 use Rattle.wire.specs.declared.refusal.Refusal.the-variants.{NoRoom, ZeroInString}
 use Rattle.wire.specs.Check.{checked, after}
-use Rattle.wire.specs.Field.{noField, fieldBytes}
+use Rattle.field.specs.Field.{noField, fieldBytes}
 use Rattle.wire.specs.Number.{u32At}
-use Rattle.wire.proofs.Fields.{own-bytes}
+use Rattle.field.proofs.Fields.{own-bytes}
 use Rattle.place.specs.declared.written.Written.the-variants.{Length, Refused as Unwritten}
 use Rattle.place.specs.Place.{le16, le32}
 use Rattle.place.specs.Written.{atFront, answered, outAfter}
 use Rattle.place.proofs.Numbers.{length-le32, back32}
-use Rattle.nl_auth.specs.declared.flags.NlAuthFlags.{NlAuthFlags}
-use Rattle.nl_auth.specs.declared.reading.NlAuth.{NlAuth}
-use Rattle.nl_auth.specs.declared.reading.Reading.the-variants.{Taken}
+use Rattle.nl_auth_flags.specs.declared.NlAuthFlags.{NlAuthFlags}
+use Rattle.nl_auth.specs.declared.NlAuth.{NlAuth}
+use Rattle.nl_auth.specs.declared.Reading.the-variants.{Taken}
 use Rattle.nl_auth.specs.declared.string.Scan.the-variants.{Found}
-use Rattle.nl_auth.specs.Flags.{nbDomain, nbComputer, dnsDomain, dnsHost, utf8Computer, known, noFlags, stringsHold}
+use Rattle.nl_auth_flags.specs.Flags.{nbDomain, nbComputer, dnsDomain, dnsHost, utf8Computer, known, noFlags, stringsHold}
 use Rattle.nl_auth.specs.NlAuth.{beforeZero, holdsZero, stringAt, stringUnder, flagsAt, readUtf8, emptyStrings, readRequest, readResponse, readNlAuth}
-use Rattle.nl_auth.specs.Writing.{headBytes, stringBytes, bytesUnder, utf8Bytes, requestBytes, responseBytes, noZero, checkZeros, checkRequest, requestAnswer, requestOut, responseAnswer, responseOut}
+use Rattle.nl_auth_writing.specs.Writing.{headBytes, stringBytes, bytesUnder, utf8Bytes, requestBytes, responseBytes, noZero, checkZeros, checkRequest, requestAnswer, requestOut, responseAnswer, responseOut}
 use Rattle.demands.specs.ReadBack.{NlRequestReadsBack, ResponseBack, NlResponseReadsBack}
 use Rattle.demands.proofs.Kept.{request-holds}
 use Rattle.demands.proofs.Bools.{true-not-false, held-true, after-held, bit1, bit2, bit4, bit8, bit16}

@@ -9,17 +9,19 @@ use lib.Dec.{eqb}
 use lib.Seq.{getD-set-other}
 use borrow.Author.Tests.{eqb-true, eqb-false}
 use lib.ListN.{length, getD}
-use Rattle.wire.specs.declared.field.Field.{Field}
-use Rattle.wire.specs.declared.flags.NegotiateFlags.{NegotiateFlags}
-use Rattle.wire.specs.Field.{isEmpty, noField, fieldAt}
-use Rattle.wire.specs.Flags.{keyExch}
-use Rattle.wire.specs.Head.{flagsAt, signatureHolds, readHead}
-use Rattle.wire.proofs.Fields.{own-bytes}
+use Rattle.field.specs.declared.Field.{Field}
+use Rattle.negotiate_flags.specs.declared.NegotiateFlags.{NegotiateFlags}
+use Rattle.field.specs.Field.{isEmpty, noField, fieldAt}
+use Rattle.negotiate_flags.specs.Flags.{keyExch}
+use Rattle.head.specs.Head.{flagsAt, signatureHolds, readHead}
+use Rattle.field.proofs.Fields.{own-bytes}
 use Rattle.authenticate.specs.declared.Authenticate.{Authenticate}
 use Rattle.authenticate.specs.declared.Reading.{Reading}
 use Rattle.authenticate.specs.declared.Reading.the-variants.{Taken, Refused}
 use Rattle.authenticate.specs.Authenticate.{layout, fieldsAt, readingOf, readAuthenticate}
-use Rattle.line.specs.Line.{authNames, authText, authLine, authenticateLine, lineAnswer, lineAfter}
+use Rattle.line_auth.specs.Auth.{authNames, authText}
+use Rattle.line.specs.Line.{authLine, authenticateLine}
+use Rattle.word.specs.Call.{lineAnswer, lineAfter}
 use Rattle.demands.specs.Bench.{p1}
 use Rattle.demands.specs.Ignored.{SameBytes}
 use Rattle.demands.specs.Message.{authenticate, lenOf, offsetOf, Nonempty, Covers, Fails}

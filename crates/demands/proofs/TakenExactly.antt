@@ -11,15 +11,15 @@ use Rattle.wire.specs.declared.check.Checked.{Checked}
 use Rattle.wire.specs.declared.check.Checked.the-variants.{Held, Failed}
 use Rattle.wire.specs.declared.check.Verdict.{Verdict}
 use Rattle.wire.specs.declared.check.Verdict.the-variants.{Clear, Refused as Not}
-use Rattle.wire.specs.declared.field.Field.{Field}
-use Rattle.wire.specs.declared.flags.NegotiateFlags.{NegotiateFlags}
-use Rattle.wire.specs.declared.head.Head.{Head}
-use Rattle.wire.specs.declared.head.Head.the-variants.{Flags, Refused as Stopped}
+use Rattle.field.specs.declared.Field.{Field}
+use Rattle.negotiate_flags.specs.declared.NegotiateFlags.{NegotiateFlags}
+use Rattle.head.specs.declared.Head.{Head}
+use Rattle.head.specs.declared.Head.the-variants.{Flags, Refused as Stopped}
 use Rattle.wire.specs.declared.refusal.Refusal.the-variants.{PastEnd, InFixedPart, OddName, NameOverSecret}
 use Rattle.wire.specs.Check.{onClear}
-use Rattle.wire.specs.Field.{fieldAt, endsInside, beginsAfter, evenName, share}
-use Rattle.wire.specs.Flags.{unicode, keyExch}
-use Rattle.wire.specs.Head.{flagsAt, readHead, onFlags}
+use Rattle.field.specs.Field.{fieldAt, endsInside, beginsAfter, evenName, share}
+use Rattle.negotiate_flags.specs.Flags.{unicode, keyExch}
+use Rattle.head.specs.Head.{flagsAt, readHead, onFlags}
 use Rattle.wire.specs.Refusal.{numberOf, fieldOf}
 use Rattle.authenticate.specs.declared.Authenticate.{Authenticate}
 use Rattle.authenticate.specs.declared.Fields.{Fields}

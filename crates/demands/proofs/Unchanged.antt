@@ -8,10 +8,10 @@ use native.Mathlib.Omega.{arith}
 use lib.Dec.{eqb}
 use lib.ListN.{length, getD}
 use borrow.Author.Tests.{eqb-false}
-use Rattle.wire.specs.declared.field.Field.{Field}
-use Rattle.wire.specs.Field.{headAt, isEmpty, noField, fieldAt, fieldBytes}
-use Rattle.wire.specs.Head.{flagsAt, signatureHolds, readHead}
-use Rattle.wire.proofs.Fields.{own-bytes}
+use Rattle.field.specs.declared.Field.{Field}
+use Rattle.field.specs.Field.{headAt, isEmpty, noField, fieldAt, fieldBytes}
+use Rattle.head.specs.Head.{flagsAt, signatureHolds, readHead}
+use Rattle.field.proofs.Fields.{own-bytes}
 use Rattle.demands.specs.Ignored.{SameBytes}
 use Rattle.demands.specs.Message.{Kind, lenOf, offsetOf, Counts, Nonempty, Covers, Fails, Ignored, DifferInIgnored}
 use Rattle.demands.proofs.Alike.{same-part, same16, same32}

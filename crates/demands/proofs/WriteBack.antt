@@ -9,16 +9,16 @@ use lib.Dec.{eqb, ltb}
 use lib.ListN.{List·getD-append, List·getD-eq-default, getD, length, take, drop, replicate, length-append}
 use lib.Seq.{take-at, drop-at, getD-append-add}
 use borrow.Author.Tests.{eqb-true, eqb-false, eq-eqb, leb-true, ltb-true, ltb-false}
-use Rattle.wire.specs.declared.field.Field.{Field}
+use Rattle.field.specs.declared.Field.{Field}
 use Rattle.wire.specs.declared.check.Checked.the-variants.{Held}
 use Rattle.wire.specs.declared.check.Verdict.the-variants.{Clear}
-use Rattle.wire.specs.declared.flags.NegotiateFlags.{NegotiateFlags}
+use Rattle.negotiate_flags.specs.declared.NegotiateFlags.{NegotiateFlags}
 use Rattle.wire.specs.declared.refusal.Refusal.the-variants.{NoCharset, OddNameToWrite, WrongKey, TooLongToWrite}
-use Rattle.wire.specs.Field.{headAt, fieldBytes}
-use Rattle.wire.specs.Flags.{unicode, oem, keyExch, version, charsetHolds}
-use Rattle.wire.specs.Head.{signature}
+use Rattle.field.specs.Field.{headAt, fieldBytes}
+use Rattle.negotiate_flags.specs.Flags.{unicode, oem, keyExch, version, charsetHolds}
+use Rattle.head.specs.Head.{signature}
 use Rattle.wire.specs.Number.{u16At, u32At}
-use Rattle.wire.proofs.Stands.{and-right}
+use Rattle.wire.proofs.Bools.{and-right}
 use Rattle.place.specs.Place.{le16, le32}
 use Rattle.place.specs.Written.{sizeHolds}
 use Rattle.place.proofs.Numbers.{length-le16, length-le32, back16, back32}
@@ -37,7 +37,7 @@ use Rattle.demands.proofs.OwnBytes.{authenticate-own}
 use Rattle.demands.proofs.ReadBack.{written-is}
 use Rattle.demands.proofs.TakenExactly.{authenticate-taken}
 use Rattle.demands.specs.Message.{authenticate, lenOf, offsetOf, Nonempty, Set, MicThere, Fails}
-use Rattle.authenticate.specs.Writing.{fieldsTo, headBytes, laterHeads, headsBytes, versionBytes, afterHeads, fixedBytes, secretsBytes, payloadBytes, authenticateBytes, evenToWrite, checkNamesToWrite, keyHolds, sizeToWrite, checkToWrite, writeAnswer, writeOut}
+use Rattle.authenticate_writing.specs.Writing.{fieldsTo, headBytes, headsBytes, versionBytes, afterHeads, fixedBytes, payloadBytes, authenticateBytes, evenToWrite, checkNamesToWrite, keyHolds, sizeToWrite, checkToWrite, writeAnswer, writeOut}
 
 append-none : (l : List ℕ) → l ++ [] ≡ l
 append-none [] = refl
@@ -105,7 +105,7 @@ module _ (w : NegotiateFlags) (v mic lm nt dom usr wks key : List ℕ) (v8 : len
   rest0 = headBytes (f .lm) ++ (headBytes (f .nt) ++ (headBytes (f .domain) ++ (headBytes (f .user) ++ (headBytes (f .workstation) ++ (headBytes (f .key) ++ tail)))))
 
   at0 : authenticateBytes w v mic lm nt dom usr wks key ≡ (signature ++ le32 3) ++ rest0
-  unfolding authenticateBytes fixedBytes headsBytes laterHeads afterHeads f tail
+  unfolding authenticateBytes fixedBytes headsBytes afterHeads f tail
   at0 = simp append-assoc
 
   M : List ℕ
@@ -176,7 +176,7 @@ module _ (w : NegotiateFlags) (v mic lm nt dom usr wks key : List ℕ) (v8 : len
   -- their lengths
   l0 : length q0 ≡ 12
   unfolding q0
-  l0 = simp (length-append, length-le32)
+  l0 = simp length-le32
 
   l1 : length q1 ≡ 20
   unfolding q1
@@ -316,7 +316,7 @@ module _ (w : NegotiateFlags) (v mic lm nt dom usr wks key : List ℕ) (v8 : len
   off6 = off-of _ _ key-head
 
   whole : length M ≡ 88 + length dom + length usr + length wks + length lm + length nt + length key
-  unfolding payloadBytes secretsBytes
+  unfolding payloadBytes
   whole = long ∙ simp length-append (omega arith)
 
   -- the bytes of the fields
@@ -328,15 +328,14 @@ module _ (w : NegotiateFlags) (v mic lm nt dom usr wks key : List ℕ) (v8 : len
   unfolding payloadBytes
   dom-bytes = in-payload q9 dom _ 88 (length dom) at9 l9 refl
 
-  at-user : M ≡ (q9 ++ dom) ++ (usr ++ (wks ++ secretsBytes lm nt key))
+  at-user : M ≡ (q9 ++ dom) ++ (usr ++ (wks ++ (lm ++ (nt ++ key))))
   unfolding payloadBytes
-  at-user = at9 ∙ sym (append-assoc q9 dom (usr ++ (wks ++ secretsBytes lm nt key)))
+  at-user = at9 ∙ sym (append-assoc q9 dom (usr ++ (wks ++ (lm ++ (nt ++ key)))))
 
-  at-work : M ≡ ((q9 ++ dom) ++ usr) ++ (wks ++ secretsBytes lm nt key)
-  at-work = at-user ∙ sym (append-assoc (q9 ++ dom) usr (wks ++ secretsBytes lm nt key))
+  at-work : M ≡ ((q9 ++ dom) ++ usr) ++ (wks ++ (lm ++ (nt ++ key)))
+  at-work = at-user ∙ sym (append-assoc (q9 ++ dom) usr (wks ++ (lm ++ (nt ++ key))))
 
   at-lm : M ≡ (((q9 ++ dom) ++ usr) ++ wks) ++ (lm ++ (nt ++ key))
-  unfolding secretsBytes
   at-lm = at-work ∙ sym (append-assoc ((q9 ++ dom) ++ usr) wks (lm ++ (nt ++ key)))
 
   at-nt : M ≡ ((((q9 ++ dom) ++ usr) ++ wks) ++ lm) ++ (nt ++ key)
@@ -499,11 +498,11 @@ module _ (w : NegotiateFlags) (v dom usr wks mic lm nt key mic′ lm′ nt′ ke
   front-same = simp (long-as .lm-same, long-as .nt-same, long-as .key-same)
 
   S-is : S ≡ front ++ (mic ++ (named ++ (lm ++ (nt ++ key))))
-  unfolding S front named payloadBytes secretsBytes
+  unfolding S front named payloadBytes
   S-is = at8 w v mic lm nt dom usr wks key v8 (long-as .mic-16) ∙ ap (λ (x : List ℕ). front ++ (mic ++ x)) (simp append-assoc)
 
   T-is : T ≡ front ++ (mic′ ++ (named ++ (lm′ ++ (nt′ ++ key′))))
-  unfolding T named payloadBytes secretsBytes
+  unfolding T named payloadBytes
   T-is =
       at8 w v mic′ lm′ nt′ dom usr wks key′ v8 (sym (long-as .mic-same) ∙ long-as .mic-16)
       ∙ ap (λ (x : List ℕ). x ++ (mic′ ++ (dom ++ (usr ++ (wks ++ (lm′ ++ (nt′ ++ key′))))))) front-same

@@ -8,16 +8,21 @@ use lib.Dec.{eqb}
 use lib.ListN.{length, take}
 use lib.Seq.{sets}
 use Rattle.text.specs.Text.{ascii}
-use Rattle.wire.specs.Field.{fieldAt, fieldBytes}
-use Rattle.wire.specs.Head.{signatureHolds, readHead}
+use Rattle.field.specs.Field.{fieldAt, fieldBytes}
+use Rattle.head.specs.Head.{signatureHolds, readHead}
 use Rattle.wire.specs.Number.{standsAt}
 use Rattle.wire.specs.Refusal.{numberOf, fieldOf}
 use Rattle.challenge.specs.Challenge.{readChallenge, readingOf as challengeReadingOf, fieldsOf}
 use Rattle.word.specs.Digits.{hexDigit, hex, decimalSize, decimal}
 use Rattle.word.specs.Name.{escape, unitText, textOf, nameText}
 use Rattle.word.specs.Words.{numberWord, nameWord, stringWord, flagsWord, setWord, startText, micWord, kindWord}
-use Rattle.line.specs.Line.{timeText, timeWord}
-use Rattle.line.specs.Line.{refusedText, refusedLine, authNames, authLengths, authEnd, authText, authenticateLine, nlStart, nlOem, nlUtf8, nlText, nlAuthLine, chalEnd, chalText, challengeLine, ntlmLine, lineAnswer, lineAfter, shownLine}
+use Rattle.line_chal.specs.Chal.{timeText, timeWord}
+use Rattle.line_refused.specs.Refused.{refusedText, refusedLine}
+use Rattle.line_auth.specs.Auth.{authNames, authLengths, authEnd, authText}
+use Rattle.line.specs.Line.{authenticateLine, nlAuthLine, challengeLine, ntlmLine, shownLine}
+use Rattle.line_nl.specs.Nl.{nlStart, nlOem, nlUtf8, nlText}
+use Rattle.line_chal.specs.Chal.{chalEnd, chalText}
+use Rattle.word.specs.Call.{lineAnswer, lineAfter}
 use Rattle.nl_auth.specs.NlAuth.{readNlAuth, readRequest, readUtf8, readResponse, stringUnder, stringAt}
 use Rattle.av_pairs.specs.declared.Count.{Count}
 use Rattle.av_pairs.specs.declared.Count.the-variants.{Pairs, Refused as Uncounted}

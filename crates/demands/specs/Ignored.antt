@@ -5,8 +5,8 @@ use mathlib.Core.Bool.{true, false}
 use mathlib.Core.Logic.{_⊎_}
 use mathlib.Core.List.{List}
 use lib.ListN.{length, getD}
-use Rattle.wire.specs.declared.field.Field.{Field}
-use Rattle.wire.specs.Field.{fieldBytes}
+use Rattle.field.specs.declared.Field.{Field}
+use Rattle.field.specs.Field.{fieldBytes}
 use Rattle.wire.specs.Number.{u32At}
 use Rattle.authenticate.specs.declared.Authenticate.{Authenticate}
 use Rattle.authenticate.specs.declared.Fields.{Fields}
@@ -15,8 +15,8 @@ use Rattle.authenticate.specs.Authenticate.{readAuthenticate}
 use Rattle.challenge.specs.declared.Challenge.{Challenge}
 use Rattle.challenge.specs.declared.Reading.the-variants.{Taken as ChallengeTaken}
 use Rattle.challenge.specs.Challenge.{readChallenge, timestampOf, serverNamesOf}
-use Rattle.nl_auth.specs.declared.reading.NlAuth.{NlAuth}
-use Rattle.nl_auth.specs.declared.reading.Reading.the-variants.{Taken as NlTaken}
+use Rattle.nl_auth.specs.declared.NlAuth.{NlAuth}
+use Rattle.nl_auth.specs.declared.Reading.the-variants.{Taken as NlTaken}
 use Rattle.nl_auth.specs.NlAuth.{readNlAuth}
 use Rattle.line.specs.Line.{authenticateLine, challengeLine, isChallenge, ntlmLine, nlAuthLine}
 use Rattle.demands.specs.Message.{authenticate, challenge, DifferInIgnored}

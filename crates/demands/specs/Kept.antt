@@ -7,17 +7,17 @@ use lib.ListN.{length, drop}
 use Rattle.wire.specs.declared.refusal.Refusal.{Refusal}
 use Rattle.place.specs.declared.written.Written.{Written}
 use Rattle.place.specs.declared.written.Written.the-variants.{Length, Refused}
-use Rattle.wire.specs.declared.flags.NegotiateFlags.{NegotiateFlags}
-use Rattle.authenticate.specs.Writing.{writeAnswer, writeOut}
+use Rattle.negotiate_flags.specs.declared.NegotiateFlags.{NegotiateFlags}
+use Rattle.authenticate_writing.specs.Writing.{writeAnswer, writeOut}
 use Rattle.respond.specs.declared.answer.Answer.{Answer}
 use Rattle.respond.specs.declared.answer.Answered.{Answered}
 use Rattle.respond.specs.declared.answer.Answered.the-variants.{Sent, Refused as Unanswered}
 use Rattle.respond.specs.declared.decision.Settings.{Settings}
 use Rattle.respond.specs.Answer.{respondAnswer, respondOut}
-use Rattle.line.specs.Line.{lineAnswer, lineAfter}
-use Rattle.nl_auth.specs.declared.flags.NlAuthFlags.{NlAuthFlags}
-use Rattle.nl_auth.specs.Flags.{known}
-use Rattle.nl_auth.specs.Writing.{requestAnswer, requestOut, responseAnswer, responseOut}
+use Rattle.word.specs.Call.{lineAnswer, lineAfter}
+use Rattle.nl_auth_flags.specs.declared.NlAuthFlags.{NlAuthFlags}
+use Rattle.nl_auth_flags.specs.Flags.{known}
+use Rattle.nl_auth_writing.specs.Writing.{requestAnswer, requestOut, responseAnswer, responseOut}
 
 -- a call's answer, and the lent output before and after it
 pub record Kept (answer : Written) (before after : List ℕ) : Type 0 where

@@ -5,10 +5,10 @@ use mathlib.Core.Bool.{true}
 use mathlib.Core.Logic.{_⊎_, _↔_}
 use mathlib.Core.List.{List, []}
 use lib.ListN.{length, take, drop, replicate}
-use Rattle.wire.specs.declared.av_id.AvId.{AvId}
-use Rattle.wire.specs.declared.field.Field.{Field}
+use Rattle.av_id.specs.declared.AvId.{AvId}
+use Rattle.field.specs.declared.Field.{Field}
 use Rattle.wire.specs.declared.refusal.Refusal.{Refusal}
-use Rattle.wire.specs.Field.{noField, fieldBytes}
+use Rattle.field.specs.Field.{noField, fieldBytes}
 use Rattle.wire.specs.Number.{u32At, u64At}
 use Rattle.authenticate.specs.declared.Authenticate.{Authenticate}
 use Rattle.authenticate.specs.declared.Reading.the-variants.{Taken, Refused}
@@ -24,8 +24,8 @@ use Rattle.challenge.specs.declared.TimestampReading.the-variants.{Taken as Tim
 use Rattle.challenge.specs.declared.ServerNames.{ServerNames}
 use Rattle.challenge.specs.declared.ServerNamesReading.the-variants.{Taken as NamesTaken}
 use Rattle.challenge.specs.Challenge.{readChallenge, timestampOf, serverNamesOf}
-use Rattle.nl_auth.specs.declared.reading.NlAuth.{NlAuth}
-use Rattle.nl_auth.specs.declared.reading.Reading.the-variants.{Taken as NlTaken}
+use Rattle.nl_auth.specs.declared.NlAuth.{NlAuth}
+use Rattle.nl_auth.specs.declared.Reading.the-variants.{Taken as NlTaken}
 use Rattle.nl_auth.specs.NlAuth.{readNlAuth}
 use Rattle.demands.specs.NlAuth.{typeOf, maskOf, BitSet, ZeroAt, StartsAt}
 use Rattle.demands.specs.Message.{Kind, authenticate, challenge, lenOf, offsetOf, Nonempty, MicThere}

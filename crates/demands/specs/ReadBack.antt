@@ -5,19 +5,19 @@ use mathlib.Core.Path.{_≡_}
 use mathlib.Core.Bool.{true}
 use mathlib.Core.List.{List}
 use lib.ListN.{length, take}
-use Rattle.wire.specs.Field.{fieldBytes}
+use Rattle.field.specs.Field.{fieldBytes}
 use Rattle.place.specs.declared.written.Written.the-variants.{Length}
-use Rattle.wire.specs.declared.flags.NegotiateFlags.{NegotiateFlags}
+use Rattle.negotiate_flags.specs.declared.NegotiateFlags.{NegotiateFlags}
 use Rattle.authenticate.specs.declared.Authenticate.{Authenticate}
 use Rattle.authenticate.specs.declared.Reading.the-variants.{Taken as AuthenticateTaken}
 use Rattle.authenticate.specs.Authenticate.{readAuthenticate}
-use Rattle.authenticate.specs.Writing.{writeAnswer, writeOut}
-use Rattle.nl_auth.specs.declared.flags.NlAuthFlags.{NlAuthFlags}
-use Rattle.nl_auth.specs.declared.reading.NlAuth.{NlAuth}
-use Rattle.nl_auth.specs.declared.reading.Reading.the-variants.{Taken}
-use Rattle.nl_auth.specs.Flags.{nbDomain, nbComputer, dnsDomain, dnsHost, utf8Computer, known}
+use Rattle.authenticate_writing.specs.Writing.{writeAnswer, writeOut}
+use Rattle.nl_auth_flags.specs.declared.NlAuthFlags.{NlAuthFlags}
+use Rattle.nl_auth.specs.declared.NlAuth.{NlAuth}
+use Rattle.nl_auth.specs.declared.Reading.the-variants.{Taken}
+use Rattle.nl_auth_flags.specs.Flags.{nbDomain, nbComputer, dnsDomain, dnsHost, utf8Computer, known}
 use Rattle.nl_auth.specs.NlAuth.{readNlAuth}
-use Rattle.nl_auth.specs.Writing.{requestAnswer, requestOut, responseAnswer, responseOut}
+use Rattle.nl_auth_writing.specs.Writing.{requestAnswer, requestOut, responseAnswer, responseOut}
 
 -- the message m read back from the bytes s: a request with these flags and strings
 pub record RequestBack (s : List ℕ) (flags : NlAuthFlags) (a b c d e : List ℕ) : Type 0 where

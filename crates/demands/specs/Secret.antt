@@ -9,7 +9,8 @@ use lib.ListN.{length, getD, set, take}
 use Rattle.authenticate.specs.declared.Authenticate.{Authenticate}
 use Rattle.authenticate.specs.declared.Reading.the-variants.{Taken}
 use Rattle.authenticate.specs.Authenticate.{readAuthenticate}
-use Rattle.line.specs.Line.{authenticateLine, lineAnswer, lineAfter}
+use Rattle.line.specs.Line.{authenticateLine}
+use Rattle.word.specs.Call.{lineAnswer, lineAfter}
 use Rattle.respond.specs.declared.answer.Answer.{Answer}
 use Rattle.respond.specs.declared.answer.Answered.the-variants.{Sent}
 use Rattle.respond.specs.declared.decision.Settings.{Settings}

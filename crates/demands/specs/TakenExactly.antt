@@ -15,8 +15,8 @@ use Rattle.av_pairs.specs.AvPairs.{countPairs}
 use Rattle.challenge.specs.declared.Reading.{Reading as ChallengeReading}
 use Rattle.challenge.specs.declared.Reading.the-variants.{Taken as ChallengeTaken, Refused as ChallengeRefused}
 use Rattle.challenge.specs.Challenge.{readChallenge}
-use Rattle.nl_auth.specs.declared.reading.Reading.{Reading as NlReading}
-use Rattle.nl_auth.specs.declared.reading.Reading.the-variants.{Taken as NlTaken, Refused as NlRefused}
+use Rattle.nl_auth.specs.declared.Reading.{Reading as NlReading}
+use Rattle.nl_auth.specs.declared.Reading.the-variants.{Taken as NlTaken, Refused as NlRefused}
 use Rattle.nl_auth.specs.NlAuth.{readNlAuth}
 use Rattle.demands.specs.NlAuth.{NlFails}
 use Rattle.demands.specs.Order.{First}

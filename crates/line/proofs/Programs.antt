@@ -15,7 +15,9 @@ use Rattle.wire.specs.Number.{u32At}
 use Rattle.place.specs.declared.written.Written.{Written}
 use Rattle.place.specs.declared.written.Written.the-variants.{Length, Refused}
 use Rattle.place.specs.Written.{answered}
-use Rattle.line.specs.Line.{refusedLine, authenticateLine, challengeLine, isChallenge, ntlmLine, lineAnswer, lineAfter, shownLine}
+use Rattle.line_refused.specs.Refused.{refusedLine}
+use Rattle.line.specs.Line.{authenticateLine, challengeLine, isChallenge, ntlmLine, shownLine}
+use Rattle.word.specs.Call.{lineAnswer, lineAfter}
 
 -- ---- CHALLENGE or AUTHENTICATE
 

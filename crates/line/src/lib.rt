@@ -1,14 +1,16 @@
 // Log lines: one for each message read.
-mod auth;
-mod chal;
-mod nl;
-mod refused;
-
 ghost use mathlib.Core.Path.{_≡_};
-ghost use Rattle.line.specs.Line.{authenticateLine, nlAuthLine, challengeLine, isChallenge, ntlmLine, lineAnswer, lineAfter, shownLine};
+ghost use Rattle.challenge.specs.declared.Reading.the-variants.{Taken};
+ghost use Rattle.challenge.specs.Challenge.{fieldsOf};
+ghost use Rattle.line.specs.Line.{authenticateLine, nlAuthLine, challengeLine, isChallenge, ntlmLine, shownLine};
+ghost use Rattle.word.specs.Call.{lineAnswer, lineAfter};
 use authenticate::Reading;
+use av_pairs::Count;
+use av_pairs::count_pairs;
+use challenge::Challenge;
 use challenge::Reading as ChallengeReading;
-use nl_auth::reading::Reading as NlAuthReading;
+use line_chal::time_in;
+use nl_auth::Reading as NlAuthReading;
 use place::written::Written;
 use wire::number::u32_at;
 use wire::refusal::Refusal;
@@ -21,8 +23,8 @@ pub fn authenticate_line(msg: &[u8], out: &mut [u8]) -> Written
     let answer = authenticate::read(msg);
     let reading = answer.reading;
     match reading {
-        Reading::Taken(a) => auth::write(out, msg, a, a.flags.unicode()),
-        Reading::Refused(e) => refused::write(out, e),
+        Reading::Taken(a) => line_auth::write(out, msg, a, a.flags.unicode()),
+        Reading::Refused(e) => line_refused::write(out, e),
     }
 }
 
@@ -31,10 +33,23 @@ pub fn nl_auth_line(msg: &[u8], out: &mut [u8]) -> Written
     ensures answer { λ r. ⌜ r ≡ lineAnswer (nlAuthLine (now (msg .entry))) (now (out .entry)) ⌝ }
     ensures content { λ _. ⌜ now (out .exit) ≡ lineAfter (nlAuthLine (now (msg .entry))) (now (out .entry)) ⌝ }
 {
-    let reading = nl_auth::reading::read(msg);
+    let reading = nl_auth::read(msg);
     match reading {
-        NlAuthReading::Taken(m) => nl::write(out, msg, m, nl::given_by(m.flags)),
-        NlAuthReading::Refused(e) => refused::write(out, e),
+        NlAuthReading::Taken(m) => line_nl::write(out, msg, m, line_nl::given_by(m.flags)),
+        NlAuthReading::Refused(e) => line_refused::write(out, e),
+    }
+}
+
+// The line of a CHALLENGE message whose checks 1 to 8 held: 10 to 13 and the count of the pairs, then the words.
+fn challenge_listed(out: &mut [u8], msg: &[u8], c: Challenge) -> Written
+    requires { ⌜ fieldsOf (now msg) ≡ Taken c ⌝ }
+    ensures answer { λ r. ⌜ r ≡ lineAnswer (challengeLine (now (msg .entry))) (now (out .entry)) ⌝ }
+    ensures content { λ _. ⌜ now (out .exit) ≡ lineAfter (challengeLine (now (msg .entry))) (now (out .entry)) ⌝ }
+{
+    let list = c.fields.target_info.bytes(msg);
+    match count_pairs(list) {
+        Count::Pairs(n) => line_chal::write(out, msg, c, c.flags.unicode(), n, time_in(list)),
+        Count::Refused(e) => line_refused::write(out, e),
     }
 }
 
@@ -45,8 +60,8 @@ pub fn challenge_line(msg: &[u8], out: &mut [u8]) -> Written
 {
     let reading = challenge::fields_of(msg);
     match reading {
-        ChallengeReading::Taken(c) => chal::write(out, msg, c),
-        ChallengeReading::Refused(e) => refused::write(out, e),
+        ChallengeReading::Taken(c) => challenge_listed(out, msg, c),
+        ChallengeReading::Refused(e) => line_refused::write(out, e),
     }
 }
 
@@ -78,7 +93,7 @@ pub fn ntlm_program_line(msg: &[u8], out: &mut [u8]) -> Written
 {
     let written = ntlm_line(msg, out);
     let Written::Length(_) = written else {
-        return refused::write(out, Refusal::NoRoom);
+        return line_refused::write(out, Refusal::NoRoom);
     };
     written
 }
@@ -90,7 +105,7 @@ pub fn nl_auth_program_line(msg: &[u8], out: &mut [u8]) -> Written
 {
     let written = nl_auth_line(msg, out);
     let Written::Length(_) = written else {
-        return refused::write(out, Refusal::NoRoom);
+        return line_refused::write(out, Refusal::NoRoom);
     };
     written
 }

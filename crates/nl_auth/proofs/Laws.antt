@@ -8,16 +8,16 @@ use lib.ListN.{length, getD}
 use borrow.Author.Tests.{leb-true, eq-eqb, ne-eqb}
 use Rattle.wire.specs.declared.check.Checked.{Checked}
 use Rattle.wire.specs.declared.check.Checked.the-variants.{Held, Failed}
-use Rattle.wire.specs.declared.field.Field.{Field}
+use Rattle.field.specs.declared.Field.{Field}
 use Rattle.wire.specs.Check.{checked}
-use Rattle.wire.specs.Head.{lengthHolds}
+use Rattle.head.specs.Head.{lengthHolds}
 use Rattle.wire.specs.Number.{u32At}
 use Rattle.wire.proofs.Laws.{chain, held-true}
-use Rattle.nl_auth.specs.declared.flags.NlAuthFlags.{NlAuthFlags}
-use Rattle.nl_auth.specs.declared.reading.Reading.{Reading}
+use Rattle.nl_auth_flags.specs.declared.NlAuthFlags.{NlAuthFlags}
+use Rattle.nl_auth.specs.declared.Reading.{Reading}
 use Rattle.nl_auth.specs.declared.string.Scan.{Scan}
 use Rattle.nl_auth.specs.declared.string.Scan.the-variants.{Found, Missing}
-use Rattle.nl_auth.specs.Flags.{known}
+use Rattle.nl_auth_flags.specs.Flags.{known}
 use Rattle.nl_auth.specs.NlAuth.{onFound, flagsAt, typeHolds, responseHolds, readRequest, readResponse}
 
 -- a string that was found: what follows decides; one that wasn't: its answer

@@ -1,3 +1,2 @@
-pub mod Strings
+pub mod Scans
 pub mod Laws
-pub mod Sent

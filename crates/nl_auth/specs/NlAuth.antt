@@ -5,19 +5,19 @@ use mathlib.Core.List.{List, [], _∷_}
 use lib.Dec.{ltb, eqb}
 use lib.ListN.{length, getD, drop}
 use Rattle.wire.specs.declared.check.Checked.{Checked}
-use Rattle.wire.specs.declared.field.Field.{Field}
+use Rattle.field.specs.declared.Field.{Field}
 use Rattle.wire.specs.declared.refusal.Refusal.the-variants.{TooLong, TooShort, WrongType, NoStrings, Unterminated, BytesLeft, WrongResponse}
 use Rattle.wire.specs.Check.{checked, after}
-use Rattle.wire.specs.Field.{noField}
-use Rattle.wire.specs.Head.{lengthHolds, fixedPartHolds}
+use Rattle.field.specs.Field.{noField}
+use Rattle.head.specs.Head.{lengthHolds, fixedPartHolds}
 use Rattle.wire.specs.Number.{u32At}
-use Rattle.nl_auth.specs.declared.flags.NlAuthFlags.{NlAuthFlags}
-use Rattle.nl_auth.specs.declared.reading.Reading.{Reading}
-use Rattle.nl_auth.specs.declared.reading.Reading.the-variants.{Taken, Refused}
-use Rattle.nl_auth.specs.declared.reading.Strings.{Strings}
+use Rattle.nl_auth_flags.specs.declared.NlAuthFlags.{NlAuthFlags}
+use Rattle.nl_auth.specs.declared.Reading.{Reading}
+use Rattle.nl_auth.specs.declared.Reading.the-variants.{Taken, Refused}
+use Rattle.nl_auth.specs.declared.Strings.{Strings}
 use Rattle.nl_auth.specs.declared.string.Scan.{Scan}
 use Rattle.nl_auth.specs.declared.string.Scan.the-variants.{Found, Missing}
-use Rattle.nl_auth.specs.Flags.{nbDomain, nbComputer, dnsDomain, dnsHost, utf8Computer, known, noFlags, stringsHold}
+use Rattle.nl_auth_flags.specs.Flags.{nbDomain, nbComputer, dnsDomain, dnsHost, utf8Computer, known, noFlags, stringsHold}
 
 -- ---- one string
 

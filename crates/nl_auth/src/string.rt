@@ -2,10 +2,11 @@
 ghost use mathlib.Core.Path.{_≡_};
 ghost use Prim.Native.Nat.{_≤_, _<_};
 ghost use lib.ListN.{length};
-ghost use Rattle.nl_auth.specs.Flags.{has};
+ghost use Rattle.wire.specs.Number.{has};
 ghost use Rattle.nl_auth.specs.NlAuth.{beforeZero, stringAt, stringUnder};
-use crate::flags::NlAuthFlags;
-use wire::field::Field;
+use field::Field;
+use nl_auth_flags::NlAuthFlags;
+use wire::number::has;
 
 // What stands at a place: a string and the place where the next one starts, or bytes without a zero byte.
 pub enum Scan {
@@ -14,7 +15,7 @@ pub enum Scan {
 }
 
 // How many bytes stand before the first zero byte; all of them if there is none.
-pub(crate) fn before_zero(s: &[u8]) -> usize
+pub fn before_zero(s: &[u8]) -> usize
     ensures { λ r. ⌜ r ≡ beforeZero (now (s .entry)) ⌝ }
 {
     let mut i: usize = 0;
@@ -47,9 +48,9 @@ fn string_at(msg: &[u8], at: usize) -> Scan
 // The string of a bit, which stands at `at` if the bit is set.
 pub(crate) fn string_under(msg: &[u8], at: usize, flags: NlAuthFlags, mask: u32) -> Scan
     requires { ⌜ (0 < mask) × (at ≤ length (now msg)) × (length (now msg) ≤ 65535) ⌝ }
-    ensures { λ r. ⌜ r ≡ stringUnder (has flags mask) (now (msg .entry)) at ⌝ }
+    ensures { λ r. ⌜ r ≡ stringUnder (has (flags .bits) mask) (now (msg .entry)) at ⌝ }
 {
-    if flags.has(mask) {
+    if has(flags.bits, mask) {
         return string_at(msg, at);
     }
     Scan::Found(Field { offset: 0, len: 0 }, at)

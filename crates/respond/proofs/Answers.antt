@@ -1,17 +1,17 @@
 -- Laws of what an answer is made of.
 use Prim.Native.Nat.{ℕ}
-use mathlib.Core.Path.{_≡_, refl, sym, _∙_}
+use mathlib.Core.Path.{_≡_, _∙_}
 use mathlib.Core.Bool.{Bool, true, false, _||_, _&&_, cond}
 use mathlib.Core.List.{List, []}
 use native.Mathlib.Omega.{arith}
 use lib.ListN.{length, take, drop, replicate}
 use lib.Seq.{take-all}
-use Rattle.wire.specs.declared.flags.NegotiateFlags.{NegotiateFlags}
+use Rattle.negotiate_flags.specs.declared.NegotiateFlags.{NegotiateFlags}
 use Rattle.wire.specs.declared.refusal.Refusal.{Refusal}
-use Rattle.wire.specs.Flags.{sign, seal, keyExch}
+use Rattle.negotiate_flags.specs.Flags.{sign, seal, keyExch}
 use Rattle.place.specs.declared.written.Written.{Written}
 use Rattle.place.specs.declared.written.Written.the-variants.{Length, Refused as Unwritten}
-use Rattle.authenticate.specs.Writing.{writeAnswer, writeOut}
+use Rattle.authenticate_writing.specs.Writing.{writeAnswer, writeOut}
 use Rattle.challenge.specs.declared.Timestamp.{Timestamp}
 use Rattle.respond.specs.declared.decision.Settings.{Settings}
 use Rattle.respond.specs.declared.decision.Decision.{Decision}

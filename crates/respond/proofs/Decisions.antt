@@ -1,14 +1,14 @@
 -- Laws of the decision on a challenge.
-use mathlib.Core.Path.{_≡_, refl, sym, _∙_}
+use mathlib.Core.Path.{_≡_, sym, _∙_}
 use mathlib.Core.Bool.{Bool, _||_, not}
 use mathlib.Core.List.{List}
 use Prim.Native.Nat.{ℕ}
 use native.Mathlib.Omega.{arith}
 use Rattle.wire.specs.declared.check.Checked.{Checked}
-use Rattle.wire.specs.declared.flags.NegotiateFlags.{NegotiateFlags}
+use Rattle.negotiate_flags.specs.declared.NegotiateFlags.{NegotiateFlags}
 use Rattle.wire.specs.declared.refusal.Refusal.{Refusal}
 use Rattle.wire.specs.Check.{checked}
-use Rattle.wire.specs.Flags.{negotiate128}
+use Rattle.negotiate_flags.specs.Flags.{negotiate128}
 use Rattle.wire.proofs.Laws.{chain}
 use Rattle.challenge.specs.declared.Challenge.{Challenge}
 use Rattle.challenge.specs.declared.Reading.{Reading}

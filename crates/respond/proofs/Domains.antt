@@ -10,14 +10,13 @@ use mir.Val.{Fits}
 use mir.Syntax.{w64}
 use borrow.Author.Tests.{leb-true}
 use borrow.Rule.Slice.Shared.{byByte}
-use Rattle.wire.specs.declared.av_id.AvId.{AvId}
 use Rattle.wire.specs.declared.check.Verdict.{Verdict}
 use Rattle.wire.specs.declared.check.Verdict.the-variants.{Clear, Refused as Not}
-use Rattle.wire.specs.declared.field.Field.{Field}
+use Rattle.field.specs.declared.Field.{Field}
 use Rattle.wire.specs.declared.refusal.Refusal.{Refusal}
-use Rattle.wire.specs.AvId.{isNbDomainName, sameId}
+use Rattle.av_id.specs.AvId.{isNbDomainName, sameId}
 use Rattle.wire.specs.Check.{onClear}
-use Rattle.wire.specs.Field.{PartAt, fieldBytes, fieldStart}
+use Rattle.field.specs.Field.{PartAt, fieldBytes, fieldStart}
 use Rattle.wire.proofs.Laws.{branches}
 use Rattle.av_pairs.specs.declared.AvPair.{AvPair}
 use Rattle.av_pairs.specs.declared.Found.{Found}
@@ -25,7 +24,7 @@ use Rattle.av_pairs.specs.declared.Found.the-variants.{At, Nothing}
 use Rattle.av_pairs.specs.declared.Search.{Search}
 use Rattle.av_pairs.specs.declared.Search.the-variants.{Done, Refused as Unsearched}
 use Rattle.av_pairs.specs.AvPairs.{pairsOf, checkPairs, firstBy, firstPair, findPair}
-use Rattle.av_pairs.proofs.Searches.{was-done, was-refused, found-in}
+use Rattle.av_pairs.proofs.Searches.{was-done, found-in}
 use Rattle.challenge.specs.declared.Answer.{Answer}
 use Rattle.challenge.specs.declared.Challenge.{Challenge}
 use Rattle.challenge.specs.declared.Reading.{Reading}

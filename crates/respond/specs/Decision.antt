@@ -1,14 +1,14 @@
 -- The client's decision on a challenge (MS-NLMP 3.1.5.1.2): reading it, then checks 20 and 21.
-use mathlib.Core.Bool.{Bool, true, false, _||_, _&&_}
+use mathlib.Core.Bool.{true, false, _||_, _&&_}
 use mathlib.Core.List.{List}
 use Prim.Native.Nat.{ℕ}
 use Rattle.wire.specs.declared.check.Checked.{Checked}
-use Rattle.wire.specs.declared.flags.NegotiateFlags.{NegotiateFlags}
+use Rattle.negotiate_flags.specs.declared.NegotiateFlags.{NegotiateFlags}
 use Rattle.wire.specs.declared.refusal.Refusal.{Refusal}
 use Rattle.wire.specs.declared.refusal.Refusal.the-variants.{TooLong, No128Bit, NoServerNames}
-use Rattle.wire.specs.AvId.{implies}
+use Rattle.av_id.specs.AvId.{implies}
 use Rattle.wire.specs.Check.{checked, after}
-use Rattle.wire.specs.Flags.{negotiate128}
+use Rattle.negotiate_flags.specs.Flags.{negotiate128}
 use Rattle.challenge.specs.declared.ServerNames.{ServerNames}
 use Rattle.challenge.specs.Challenge.{readingOf, onTaken, infoOf, timestampIn, serverNamesIn}
 use Rattle.respond.specs.declared.decision.Settings.{Settings}

@@ -4,16 +4,15 @@ use mathlib.Core.Bool.{Bool, true, false, cond}
 use mathlib.Core.List.{List}
 use lib.Dec.{eqb}
 use lib.ListN.{length, take, drop}
-use Rattle.wire.specs.declared.av_id.AvId.{AvId}
-use Rattle.wire.specs.AvId.{isNbDomainName}
-use Rattle.wire.specs.Field.{fieldStart}
-use Rattle.wire.specs.Flags.{unicode}
+use Rattle.av_id.specs.AvId.{isNbDomainName}
+use Rattle.field.specs.Field.{fieldStart}
+use Rattle.negotiate_flags.specs.Flags.{unicode}
 use Rattle.av_pairs.specs.declared.AvPair.{AvPair}
 use Rattle.av_pairs.specs.declared.Found.{Found}
 use Rattle.av_pairs.specs.declared.Found.the-variants.{At, Nothing}
 use Rattle.av_pairs.specs.declared.Search.{Search}
 use Rattle.av_pairs.specs.declared.Search.the-variants.{Done, Refused as Unsearched}
-use Rattle.av_pairs.specs.AvPairs.{pairsOf, firstBy, findPair}
+use Rattle.av_pairs.specs.AvPairs.{pairsOf, firstBy}
 use Rattle.challenge.specs.declared.Challenge.{Challenge}
 use Rattle.challenge.specs.Challenge.{readingOf, onTaken, infoOf}
 

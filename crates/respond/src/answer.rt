@@ -8,10 +8,10 @@ use crate::decision::Decision;
 use crate::decision::Settings;
 use crate::decision::decide;
 use crate::domain::domain_to_send;
-use authenticate::writing::write;
+use authenticate_writing::write;
 use challenge::Timestamp;
+use negotiate_flags::NegotiateFlags;
 use place::written::Written;
-use wire::flags::NegotiateFlags;
 use wire::number::fill;
 use wire::refusal::Refusal;
 

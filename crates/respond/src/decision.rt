@@ -9,9 +9,9 @@ use challenge::TimestampReading;
 use challenge::read;
 use challenge::read_server_names;
 use challenge::read_timestamp;
+use negotiate_flags::NegotiateFlags;
 use wire::check::Checked;
 use wire::check::check;
-use wire::flags::NegotiateFlags;
 use wire::refusal::Refusal;
 
 pub struct Settings {

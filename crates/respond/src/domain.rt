@@ -1,15 +1,15 @@
 // The domain to send: a part of the lent settings or of the lent challenge.
 ghost use mathlib.Core.Path.{_≡_};
 ghost use lib.ListN.{length};
-ghost use Rattle.wire.specs.Field.{PartAt};
+ghost use Rattle.field.specs.Field.{PartAt};
 ghost use Rattle.av_pairs.specs.AvPairs.{findPair};
 ghost use Rattle.respond.specs.Domain.{domainPart, domainToSend, lent, Within, foundBy, ValueInside};
+use av_id::AvId;
 use av_pairs::Found;
 use av_pairs::Search;
 use av_pairs::find_pair;
 use challenge::Reading;
 use challenge::read;
-use wire::av_id::AvId;
 
 // The first pair 2 of a list.
 fn first_domain(list: &[u8]) -> Found

@@ -1,5 +1,3 @@
 pub mod Laws
+pub mod Bools
 pub mod Filled
-pub mod Stands
-pub mod Fields
-pub mod Heads

@@ -2,7 +2,7 @@
 ghost use mathlib.Core.Path.{_≡_};
 ghost use Prim.Native.Nat.{_+_, _≤_, _<_};
 ghost use lib.ListN.{length, take, drop};
-ghost use Rattle.wire.specs.Number.{u16At, u32At, u64At};
+ghost use Rattle.wire.specs.Number.{u16At, u32At, u64At, has};
 
 fn wide16(x: u8) -> u16
     ensures { λ r. ⌜ (r ≡ x) × (r < 256) ⌝ }
@@ -41,6 +41,14 @@ pub fn u64_at(s: &[u8], at: usize) -> u64
     ensures { λ r. ⌜ r ≡ u64At (now (s .entry)) at ⌝ }
 {
     wide64(u32_at(s, at)) + 4294967296 * wide64(u32_at(s, at + 4))
+}
+
+// Whether the bit of a mask of one bit is set.
+pub fn has(bits: u32, mask: u32) -> bool
+    requires { ⌜ 0 < mask ⌝ }
+    ensures { λ r. ⌜ r ≡ has bits mask ⌝ }
+{
+    bits / mask % 2 == 1
 }
 
 // Fills `dst` with the bytes of `src` from `at` on.

@@ -10,10 +10,10 @@ use borrow.Rule.Slice.PartMut.{putMid}
 use lib.ListN.{length, getD, take, drop, length-append, length-drop, length-take, drop-of-length-le}
 use lib.Seq.{drop-cons}
 use borrow.Author.Tests.{leb-true}
-use Rattle.wire.specs.declared.field.Field.{Field}
-use Rattle.wire.specs.Field.{fieldBytes}
+use Rattle.field.specs.declared.Field.{Field}
+use Rattle.field.specs.Field.{fieldBytes}
 use Rattle.wire.specs.Number.{u16At}
-use Rattle.wire.proofs.Stands.{and-left, and-right}
+use Rattle.wire.proofs.Bools.{and-left, and-right}
 use Rattle.place.specs.Place.{Wrote}
 use Rattle.place.proofs.Laws.{and-then, nothing, kept}
 use Rattle.word.specs.Digits.{hex}

@@ -2,14 +2,14 @@
 ghost use mathlib.Core.Path.{_≡_};
 ghost use Prim.Native.Nat.{_+_, _*_, _≤_, _<_};
 ghost use lib.ListN.{length};
-ghost use Rattle.wire.specs.Field.{fieldBytes};
+ghost use Rattle.field.specs.Field.{fieldBytes};
 ghost use Rattle.place.specs.Place.{Wrote};
 ghost use mathlib.Core.List.{_∷_};
 ghost use Rattle.word.specs.Digits.{hex};
 ghost use Rattle.word.specs.Name.{plain, unitText, nameText, unitWidth, unitAt};
 use crate::digits::put_hex;
+use field::Field;
 use place::Place;
-use wire::field::Field;
 use wire::number::u16_at;
 
 // Whether a unit stands for itself.

@@ -1,6 +1,6 @@
 -- `read` answers as the definition does.
 use borrow.Author.Needs.{needs}
-use Rattle.authenticate.proofs.Mic.{mic-inside, answered}
+use Rattle.authenticate.proofs.Mic.{answered}
 use Rattle.authenticate.proofs.read.Statement.{statement}
 use Rattle.authenticate.proofs.read.Tie as tie
 
@@ -8,4 +8,4 @@ pub read-spec : {M : Type 1} → statement M
 read-spec =
     tie.close
     (tie.spec
-    (λ c κs. search needs) (λ c κs. mic-inside _ _ (c .reading-of .ensures)) (λ c. search answered))
+    (λ c κs. search needs) (λ c κs. search needs) (λ c. search answered))

@@ -4,7 +4,7 @@ use Rattle.authenticate.proofs.Laws.{reading}
 use Rattle.authenticate.proofs.reading_of.Statement.{statement}
 use Rattle.authenticate.proofs.reading_of.Tie as tie
 use Rattle.authenticate.specs.Authenticate.{readingOf}
-use Rattle.wire.proofs.Heads.{head-long}
+use Rattle.head.proofs.Heads.{head-long}
 
 pub reading-of-spec : {M : Type 1} → statement M
 unfolding readingOf

@@ -1,6 +1,7 @@
 -- `authenticate_line` writes the line of a message that is taken, and that of its refusal.
 use borrow.Author.Needs.{needs}
-use Rattle.line.proofs.Lines.{same-line, auth-taken, auth-refused}
+use Rattle.word.proofs.Calls.{same-line}
+use Rattle.line.proofs.Lines.{auth-taken, auth-refused}
 use Rattle.line.proofs.authenticate_line.Statement.{statement}
 use Rattle.line.proofs.authenticate_line.Tie as tie
 

@@ -1,7 +1,7 @@
 -- `challenge_line` writes the line of a message that is taken, and that of its refusal.
 use borrow.Author.Needs.{needs}
 use Rattle.line.proofs.Challenges.{so-taken, chal-refused}
-use Rattle.line.proofs.Lines.{same-line}
+use Rattle.word.proofs.Calls.{same-line}
 use Rattle.line.proofs.challenge_line.Statement.{statement}
 use Rattle.line.proofs.challenge_line.Tie as tie
 

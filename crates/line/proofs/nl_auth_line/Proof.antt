@@ -1,6 +1,7 @@
 -- `nl_auth_line` writes the line of a message that is taken, and that of its refusal.
 use borrow.Author.Needs.{needs}
-use Rattle.line.proofs.Lines.{same-line, nl-taken, nl-refused}
+use Rattle.word.proofs.Calls.{same-line}
+use Rattle.line.proofs.Lines.{nl-taken, nl-refused}
 use Rattle.line.proofs.nl_auth_line.Statement.{statement}
 use Rattle.line.proofs.nl_auth_line.Tie as tie
 

@@ -1,6 +1,6 @@
 -- `ntlm_line` chooses as the NTLM program does.
 use borrow.Author.Needs.{needs}
-use Rattle.line.proofs.Lines.{same-line}
+use Rattle.word.proofs.Calls.{same-line}
 use Rattle.line.proofs.Programs.{chosen-challenge, chosen-authenticate}
 use Rattle.line.proofs.ntlm_line.Statement.{statement}
 use Rattle.line.proofs.ntlm_line.Tie as tie

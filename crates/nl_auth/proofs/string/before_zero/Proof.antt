@@ -2,7 +2,7 @@
 use Prim.Native.Nat.{_-_}
 use borrow.Author.Needs.{needs}
 use lib.ListN.{length}
-use Rattle.nl_auth.proofs.Strings.{Passed, start, next, here, nowhere}
+use Rattle.nl_auth.proofs.Scans.{Passed, start, next, here, nowhere}
 use Rattle.nl_auth.proofs.string.before_zero.Statement.{statement}
 use Rattle.nl_auth.proofs.string.before_zero.Tie as tie
 

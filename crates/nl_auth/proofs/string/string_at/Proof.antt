@@ -1,6 +1,6 @@
 -- `string_at` is the string from a place on.
 use borrow.Author.Needs.{needs}
-use Rattle.nl_auth.proofs.Strings.{scanned}
+use Rattle.nl_auth.proofs.Scans.{scanned}
 use Rattle.nl_auth.proofs.string.string_at.Statement.{statement}
 use Rattle.nl_auth.proofs.string.string_at.Tie as tie
 

@@ -1,6 +1,6 @@
 -- `string_under` is the string of a bit.
 use borrow.Author.Needs.{needs}
-use Rattle.nl_auth.proofs.Strings.{scanned}
+use Rattle.nl_auth.proofs.Scans.{scanned}
 use Rattle.nl_auth.proofs.string.string_under.Statement.{statement}
 use Rattle.nl_auth.proofs.string.string_under.Tie as tie
 

@@ -1,0 +1,32 @@
+-- The line of AUTHENTICATE: auth flags=H set=S domain=N user=N work=N lm=D nt=D key=D mic=B kind=K
+use Prim.Native.Nat.{ℕ}
+use mathlib.Core.Bool.{Bool}
+use mathlib.Core.List.{List, _++_}
+use Rattle.text.specs.Text.{ascii}
+use Rattle.field.specs.declared.Field.{Field}
+use Rattle.field.specs.Field.{fieldBytes}
+use Rattle.authenticate.specs.declared.Authenticate.{Authenticate}
+use Rattle.word.specs.Words.{numberWord, nameWord, startText, micWord, kindWord, lineEnd}
+
+unfoldable pub authNames : Bool → List ℕ → Field → Field → Field → List ℕ
+authNames unicode s domain user workstation =
+    nameWord (ascii " domain=") unicode (fieldBytes s domain) ++ (
+    nameWord (ascii " user=") unicode (fieldBytes s user) ++
+    nameWord (ascii " work=") unicode (fieldBytes s workstation))
+
+-- the lengths of the LM response, the NT response and the session key
+unfoldable pub authLengths : ℕ → ℕ → ℕ → List ℕ
+authLengths lm nt key =
+    numberWord (ascii " lm=") lm ++ (
+    numberWord (ascii " nt=") nt ++
+    numberWord (ascii " key=") key)
+
+unfoldable pub authEnd : Bool → ℕ → List ℕ
+authEnd mic nt = micWord mic ++ (kindWord nt ++ lineEnd)
+
+unfoldable pub authText : Bool → List ℕ → Authenticate → List ℕ
+authText unicode s a =
+    startText (ascii "auth") (a .flags) unicode ++ (
+    authNames unicode s (a .fields .domain) (a .fields .user) (a .fields .workstation) ++ (
+    authLengths (a .fields .lm .len) (a .fields .nt .len) (a .fields .key .len) ++
+    authEnd (a .«mic_present») (a .fields .nt .len)))

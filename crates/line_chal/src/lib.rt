@@ -1,0 +1,121 @@
+// The line of a CHALLENGE message that was taken.
+ghost use mathlib.Core.Path.{_≡_};
+ghost use Prim.Native.Nat.{_+_, _≤_};
+ghost use lib.ListN.{length};
+ghost use Rattle.challenge.specs.Challenge.{timestampIn};
+ghost use Rattle.place.specs.Place.{Wrote};
+ghost use Rattle.word.specs.Words.{Room};
+ghost use Rattle.line_chal.specs.Chal.{timeText, timeWord, chalEnd, chalText};
+ghost use Rattle.word.specs.Call.{lineAnswer, lineAfter};
+use av_id::AvId;
+use av_pairs::Found;
+use av_pairs::first_pair;
+use challenge::Challenge;
+use challenge::Timestamp;
+use place::Place;
+use place::written::Written;
+use place::written::room_holds;
+use wire::check::Checked;
+use wire::number::u64_at;
+use wire::refusal::Refusal;
+use word::digits::put_hex;
+use word::words::name_word_size;
+use word::words::number_word_size;
+use word::words::put_name_word;
+use word::words::put_number_word;
+use word::words::put_start;
+
+// The timestamp of a list of pairs, as a number.
+pub fn time_in(list: &[u8]) -> Timestamp
+    ensures { λ r. ⌜ r ≡ timestampIn (now (list .entry)) ⌝ }
+{
+    let id = AvId {
+        id: AvId::TIMESTAMP,
+    };
+    let Found::At(p) = first_pair(list, id) else {
+        return Timestamp::Nothing;
+    };
+    Timestamp::Time(u64_at(list, p.at))
+}
+
+fn time_size(time: Timestamp) -> usize
+    ensures { λ r. ⌜ (r ≡ length (timeWord time)) × (r ≤ 22) ⌝ }
+{
+    let Timestamp::Time(_) = time else {
+        return 0;
+    };
+    22
+}
+
+fn size(msg: &[u8], c: Challenge, unicode: bool, pairs: usize, time: Timestamp) -> usize
+    ensures { λ r. ⌜ r ≡ length (chalText unicode (now (msg .entry)) c pairs time) ⌝ }
+{
+    let target = name_word_size(b" target=", msg, c.fields.target_name, unicode);
+    // 25 for the start and 1 for the line's end
+    25 + target + number_word_size(b" pairs=", pairs) + time_size(time) + 1
+}
+
+fn put_time_text(p: Place, out: &mut [u8], t: u64) -> Place
+    requires { ⌜ Room (p .at) (timeText t) (length (now out)) ⌝ }
+    ensures { λ r. ⌜ Wrote (now (out .entry)) (now (out .exit)) (p .at) (r .at) (timeText t) ⌝ }
+{
+    let p = p.put_bytes(out, b" time=");
+    let at = p.at;
+    let digits = put_hex(&mut out[at..], t, 16);
+    Place { at: at + digits.at }
+}
+
+fn put_time(p: Place, out: &mut [u8], time: Timestamp) -> Place
+    requires { ⌜ Room (p .at) (timeWord time) (length (now out)) ⌝ }
+    ensures { λ r. ⌜ Wrote (now (out .entry)) (now (out .exit)) (p .at) (r .at) (timeWord time) ⌝ }
+{
+    let Timestamp::Time(t) = time else {
+        return p;
+    };
+    put_time_text(p, out, t)
+}
+
+fn put_end(p: Place, out: &mut [u8], pairs: usize, time: Timestamp) -> Place
+    requires { ⌜ Room (p .at) (chalEnd pairs time) (length (now out)) ⌝ }
+    ensures { λ r. ⌜ Wrote (now (out .entry)) (now (out .exit)) (p .at) (r .at) (chalEnd pairs time) ⌝ }
+{
+    let p = put_number_word(p, out, b" pairs=", pairs);
+    let p = put_time(p, out, time);
+    p.put_u8(out, b'\n')
+}
+
+fn put(
+    out: &mut [u8],
+    msg: &[u8],
+    c: Challenge,
+    unicode: bool,
+    pairs: usize,
+    time: Timestamp,
+) -> Place
+    requires { ⌜ Room 0 (chalText unicode (now msg) c pairs time) (length (now out)) ⌝ }
+    ensures { λ r. ⌜ Wrote (now (out .entry)) (now (out .exit)) 0 (r .at) (chalText unicode (now (msg .entry)) c pairs time) ⌝ }
+{
+    let p = put_start(out, b"chal", c.flags, unicode);
+    let p = put_name_word(p, out, b" target=", msg, c.fields.target_name, unicode);
+    put_end(p, out, pairs, time)
+}
+
+// The line of `c`, which was read from the message: `unicode` is the answer of its flags, `pairs` and `time` are those of its
+// list.
+pub fn write(
+    out: &mut [u8],
+    msg: &[u8],
+    c: Challenge,
+    unicode: bool,
+    pairs: usize,
+    time: Timestamp,
+) -> Written
+    ensures answer { λ r. ⌜ r ≡ lineAnswer (chalText unicode (now (msg .entry)) c pairs time) (now (out .entry)) ⌝ }
+    ensures content { λ _. ⌜ now (out .exit) ≡ lineAfter (chalText unicode (now (msg .entry)) c pairs time) (now (out .entry)) ⌝ }
+{
+    let Checked::Held = room_holds(size(msg, c, unicode, pairs, time), out.len()) else {
+        return Written::Refused(Refusal::NoRoom);
+    };
+    let p = put(out, msg, c, unicode, pairs, time);
+    Written::Length(p.at)
+}

@@ -1,0 +1,186 @@
+// The line of an NL_AUTH message that was taken.
+ghost use mathlib.Core.Path.{_≡_};
+ghost use Prim.Native.Nat.{_+_, _*_, _≤_};
+ghost use lib.ListN.{length};
+ghost use Rattle.field.specs.Field.{fieldBytes};
+ghost use Rattle.place.specs.Place.{Wrote};
+ghost use Rattle.word.specs.Words.{Room, stringWord};
+ghost use Rattle.line_nl.specs.Nl.{nlStart, nlOem, nlUtf8, givenBy, nlText};
+ghost use Rattle.word.specs.Call.{lineAnswer, lineAfter};
+use field::Field;
+use nl_auth::NlAuth;
+use nl_auth_flags::NlAuthFlags;
+use place::Place;
+use place::written::Written;
+use place::written::room_holds;
+use wire::check::Checked;
+use wire::refusal::Refusal;
+use word::words::name_word_size;
+use word::words::number_word_size;
+use word::words::put_flags_word;
+use word::words::put_name_word;
+use word::words::put_number_word;
+
+// Which strings a message gives, by the letters of their bits.
+pub struct Given {
+    pub a: bool,
+    pub b: bool,
+    pub c: bool,
+    pub d: bool,
+    pub e: bool,
+}
+
+pub fn given_by(flags: NlAuthFlags) -> Given
+    ensures { λ r. ⌜ r ≡ givenBy flags ⌝ }
+{
+    Given {
+        a: flags.nb_domain(),
+        b: flags.nb_computer(),
+        c: flags.dns_domain(),
+        d: flags.dns_host(),
+        e: flags.utf8_computer(),
+    }
+}
+
+fn string_size(label: &[u8], msg: &[u8], given: bool, string: Field) -> usize
+    requires { ⌜ length (now label) ≤ 16 ⌝ }
+    ensures { λ r. ⌜ (r ≡ length (stringWord (now (label .entry)) given (fieldBytes (now (msg .entry)) string))) × (r ≤ 16 + 6 * 65535) ⌝ }
+{
+    if given {
+        return name_word_size(label, msg, string, false);
+    }
+    0
+}
+
+fn oem_size(msg: &[u8], a: bool, nb_domain: Field, b: bool, nb_computer: Field) -> usize
+    ensures { λ r. ⌜ (r ≡ length (nlOem (now (msg .entry)) a «nb_domain» b «nb_computer»)) × (r ≤ 800000) ⌝ }
+{
+    string_size(b" a=", msg, a, nb_domain) + string_size(b" b=", msg, b, nb_computer)
+}
+
+fn utf8_size(
+    msg: &[u8],
+    c: bool,
+    dns_domain: Field,
+    d: bool,
+    dns_host: Field,
+    e: bool,
+    utf8_computer: Field,
+) -> usize
+    ensures { λ r. ⌜ (r ≡ length (nlUtf8 (now (msg .entry)) c «dns_domain» d «dns_host» e «utf8_computer»)) × (r ≤ 1200000) ⌝ }
+{
+    string_size(b" c=", msg, c, dns_domain)
+        + (string_size(b" d=", msg, d, dns_host) + string_size(b" e=", msg, e, utf8_computer))
+}
+
+fn size(msg: &[u8], m: NlAuth, given: Given) -> usize
+    ensures { λ r. ⌜ r ≡ length (nlText given (now (msg .entry)) m) ⌝ }
+{
+    let s = m.strings;
+    let oem = oem_size(msg, given.a, s.nb_domain, given.b, s.nb_computer);
+    let utf8 = utf8_size(
+        msg,
+        given.c,
+        s.dns_domain,
+        given.d,
+        s.dns_host,
+        given.e,
+        s.utf8_computer,
+    );
+    // 15 for the flags' word and 1 for the line's end
+    number_word_size(b"nl type=", m.message_type as usize) + 15 + oem + utf8 + 1
+}
+
+fn put_start(out: &mut [u8], message_type: u32, bits: u32) -> Place
+    requires { ⌜ Room 0 (nlStart «message_type» bits) (length (now out)) ⌝ }
+    ensures { λ r. ⌜ Wrote (now (out .entry)) (now (out .exit)) 0 (r .at) (nlStart «message_type» bits) ⌝ }
+{
+    let p = Place { at: 0 };
+    let p = put_number_word(p, out, b"nl type=", message_type as usize);
+    put_flags_word(p, out, bits)
+}
+
+fn put_string(
+    p: Place,
+    out: &mut [u8],
+    label: &[u8],
+    msg: &[u8],
+    given: bool,
+    string: Field,
+) -> Place
+    requires { ⌜ Room (p .at) (stringWord (now label) given (fieldBytes (now msg) string)) (length (now out)) ⌝ }
+    ensures { λ r. ⌜ Wrote (now (out .entry)) (now (out .exit)) (p .at) (r .at) (stringWord (now (label .entry)) given (fieldBytes (now (msg .entry)) string)) ⌝ }
+{
+    if given {
+        return put_name_word(p, out, label, msg, string, false);
+    }
+    p
+}
+
+fn put_oem(
+    p: Place,
+    out: &mut [u8],
+    msg: &[u8],
+    a: bool,
+    nb_domain: Field,
+    b: bool,
+    nb_computer: Field,
+) -> Place
+    requires { ⌜ Room (p .at) (nlOem (now msg) a «nb_domain» b «nb_computer») (length (now out)) ⌝ }
+    ensures { λ r. ⌜ Wrote (now (out .entry)) (now (out .exit)) (p .at) (r .at) (nlOem (now (msg .entry)) a «nb_domain» b «nb_computer») ⌝ }
+{
+    let p = put_string(p, out, b" a=", msg, a, nb_domain);
+    put_string(p, out, b" b=", msg, b, nb_computer)
+}
+
+fn put_utf8(
+    p: Place,
+    out: &mut [u8],
+    msg: &[u8],
+    c: bool,
+    dns_domain: Field,
+    d: bool,
+    dns_host: Field,
+    e: bool,
+    utf8_computer: Field,
+) -> Place
+    requires { ⌜ Room (p .at) (nlUtf8 (now msg) c «dns_domain» d «dns_host» e «utf8_computer») (length (now out)) ⌝ }
+    ensures { λ r. ⌜ Wrote (now (out .entry)) (now (out .exit)) (p .at) (r .at) (nlUtf8 (now (msg .entry)) c «dns_domain» d «dns_host» e «utf8_computer») ⌝ }
+{
+    let p = put_string(p, out, b" c=", msg, c, dns_domain);
+    let p = put_string(p, out, b" d=", msg, d, dns_host);
+    put_string(p, out, b" e=", msg, e, utf8_computer)
+}
+
+fn put(out: &mut [u8], msg: &[u8], m: NlAuth, given: Given) -> Place
+    requires { ⌜ Room 0 (nlText given (now msg) m) (length (now out)) ⌝ }
+    ensures { λ r. ⌜ Wrote (now (out .entry)) (now (out .exit)) 0 (r .at) (nlText given (now (msg .entry)) m) ⌝ }
+{
+    let s = m.strings;
+    let p = put_start(out, m.message_type, m.flags.bits);
+    let p = put_oem(p, out, msg, given.a, s.nb_domain, given.b, s.nb_computer);
+    let p = put_utf8(
+        p,
+        out,
+        msg,
+        given.c,
+        s.dns_domain,
+        given.d,
+        s.dns_host,
+        given.e,
+        s.utf8_computer,
+    );
+    p.put_u8(out, b'\n')
+}
+
+// The line of `m`, which was read from the message; `given` is what its flags say.
+pub fn write(out: &mut [u8], msg: &[u8], m: NlAuth, given: Given) -> Written
+    ensures answer { λ r. ⌜ r ≡ lineAnswer (nlText given (now (msg .entry)) m) (now (out .entry)) ⌝ }
+    ensures content { λ _. ⌜ now (out .exit) ≡ lineAfter (nlText given (now (msg .entry)) m) (now (out .entry)) ⌝ }
+{
+    let Checked::Held = room_holds(size(msg, m, given), out.len()) else {
+        return Written::Refused(Refusal::NoRoom);
+    };
+    let p = put(out, msg, m, given);
+    Written::Length(p.at)
+}

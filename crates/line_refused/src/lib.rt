@@ -1,0 +1,49 @@
+// The line of a refusal.
+ghost use mathlib.Core.Path.{_≡_};
+ghost use lib.ListN.{length};
+ghost use Rattle.place.specs.Place.{Wrote};
+ghost use Rattle.word.specs.Words.{Room};
+ghost use Rattle.line_refused.specs.Refused.{refusedText, refusedLine};
+ghost use Rattle.word.specs.Call.{lineAnswer, lineAfter};
+use place::Place;
+use place::written::Written;
+use place::written::room_holds;
+use wire::check::Checked;
+use wire::refusal::Refusal;
+use word::words::number_word_size;
+use word::words::put_number_word;
+
+fn size(number: u8, field: u8) -> usize
+    ensures { λ r. ⌜ r ≡ length (refusedText number field) ⌝ }
+{
+    number_word_size(b"refused ", number as usize)
+        + (number_word_size(b" field=", field as usize) + 1)
+}
+
+fn put(out: &mut [u8], number: u8, field: u8) -> Place
+    requires { ⌜ Room 0 (refusedText number field) (length (now out)) ⌝ }
+    ensures { λ r. ⌜ Wrote (now (out .entry)) (now (out .exit)) 0 (r .at) (refusedText number field) ⌝ }
+{
+    let p = Place { at: 0 };
+    let p = put_number_word(p, out, b"refused ", number as usize);
+    let p = put_number_word(p, out, b" field=", field as usize);
+    p.put_u8(out, b'\n')
+}
+
+fn write_numbers(out: &mut [u8], number: u8, field: u8) -> Written
+    ensures answer { λ r. ⌜ r ≡ lineAnswer (refusedText number field) (now (out .entry)) ⌝ }
+    ensures content { λ _. ⌜ now (out .exit) ≡ lineAfter (refusedText number field) (now (out .entry)) ⌝ }
+{
+    let Checked::Held = room_holds(size(number, field), out.len()) else {
+        return Written::Refused(Refusal::NoRoom);
+    };
+    let p = put(out, number, field);
+    Written::Length(p.at)
+}
+
+pub fn write(out: &mut [u8], e: Refusal) -> Written
+    ensures answer { λ r. ⌜ r ≡ lineAnswer (refusedLine e) (now (out .entry)) ⌝ }
+    ensures content { λ _. ⌜ now (out .exit) ≡ lineAfter (refusedLine e) (now (out .entry)) ⌝ }
+{
+    write_numbers(out, e.number(), e.field())
+}

@@ -1,0 +1,83 @@
+-- Laws of one string: the search for its zero byte, and where it ends.
+use Prim.Native.Nat.{ℕ, suc, _+_, _-_, _≤_, _<_}
+use mathlib.Core.Path.{_≡_, refl, sym, ap, _∙_}
+use mathlib.Core.Bool.{Bool, true, false, cond}
+use mathlib.Core.List.{List, []}
+use native.Mathlib.Nat.{zero-add, add-zero}
+use native.Mathlib.Numerals.{add-one}
+use native.Mathlib.Omega.{arith}
+use lib.ListN.{length, getD, take, drop, length-drop, drop-of-length-le}
+use lib.Seq.{drop-cons, take-all}
+use borrow.Author.Tests.{eq-eqb, ne-eqb, lt-ltb, le-ltb, ltb-true}
+use Rattle.field.specs.declared.Field.{Field}
+use Rattle.field.specs.Field.{noField}
+use Rattle.nl_auth.specs.declared.string.Scan.{Scan}
+use Rattle.nl_auth.specs.declared.string.Scan.the-variants.{Found, Missing}
+use Rattle.nl_auth.specs.NlAuth.{beforeZero, holdsZero, stringAt, stringUnder}
+
+-- no zero byte stands before i
+pub record Passed (s : List ℕ) (i : ℕ) : Type 0 where
+  pub within : i ≤ length s
+  pub same : beforeZero s ≡ i + beforeZero (drop i s)
+
+pub start : (s : List ℕ) → Passed s 0
+start s = record { within = omega arith; same = sym (zero-add (beforeZero s)) }
+
+pub next : (s : List ℕ) (i : ℕ) → Passed s i → i < length s → (getD s i 0 ≡ 0 → ⊥) → Passed s (i + 1)
+next s i p h n =
+    let step : beforeZero (drop i s) ≡ suc (beforeZero (drop (suc i) s)) = simp (drop-cons s i 0 h, ne-eqb _ _ n) in
+    record { within = omega arith; same = p .same ∙ simp (step, add-one) (omega arith) }
+
+pub here : (s : List ℕ) (i : ℕ) → Passed s i → i < length s → getD s i 0 ≡ 0 → i ≡ beforeZero s
+here s i p h z =
+    let none : beforeZero (drop i s) ≡ 0 = simp (drop-cons s i 0 h, eq-eqb _ _ z) in
+    sym (p .same ∙ simp (none, add-zero))
+
+pub nowhere : (s : List ℕ) (i : ℕ) → Passed s i → length s ≤ i → i ≡ beforeZero s
+nowhere s i p h =
+    let none : drop i s ≡ [] = drop-of-length-le s {i = i} h in
+    sym (p .same ∙ simp (none, add-zero))
+
+-- the bytes from a place on, as they are lent
+rest : (s : List ℕ) (at : ℕ) → take (length s - at) (drop at s) ≡ drop at s
+rest s at = take-all (length s - at) (drop at s) (simp length-drop (omega arith))
+
+module _ (s : List ℕ) (at n : ℕ) (e : n ≡ beforeZero (take (length s - at) (drop at s))) where
+  count : n ≡ beforeZero (drop at s)
+  count = e ∙ ap beforeZero (rest s at)
+
+  -- a zero byte stands there
+  pub found : n < length (take (length s - at) (drop at s)) → Found (record { offset = at; len = n }) (at + n + 1) ≡ stringAt s at
+  unfolding stringAt
+  found h = simp (← count, lt-ltb n (length (drop at s)) (rw (rest s at) at h))
+
+  -- none does
+  pub missing : length (take (length s - at) (drop at s)) ≤ n → Missing ≡ stringAt s at
+  unfolding stringAt
+  missing h = simp (← count, le-ltb n (length (drop at s)) (rw (rest s at) at h))
+
+-- the string of a bit d, by what the bit was told to be
+module _ (s : List ℕ) (at : ℕ) (b d : Bool) (q : b ≡ d) where
+  pub under-set : (r : Scan) → b ≡ true → r ≡ stringAt s at → r ≡ stringUnder d s at
+  unfolding stringUnder
+  under-set r h e = rw (← q, h) e
+
+  pub under-clear : b ≡ false → Found noField at ≡ stringUnder d s at
+  unfolding stringUnder
+  under-clear h = rw (← q, h)
+
+pub ruleset scanned = (found, missing, under-set, under-clear)
+
+-- after a string that was found the next one starts within the message
+ends-inside : (k at : ℕ) (b t : Bool) (x w : Field) (m n : ℕ) →
+    cond b (cond t (Found x m) Missing) (Found noField at) ≡ Found w n → (t ≡ true → m ≤ k) → at ≤ k → n ≤ k
+ends-inside k at true true x w m n e f g = let q : m ≡ n = cc in omega (arith, f refl)
+ends-inside k at true false x w m n e f g = absurd (let z : _≡_ {A = ℕ} 0 1 = cc in omega arith)
+ends-inside k at false t x w m n e f g = let q : at ≡ n = cc in omega arith
+
+pub inside : (s : List ℕ) (at : ℕ) (b : Bool) (w : Field) (n : ℕ) (r : Scan) →
+    r ≡ Found w n → r ≡ stringUnder b s at → at ≤ length s → n ≤ length s
+unfolding stringUnder stringAt
+inside s at b w n r h e l =
+    ends-inside (length s) at b (holdsZero (drop at s)) _ w _ n (sym e ∙ h)
+    (λ t. omega (arith, simp length-drop at (ltb-true (beforeZero (drop at s)) (length (drop at s)) t))) l

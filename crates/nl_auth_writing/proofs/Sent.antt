@@ -1,0 +1,154 @@
+-- Laws of what is written: the strings of set bits, a message's length, and its checks.
+use Prim.Native.Nat.{ℕ, _+_, _-_, _≤_}
+use mathlib.Core.Path.{_≡_, refl, sym, _∙_}
+use mathlib.Core.Bool.{Bool, true, false, not}
+use mathlib.Core.List.{List, [], _∷_}
+use native.Mathlib.Nat.{add-zero}
+use native.Mathlib.Omega.{arith}
+use lib.Dec.{leb, ltb}
+use lib.ListN.{length, take, drop, length-take, length-drop, length-append}
+use borrow.Author.Tests.{leb-true}
+use Rattle.wire.specs.declared.check.Checked.{Checked}
+use Rattle.wire.specs.declared.check.Checked.the-variants.{Held, Failed}
+use Rattle.wire.specs.declared.check.Verdict.{Verdict}
+use Rattle.wire.specs.declared.check.Verdict.the-variants.{Clear, Refused}
+use Rattle.wire.specs.declared.refusal.Refusal.the-variants.{NoStrings, TooLongToWrite, NoRoom}
+use Rattle.wire.specs.Check.{checked, after, onClear}
+use Rattle.wire.proofs.Laws.{chain, held-true}
+use Rattle.place.specs.declared.written.Written.{Written}
+use Rattle.place.specs.declared.written.Written.the-variants.{Length}
+use Rattle.place.specs.Place.{Wrote}
+use Rattle.place.specs.Written.{sizeHolds, roomHolds, counted, atFront}
+use Rattle.place.proofs.Laws.{and-then, nothing, kept}
+use Rattle.place.proofs.Numbers.{length-le32}
+use Rattle.place.proofs.Writings.{whole-length, whole-content}
+use Rattle.nl_auth_flags.specs.declared.NlAuthFlags.{NlAuthFlags}
+use Rattle.nl_auth_flags.specs.Flags.{nbDomain, nbComputer, dnsDomain, dnsHost, utf8Computer, noFlags, stringsHold}
+use Rattle.nl_auth.specs.NlAuth.{beforeZero}
+use Rattle.nl_auth_writing.specs.Writing.{headBytes, stringBytes, bytesUnder, utf8Bytes, requestBytes, responseBytes, noZero, checkZeros, checkRequest, requestAnswer, requestOut}
+
+-- the string of a bit d that was told to be set
+module _ (s : List ℕ) (b d : Bool) (q : b ≡ d) (h : b ≡ true) where
+  set-bytes : bytesUnder d s ≡ stringBytes s
+  unfolding bytesUnder
+  set-bytes = rw (← q, h)
+
+  set-length : length (bytesUnder d s) ≡ length s + 1
+  unfolding stringBytes
+  set-length = rw set-bytes (length-append s (0 ∷ []))
+
+  pub set-room : (l : List ℕ) (at : ℕ) → at + length (bytesUnder d s) ≤ length l → length s + 1 ≤ length (take (length l - at) (drop at l))
+  set-room l at r = simp (length-take, length-drop) (omega (arith, set-length))
+
+  pub set-wrote : (l k : List ℕ) (i p : ℕ) → Wrote l k i p (stringBytes s) → Wrote l k i p (bytesUnder d s)
+  set-wrote l k i p w = rw set-bytes w
+
+  pub set-size : (n m r : ℕ) → m ≡ counted (n + length s) → r ≡ counted (m + 1) → r ≡ counted (n + length (bytesUnder d s))
+  set-size n m r e f = omega (arith, set-length)
+
+  pub set-zero : (n : ℕ) (r : Checked) → n ≡ beforeZero s → r ≡ checked (not (ltb n (length s))) → r ≡ noZero (d, s)
+  set-zero n r e f = f ∙ simp (← q, h, e)
+
+-- and of one that was told to be clear
+module _ (s : List ℕ) (b d : Bool) (q : b ≡ d) (h : b ≡ false) where
+  clear-bytes : bytesUnder d s ≡ []
+  unfolding bytesUnder
+  clear-bytes = rw (← q, h)
+
+  pub clear-wrote : (l : List ℕ) (i : ℕ) → Wrote l l i i (bytesUnder d s)
+  clear-wrote l i = rw clear-bytes (nothing l i)
+
+  pub clear-size : (n : ℕ) → n ≤ 65536 → n ≡ counted (n + length (bytesUnder d s))
+  clear-size n l = simp (clear-bytes, add-zero) (omega arith)
+
+  pub clear-zero : Held ≡ noZero (d, s)
+  clear-zero = simp (← q, h)
+
+-- lengths
+length-head : (t : ℕ) (flags : NlAuthFlags) → length (headBytes t flags) ≡ 8
+unfolding headBytes
+length-head t flags = simp (length-append, length-le32)
+
+pub length-response : length responseBytes ≡ 9
+unfolding responseBytes
+length-response = simp (length-append, length-head)
+
+module _ (flags : NlAuthFlags) (a b c d e : List ℕ) where
+  abbrev requestSize : ℕ
+  requestSize =
+      8 + (length (bytesUnder (nbDomain flags) a) + (length (bytesUnder (nbComputer flags) b) + (length (bytesUnder (dnsDomain flags) c)
+      + (length (bytesUnder (dnsHost flags) d) + length (bytesUnder (utf8Computer flags) e)))))
+
+  pub length-request : length (requestBytes flags a b c d e) ≡ requestSize
+  unfolding requestBytes utf8Bytes
+  length-request = simp (length-append, length-head)
+
+  -- the strings' lengths, counted one by one
+  pub size-is : (k l m n r : ℕ) →
+      k ≡ counted (8 + length (bytesUnder (nbDomain flags) a)) →
+      l ≡ counted (k + length (bytesUnder (nbComputer flags) b)) →
+      m ≡ counted (l + length (bytesUnder (dnsDomain flags) c)) →
+      n ≡ counted (m + length (bytesUnder (dnsHost flags) d)) →
+      r ≡ counted (n + length (bytesUnder (utf8Computer flags) e)) →
+      r ≡ counted (length (requestBytes flags a b c d e))
+  size-is k l m n r p q s t u = omega (arith, length-request)
+
+-- ---- the checks
+
+room-held : (k m : Checked) (z : Verdict) (t : Bool) →
+    after k (Refused NoStrings) (onClear Refused z (after m (Refused TooLongToWrite) (after (checked t) (Refused NoRoom) Clear))) ≡ Clear →
+    t ≡ true
+room-held Held Held Clear true h = refl
+room-held Held Held Clear false h = cc
+room-held Held Failed Clear t h = cc
+room-held Held m (Refused e) t h = cc
+room-held Failed m z t h = cc
+
+-- a request whose checks held has its room
+module _ (flags : NlAuthFlags) (a b c d e : List ℕ) (room : ℕ) (v : Verdict) (p : v ≡ checkRequest room flags a b c d e) (h : v ≡ Clear) where
+  pub request-fits : length (requestBytes flags a b c d e) ≤ room
+  unfolding checkRequest
+  request-fits =
+      let n : ℕ = length (requestBytes flags a b c d e) in
+      leb-true n room (room-held (stringsHold flags) (sizeHolds n) (checkZeros flags a b c d e) (leb n room) (sym p ∙ h))
+
+  pub request-room : requestSize flags a b c d e ≤ room
+  request-room = rw (length-request flags a b c d e) at request-fits
+
+-- a response
+pub of-response : (room : ℕ) (r : Checked) → r ≡ roomHolds 9 room → r ≡ roomHolds (length responseBytes) room
+of-response room r e = rw length-response e
+
+module _ (l : List ℕ) (r : Checked) (e : r ≡ roomHolds 9 (length l)) (h : r ≡ Held) where
+  nine : 9 ≤ length l
+  nine = leb-true 9 (length l) (held-true (leb 9 (length l)) (sym e ∙ h))
+
+  pub head-room : 8 ≤ length l
+  head-room = omega (arith, nine)
+
+  pub last-room : (k xs : List ℕ) (p : ℕ) → Wrote l k 0 p xs → p ≡ 8 → p + 1 ≤ length k
+  last-room k xs p w q = omega (arith, nine, kept l k xs 0 p w)
+
+  pub response-fits : length responseBytes ≤ length l
+  response-fits = rw length-response nine
+
+module _ (l k m : List ℕ) (p q : ℕ) (v : Wrote l k 0 p (headBytes 1 noFlags)) (w : Wrote k m p q (0 ∷ [])) where
+  both : Wrote l m 0 q responseBytes
+  unfolding responseBytes
+  both = and-then l k m _ _ 0 p q v w
+
+  pub response-length : Length q ≡ Length (length responseBytes)
+  response-length = whole-length l m responseBytes q both
+
+  pub response-content : length responseBytes ≤ length l → m ≡ atFront responseBytes l
+  response-content fits = whole-content l m responseBytes q both fits
+
+pub ruleset response = (chain, of-response, response-fits, response-length, response-content)
+
+-- flags that were made known first
+module _ (f g : NlAuthFlags) (q : f ≡ g) (a b c d e : List ℕ) where
+  pub of-answer : (room : ℕ) (r : Written) → r ≡ requestAnswer room f a b c d e → r ≡ requestAnswer room g a b c d e
+  of-answer room r z = rw (← q) z
+
+  pub of-out : (l k : List ℕ) → k ≡ requestOut l f a b c d e → k ≡ requestOut l g a b c d e
+  of-out l k z = rw (← q) z

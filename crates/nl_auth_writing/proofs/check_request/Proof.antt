@@ -1,0 +1,20 @@
+-- `check_request` makes checks 14, 34, 30 and 33 in their order.
+use borrow.Author.Needs.{needs}
+use Rattle.nl_auth_writing.proofs.check_request.Statement.{statement}
+use Rattle.nl_auth_writing.proofs.check_request.Tie as tie
+use Rattle.nl_auth_writing.specs.Writing.{checkRequest}
+use Rattle.place.proofs.Writings.{measured}
+use Rattle.wire.proofs.Laws.{chain, groups}
+
+pub check-request-spec : {M : Type 1} → statement M
+unfolding checkRequest
+check-request-spec =
+    tie.close
+    (tie.spec
+    (λ c κs. search needs) (λ c. search needs) (λ c. search needs)
+    (λ c. search (chain, groups, measured) depth 8 fits 20000) (λ c κs. search needs) (λ c. search needs)
+    (λ c. search needs) (λ c. search (chain, groups, measured) depth 8 fits 20000) (λ c κs. search needs)
+    (λ c κs. search needs) (λ c. search needs) (λ c. search needs)
+    (λ c. search (chain, groups, measured) depth 8 fits 20000) (λ c κs. search needs) (λ c. search needs)
+    (λ c. search needs) (λ c. search (chain, groups, measured) depth 8 fits 20000)
+    (λ c. search (chain, groups, measured) depth 8 fits 20000))

@@ -1,0 +1,203 @@
+// NL_AUTH_MESSAGE (MS-NRPC 2.2.1.3.1): writing. The strings of bits A to E are lent as `a` to `e`.
+ghost use mathlib.Core.Path.{_≡_};
+ghost use Prim.Native.Nat.{_+_, _≤_, _<_};
+ghost use lib.ListN.{length};
+ghost use Rattle.place.specs.Place.{Wrote};
+ghost use Rattle.place.specs.Written.{counted};
+ghost use Rattle.wire.specs.Number.{has};
+ghost use Rattle.nl_auth_flags.specs.Flags.{nbDomain, nbComputer, dnsDomain, dnsHost, utf8Computer, known};
+ghost use Rattle.nl_auth_writing.specs.Writing.{headBytes, stringBytes, bytesUnder, utf8Bytes, requestBytes, noZero, checkZeros, checkRequest, requestAnswer, requestOut, responseAnswer, responseOut};
+use nl_auth::NlAuth;
+use nl_auth::string::before_zero;
+use nl_auth_flags::NlAuthFlags;
+use place::Place;
+use place::written::Written;
+use place::written::plus;
+use place::written::room_holds;
+use place::written::size_holds;
+use wire::check::Checked;
+use wire::check::Verdict;
+use wire::check::check;
+use wire::number::has;
+use wire::refusal::Refusal;
+
+// Check 34 at the string of a bit. Where the bit is clear the string isn't looked at.
+fn no_zero(flags: NlAuthFlags, mask: u32, string: &[u8]) -> Checked
+    requires { ⌜ 0 < mask ⌝ }
+    ensures { λ r. ⌜ r ≡ noZero (has (flags .bits) mask, now (string .entry)) ⌝ }
+{
+    if has(flags.bits, mask) {
+        return check(!(before_zero(string) < string.len()));
+    }
+    Checked::Held
+}
+
+// Check 34, A first.
+fn check_zeros(flags: NlAuthFlags, a: &[u8], b: &[u8], c: &[u8], d: &[u8], e: &[u8]) -> Verdict
+    ensures { λ r. ⌜ r ≡ checkZeros flags (now (a .entry)) (now (b .entry)) (now (c .entry)) (now (d .entry)) (now (e .entry)) ⌝ }
+{
+    let Checked::Held = no_zero(flags, NlAuthFlags::NB_DOMAIN, a) else {
+        return Verdict::Refused(Refusal::ZeroInString(1));
+    };
+    let Checked::Held = no_zero(flags, NlAuthFlags::NB_COMPUTER, b) else {
+        return Verdict::Refused(Refusal::ZeroInString(2));
+    };
+    let Checked::Held = no_zero(flags, NlAuthFlags::DNS_DOMAIN, c) else {
+        return Verdict::Refused(Refusal::ZeroInString(3));
+    };
+    let Checked::Held = no_zero(flags, NlAuthFlags::DNS_HOST, d) else {
+        return Verdict::Refused(Refusal::ZeroInString(4));
+    };
+    let Checked::Held = no_zero(flags, NlAuthFlags::UTF8_COMPUTER, e) else {
+        return Verdict::Refused(Refusal::ZeroInString(5));
+    };
+    Verdict::Clear
+}
+
+// A length so far, and with the string of a bit.
+fn size_with(n: usize, flags: NlAuthFlags, mask: u32, string: &[u8]) -> usize
+    requires { ⌜ (n ≤ 65536) × (0 < mask) ⌝ }
+    ensures { λ r. ⌜ r ≡ counted (n + length (bytesUnder (has (flags .bits) mask) (now (string .entry)))) ⌝ }
+{
+    if has(flags.bits, mask) {
+        return plus(plus(n, string.len()), 1);
+    }
+    n
+}
+
+// The length of a request, as it is counted for check 30.
+fn request_size(flags: NlAuthFlags, a: &[u8], b: &[u8], c: &[u8], d: &[u8], e: &[u8]) -> usize
+    ensures { λ r. ⌜ r ≡ counted (length (requestBytes flags (now (a .entry)) (now (b .entry)) (now (c .entry)) (now (d .entry)) (now (e .entry)))) ⌝ }
+{
+    let n = size_with(8, flags, NlAuthFlags::NB_DOMAIN, a);
+    let n = size_with(n, flags, NlAuthFlags::NB_COMPUTER, b);
+    let n = size_with(n, flags, NlAuthFlags::DNS_DOMAIN, c);
+    let n = size_with(n, flags, NlAuthFlags::DNS_HOST, d);
+    size_with(n, flags, NlAuthFlags::UTF8_COMPUTER, e)
+}
+
+// Checks 14, 34, 30 and 33 of a request, for an output of `room` bytes.
+fn check_request(
+    room: usize,
+    flags: NlAuthFlags,
+    a: &[u8],
+    b: &[u8],
+    c: &[u8],
+    d: &[u8],
+    e: &[u8],
+) -> Verdict
+    ensures { λ r. ⌜ r ≡ checkRequest room flags (now (a .entry)) (now (b .entry)) (now (c .entry)) (now (d .entry)) (now (e .entry)) ⌝ }
+{
+    let Checked::Held = flags.strings_hold() else {
+        return Verdict::Refused(Refusal::NoStrings);
+    };
+    let zeros = check_zeros(flags, a, b, c, d, e);
+    let Verdict::Clear = zeros else {
+        return zeros;
+    };
+    let n = request_size(flags, a, b, c, d, e);
+    let Checked::Held = size_holds(n) else {
+        return Verdict::Refused(Refusal::TooLongToWrite);
+    };
+    let Checked::Held = room_holds(n, room) else {
+        return Verdict::Refused(Refusal::NoRoom);
+    };
+    Verdict::Clear
+}
+
+// MessageType and Flags, from the start of the output on.
+fn put_head(out: &mut [u8], message_type: u32, flags: NlAuthFlags) -> Place
+    requires { ⌜ 8 ≤ length (now out) ⌝ }
+    ensures next { λ r. ⌜ r .at ≡ 8 ⌝ }
+    ensures { λ r. ⌜ Wrote (now (out .entry)) (now (out .exit)) 0 (r .at) (headBytes «message_type» flags) ⌝ }
+{
+    let place = Place { at: 0 }.put_u32(out, message_type);
+    place.put_u32(out, flags.bits)
+}
+
+// A string and its zero byte, from the start of the lent part on.
+fn put_string(out: &mut [u8], string: &[u8]) -> Place
+    requires { ⌜ length (now string) + 1 ≤ length (now out) ⌝ }
+    ensures next { λ r. ⌜ r .at ≡ length (now (string .entry)) + 1 ⌝ }
+    ensures { λ r. ⌜ Wrote (now (out .entry)) (now (out .exit)) 0 (r .at) (stringBytes (now (string .entry))) ⌝ }
+{
+    let place = Place { at: 0 }.put_bytes(out, string);
+    place.put_u8(out, 0)
+}
+
+// The string of a bit at its place: its writer is lent the output from there on.
+fn put_under(place: Place, out: &mut [u8], flags: NlAuthFlags, mask: u32, string: &[u8]) -> Place
+    requires { ⌜ (0 < mask) × (place .at + length (bytesUnder (has (flags .bits) mask) (now string)) ≤ length (now out)) ⌝ }
+    ensures { λ r. ⌜ Wrote (now (out .entry)) (now (out .exit)) (place .at) (r .at) (bytesUnder (has (flags .bits) mask) (now (string .entry))) ⌝ }
+{
+    if has(flags.bits, mask) {
+        let at = place.at;
+        let end = put_string(&mut out[at..], string);
+        return Place { at: at + end.at };
+    }
+    place
+}
+
+// The UTF-8 strings, C to E.
+fn put_utf8(place: Place, out: &mut [u8], flags: NlAuthFlags, c: &[u8], d: &[u8], e: &[u8]) -> Place
+    requires { ⌜ place .at + (length (bytesUnder (dnsDomain flags) (now c)) + (length (bytesUnder (dnsHost flags) (now d)) + length (bytesUnder (utf8Computer flags) (now e)))) ≤ length (now out) ⌝ }
+    ensures { λ r. ⌜ Wrote (now (out .entry)) (now (out .exit)) (place .at) (r .at) (utf8Bytes flags (now (c .entry)) (now (d .entry)) (now (e .entry))) ⌝ }
+{
+    let place = put_under(place, out, flags, NlAuthFlags::DNS_DOMAIN, c);
+    let place = put_under(place, out, flags, NlAuthFlags::DNS_HOST, d);
+    put_under(place, out, flags, NlAuthFlags::UTF8_COMPUTER, e)
+}
+
+// A request whose checks held.
+fn put_request(
+    out: &mut [u8],
+    flags: NlAuthFlags,
+    a: &[u8],
+    b: &[u8],
+    c: &[u8],
+    d: &[u8],
+    e: &[u8],
+) -> Place
+    requires { ⌜ 8 + (length (bytesUnder (nbDomain flags) (now a)) + (length (bytesUnder (nbComputer flags) (now b)) + (length (bytesUnder (dnsDomain flags) (now c)) + (length (bytesUnder (dnsHost flags) (now d)) + length (bytesUnder (utf8Computer flags) (now e)))))) ≤ length (now out) ⌝ }
+    ensures { λ r. ⌜ Wrote (now (out .entry)) (now (out .exit)) 0 (r .at) (requestBytes flags (now (a .entry)) (now (b .entry)) (now (c .entry)) (now (d .entry)) (now (e .entry))) ⌝ }
+{
+    let place = put_head(out, NlAuth::REQUEST, flags);
+    let place = put_under(place, out, flags, NlAuthFlags::NB_DOMAIN, a);
+    let place = put_under(place, out, flags, NlAuthFlags::NB_COMPUTER, b);
+    put_utf8(place, out, flags, c, d, e)
+}
+
+// Writes a request of the strings under the set bits A to E; other bits are dropped first.
+pub fn write_request(
+    out: &mut [u8],
+    flags: NlAuthFlags,
+    a: &[u8],
+    b: &[u8],
+    c: &[u8],
+    d: &[u8],
+    e: &[u8],
+) -> Written
+    ensures answer { λ r. ⌜ r ≡ requestAnswer (length (now (out .entry))) (known flags) (now (a .entry)) (now (b .entry)) (now (c .entry)) (now (d .entry)) (now (e .entry)) ⌝ }
+    ensures content { λ _. ⌜ now (out .exit) ≡ requestOut (now (out .entry)) (known flags) (now (a .entry)) (now (b .entry)) (now (c .entry)) (now (d .entry)) (now (e .entry)) ⌝ }
+{
+    let flags = flags.known();
+    let verdict = check_request(out.len(), flags, a, b, c, d, e);
+    let Verdict::Clear = verdict else {
+        return Written::Refused(verdict.refusal());
+    };
+    let end = put_request(out, flags, a, b, c, d, e);
+    Written::Length(end.at)
+}
+
+// Writes a response: its flags are zero, its buffer is one zero byte.
+pub fn write_response(out: &mut [u8]) -> Written
+    ensures answer { λ r. ⌜ r ≡ responseAnswer (length (now (out .entry))) ⌝ }
+    ensures content { λ _. ⌜ now (out .exit) ≡ responseOut (now (out .entry)) ⌝ }
+{
+    let Checked::Held = room_holds(9, out.len()) else {
+        return Written::Refused(Refusal::NoRoom);
+    };
+    let place = put_head(out, NlAuth::RESPONSE, NlAuthFlags { bits: 0 });
+    let end = place.put_u8(out, 0);
+    Written::Length(end.at)
+}
