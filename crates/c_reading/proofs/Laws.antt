@@ -1,0 +1,75 @@
+-- Laws of what each reading hands out, by what it is known to be.
+use Prim.Native.Nat.{ℕ}
+use mathlib.Core.Path.{_≡_}
+use mathlib.Core.List.{List, [], _∷_}
+use Rattle.wire.specs.declared.refusal.Refusal.{Refusal}
+use Rattle.authenticate.specs.declared.Answer.{Answer}
+use Rattle.authenticate.specs.declared.Authenticate.{Authenticate}
+use Rattle.authenticate.specs.declared.Reading.the-variants.{Taken, Refused}
+use Rattle.challenge.specs.declared.Answer.{Answer as ChalAnswer}
+use Rattle.challenge.specs.declared.Challenge.{Challenge}
+use Rattle.challenge.specs.declared.Reading.the-variants.{Taken as ChalTaken, Refused as ChalRefused}
+use Rattle.challenge.specs.declared.ServerNames.{ServerNames}
+use Rattle.challenge.specs.declared.ServerNamesReading.{ServerNamesReading}
+use Rattle.challenge.specs.declared.ServerNamesReading.the-variants.{Taken as NamesTaken, Refused as NamesRefused}
+use Rattle.challenge.specs.declared.Timestamp.{Timestamp}
+use Rattle.challenge.specs.declared.Timestamp.the-variants.{Time, Nothing}
+use Rattle.challenge.specs.declared.TimestampReading.{TimestampReading}
+use Rattle.challenge.specs.declared.TimestampReading.the-variants.{Taken as TimeTaken, Refused as TimeRefused}
+use Rattle.nl_auth.specs.declared.NlAuth.{NlAuth}
+use Rattle.nl_auth.specs.declared.Reading.{Reading as NlReading}
+use Rattle.nl_auth.specs.declared.Reading.the-variants.{Taken as NlTaken, Refused as NlRefused}
+use Rattle.place.specs.Written.{atFront}
+use Rattle.c_number.specs.Handed.{numbers, refused}
+use Rattle.c_reading.specs.Numbers.{authenticateNumbers, challengeNumbers, timestampNumbers, serverNamesNumbers, nlAuthNumbers, authHanded, chalHanded, timeHanded, namesHanded, nlHanded}
+
+pub timed : (w : Timestamp) (t : ℕ) → w ≡ Time t → (1 ∷ t ∷ []) ≡ timestampNumbers w
+unfolding timestampNumbers
+timed w t h = rw h
+
+pub untimed : (w : Timestamp) → w ≡ Nothing → (0 ∷ 0 ∷ []) ≡ timestampNumbers w
+unfolding timestampNumbers
+untimed w h = rw h
+
+-- ---- what is handed out
+
+module _ (w v : TimestampReading) (e : w ≡ v) where
+  pub time-taken : (x : Timestamp) (xs : List ℕ) → xs ≡ timestampNumbers x → w ≡ TimeTaken x → numbers xs ≡ timeHanded v
+  time-taken x xs p h = simp (← e, h, p)
+
+  pub time-refused : (d : Refusal) → w ≡ TimeRefused d → refused d ≡ timeHanded v
+  time-refused d h = simp (← e, h)
+
+module _ (w v : ServerNamesReading) (e : w ≡ v) where
+  pub names-taken : (x : ServerNames) (xs : List ℕ) → xs ≡ serverNamesNumbers x → w ≡ NamesTaken x → numbers xs ≡ namesHanded v
+  names-taken x xs p h = simp (← e, h, p)
+
+  pub names-refused : (d : Refusal) → w ≡ NamesRefused d → refused d ≡ namesHanded v
+  names-refused d h = simp (← e, h)
+
+module _ (w v : NlReading) (e : w ≡ v) where
+  pub nl-taken : (x : NlAuth) (xs : List ℕ) → xs ≡ nlAuthNumbers x → w ≡ NlTaken x → numbers xs ≡ nlHanded v
+  nl-taken x xs p h = simp (← e, h, p)
+
+  pub nl-refused : (d : Refusal) → w ≡ NlRefused d → refused d ≡ nlHanded v
+  nl-refused d h = simp (← e, h)
+
+module _ (w v : Answer) (e : w ≡ v) where
+  pub auth-taken : (x : Authenticate) (xs : List ℕ) → xs ≡ authenticateNumbers x → w .reading ≡ Taken x → numbers xs ≡ authHanded (v .reading)
+  auth-taken x xs p h = simp (← e, h, p)
+
+  pub auth-bytes : (zs out : List ℕ) → zs ≡ atFront (w .mic) out → zs ≡ atFront (v .mic) out
+  auth-bytes zs out p = rw (← e) p
+
+  pub auth-refused : (d : Refusal) → w .reading ≡ Refused d → refused d ≡ authHanded (v .reading)
+  auth-refused d h = simp (← e, h)
+
+module _ (w v : ChalAnswer) (e : w ≡ v) where
+  pub chal-taken : (x : Challenge) (xs : List ℕ) → xs ≡ challengeNumbers x → w .reading ≡ ChalTaken x → numbers xs ≡ chalHanded (v .reading)
+  chal-taken x xs p h = simp (← e, h, p)
+
+  pub chal-bytes : (zs out : List ℕ) → zs ≡ atFront (w .«server_challenge») out → zs ≡ atFront (v .«server_challenge») out
+  chal-bytes zs out p = rw (← e) p
+
+  pub chal-refused : (d : Refusal) → w .reading ≡ ChalRefused d → refused d ≡ chalHanded (v .reading)
+  chal-refused d h = simp (← e, h)

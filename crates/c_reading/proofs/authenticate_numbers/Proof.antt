@@ -1,0 +1,14 @@
+-- `authenticate_numbers` has the numbers in the order of the definition.
+use borrow.Author.Needs.{needs}
+use Rattle.c_reading.proofs.authenticate_numbers.Statement.{statement}
+use Rattle.c_reading.proofs.authenticate_numbers.Tie as tie
+use Rattle.c_reading.specs.Numbers.{authenticateNumbers}
+
+pub authenticate-numbers-spec : {M : Type 1} → statement M
+unfolding authenticateNumbers
+authenticate-numbers-spec =
+    tie.close
+    (tie.spec
+    (λ c. search needs) (λ c κs. search needs) (λ c κs. search needs) (λ c κs. search needs) (λ c κs. search needs)
+    (λ c κs. search needs) (λ c κs. search needs) (λ c κs. search needs) (λ c κs. search needs) (λ c κs. search needs)
+    (λ c κs. search needs) (λ c κs. search needs) (λ c κs. search needs) (λ c κs. search needs) (λ c. cc))

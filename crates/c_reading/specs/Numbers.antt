@@ -1,0 +1,95 @@
+-- What each reading found, as numbers in the order that the header names them.
+use Prim.Native.Nat.{ℕ}
+use mathlib.Core.List.{List, [], _∷_}
+use Rattle.authenticate.specs.declared.Authenticate.{Authenticate}
+use Rattle.authenticate.specs.declared.Reading.{Reading}
+use Rattle.authenticate.specs.declared.Reading.the-variants.{Taken, Refused}
+use Rattle.challenge.specs.declared.Challenge.{Challenge}
+use Rattle.challenge.specs.declared.Reading.{Reading as ChalReading}
+use Rattle.challenge.specs.declared.Reading.the-variants.{Taken as ChalTaken, Refused as ChalRefused}
+use Rattle.challenge.specs.declared.TimestampReading.{TimestampReading}
+use Rattle.challenge.specs.declared.TimestampReading.the-variants.{Taken as TimeTaken, Refused as TimeRefused}
+use Rattle.challenge.specs.declared.ServerNamesReading.{ServerNamesReading}
+use Rattle.challenge.specs.declared.ServerNamesReading.the-variants.{Taken as NamesTaken, Refused as NamesRefused}
+use Rattle.challenge.specs.declared.ServerNames.{ServerNames}
+use Rattle.challenge.specs.declared.Timestamp.{Timestamp}
+use Rattle.challenge.specs.declared.Timestamp.the-variants.{Time, Nothing}
+use Rattle.nl_auth.specs.declared.NlAuth.{NlAuth}
+use Rattle.nl_auth.specs.declared.Reading.{Reading as NlReading}
+use Rattle.nl_auth.specs.declared.Reading.the-variants.{Taken as NlTaken, Refused as NlRefused}
+use Rattle.c_number.specs.Number.{bit}
+use Rattle.c_number.specs.Handed.{Handed, numbers, refused}
+
+-- flags, whether a MIC is there, and the offset and length of fields 1 to 6
+unfoldable pub authenticateNumbers : Authenticate → List ℕ
+authenticateNumbers a =
+    a .flags .bits ∷
+    bit (a .«mic_present») ∷
+    a .fields .lm .offset ∷
+    a .fields .lm .len ∷
+    a .fields .nt .offset ∷
+    a .fields .nt .len ∷
+    a .fields .domain .offset ∷
+    a .fields .domain .len ∷
+    a .fields .user .offset ∷
+    a .fields .user .len ∷
+    a .fields .workstation .offset ∷
+    a .fields .workstation .len ∷
+    a .fields .key .offset ∷
+    a .fields .key .len ∷ []
+
+-- flags, and the offset and length of fields 1 and 2
+unfoldable pub challengeNumbers : Challenge → List ℕ
+challengeNumbers c =
+    c .flags .bits ∷
+    c .fields .«target_name» .offset ∷
+    c .fields .«target_name» .len ∷
+    c .fields .«target_info» .offset ∷
+    c .fields .«target_info» .len ∷ []
+
+-- whether a timestamp is there, and its value
+unfoldable pub timestampNumbers : Timestamp → List ℕ
+timestampNumbers (Time t) = 1 ∷ t ∷ []
+timestampNumbers Nothing = 0 ∷ 0 ∷ []
+
+-- whether pairs 1 and 2 are there
+unfoldable pub serverNamesNumbers : ServerNames → List ℕ
+serverNamesNumbers n = bit (n .«nb_computer_name») ∷ bit (n .«nb_domain_name») ∷ []
+
+-- type, flags, and the offset and length of strings A to E
+unfoldable pub nlAuthNumbers : NlAuth → List ℕ
+nlAuthNumbers m =
+    m .«message_type» ∷
+    m .flags .bits ∷
+    m .strings .«nb_domain» .offset ∷
+    m .strings .«nb_domain» .len ∷
+    m .strings .«nb_computer» .offset ∷
+    m .strings .«nb_computer» .len ∷
+    m .strings .«dns_domain» .offset ∷
+    m .strings .«dns_domain» .len ∷
+    m .strings .«dns_host» .offset ∷
+    m .strings .«dns_host» .len ∷
+    m .strings .«utf8_computer» .offset ∷
+    m .strings .«utf8_computer» .len ∷ []
+
+-- ---- what each reading hands out
+
+abbrev pub authHanded : Reading → Handed
+authHanded (Taken a) = numbers (authenticateNumbers a)
+authHanded (Refused e) = refused e
+
+abbrev pub chalHanded : ChalReading → Handed
+chalHanded (ChalTaken c) = numbers (challengeNumbers c)
+chalHanded (ChalRefused e) = refused e
+
+abbrev pub timeHanded : TimestampReading → Handed
+timeHanded (TimeTaken t) = numbers (timestampNumbers t)
+timeHanded (TimeRefused e) = refused e
+
+abbrev pub namesHanded : ServerNamesReading → Handed
+namesHanded (NamesTaken n) = numbers (serverNamesNumbers n)
+namesHanded (NamesRefused e) = refused e
+
+abbrev pub nlHanded : NlReading → Handed
+nlHanded (NlTaken m) = numbers (nlAuthNumbers m)
+nlHanded (NlRefused e) = refused e

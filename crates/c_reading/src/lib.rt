@@ -1,0 +1,200 @@
+// The readings of the C interface: a number for the answer, and what was found in lent arrays.
+ghost use mathlib.Core.Path.{_≡_};
+ghost use Prim.Native.Nat.{_≤_};
+ghost use lib.ListN.{length};
+ghost use Rattle.place.specs.Written.{atFront};
+ghost use Rattle.c_reading.specs.Numbers.{authenticateNumbers, challengeNumbers, timestampNumbers, serverNamesNumbers, nlAuthNumbers, authHanded, chalHanded, timeHanded, namesHanded, nlHanded};
+ghost use Rattle.authenticate.specs.Authenticate.{readAuthenticate};
+ghost use Rattle.challenge.specs.Challenge.{readChallenge, timestampOf, serverNamesOf};
+ghost use Rattle.nl_auth.specs.NlAuth.{readNlAuth};
+ghost use Rattle.c_number.specs.Handed.{callNumber, callOut, besideNumber, besideOut, besideBytes};
+use authenticate::Authenticate;
+use authenticate::Reading as AuthenticateReading;
+use c_number::bit;
+use c_number::give;
+use c_number::give_bytes;
+use c_number::len_of;
+use c_number::offset_of;
+use c_number::refusal_number;
+use c_number::rooms_hold;
+use challenge::Challenge;
+use challenge::Reading as ChallengeReading;
+use challenge::ServerNames;
+use challenge::ServerNamesReading;
+use challenge::Timestamp;
+use challenge::TimestampReading;
+use nl_auth::NlAuth;
+use nl_auth::Reading as NlAuthReading;
+use place::written::room_holds;
+use wire::check::Checked;
+use wire::refusal::Refusal;
+
+fn authenticate_numbers(a: Authenticate) -> [u64; 14]
+    ensures { λ r. ⌜ r ≡ authenticateNumbers a ⌝ }
+{
+    let f = a.fields;
+    [
+        a.flags.bits as u64,
+        bit(a.mic_present),
+        offset_of(f.lm),
+        len_of(f.lm),
+        offset_of(f.nt),
+        len_of(f.nt),
+        offset_of(f.domain),
+        len_of(f.domain),
+        offset_of(f.user),
+        len_of(f.user),
+        offset_of(f.workstation),
+        len_of(f.workstation),
+        offset_of(f.key),
+        len_of(f.key),
+    ]
+}
+
+fn challenge_numbers(c: Challenge) -> [u64; 5]
+    ensures { λ r. ⌜ r ≡ challengeNumbers c ⌝ }
+{
+    let f = c.fields;
+    [
+        c.flags.bits as u64,
+        offset_of(f.target_name),
+        len_of(f.target_name),
+        offset_of(f.target_info),
+        len_of(f.target_info),
+    ]
+}
+
+fn timestamp_numbers(timestamp: Timestamp) -> [u64; 2]
+    ensures { λ r. ⌜ r ≡ timestampNumbers timestamp ⌝ }
+{
+    match timestamp {
+        Timestamp::Time(t) => [1, t],
+        Timestamp::Nothing => [0, 0],
+    }
+}
+
+fn server_names_numbers(names: ServerNames) -> [u64; 2]
+    ensures { λ r. ⌜ r ≡ serverNamesNumbers names ⌝ }
+{
+    [bit(names.nb_computer_name), bit(names.nb_domain_name)]
+}
+
+fn nl_auth_numbers(m: NlAuth) -> [u64; 12]
+    ensures { λ r. ⌜ r ≡ nlAuthNumbers m ⌝ }
+{
+    let s = m.strings;
+    [
+        m.message_type as u64,
+        m.flags.bits as u64,
+        offset_of(s.nb_domain),
+        len_of(s.nb_domain),
+        offset_of(s.nb_computer),
+        len_of(s.nb_computer),
+        offset_of(s.dns_domain),
+        len_of(s.dns_domain),
+        offset_of(s.dns_host),
+        len_of(s.dns_host),
+        offset_of(s.utf8_computer),
+        len_of(s.utf8_computer),
+    ]
+}
+
+// What was found of a message that was taken; both arrays have room.
+fn give_authenticate(numbers: &mut [u64], mic: &mut [u8], a: Authenticate, bytes: &[u8; 16]) -> u64
+    requires { ⌜ (14 ≤ length (now numbers)) × (16 ≤ length (now mic)) ⌝ }
+    ensures answer { λ r. ⌜ r ≡ 0 ⌝ }
+    ensures content { λ _. ⌜ now (numbers .exit) ≡ atFront (authenticateNumbers a) (now (numbers .entry)) ⌝ }
+    ensures beside { λ _. ⌜ now (mic .exit) ≡ atFront (now (bytes .entry)) (now (mic .entry)) ⌝ }
+{
+    give_bytes(mic, bytes);
+    give(numbers, &authenticate_numbers(a))
+}
+
+// Reads AUTHENTICATE.
+pub fn read_authenticate(msg: &[u8], numbers: &mut [u64], mic: &mut [u8]) -> u64
+    ensures answer { λ r. ⌜ r ≡ besideNumber 14 16 (authHanded (readAuthenticate (now (msg .entry)) .reading)) (length (now (numbers .entry))) (length (now (mic .entry))) ⌝ }
+    ensures content { λ _. ⌜ now (numbers .exit) ≡ besideOut 14 16 (authHanded (readAuthenticate (now (msg .entry)) .reading)) (now (numbers .entry)) (length (now (mic .entry))) ⌝ }
+    ensures beside { λ _. ⌜ now (mic .exit) ≡ besideBytes 14 16 (authHanded (readAuthenticate (now (msg .entry)) .reading)) (readAuthenticate (now (msg .entry)) .mic) (length (now (numbers .entry))) (now (mic .entry)) ⌝ }
+{
+    let Checked::Held = rooms_hold(14, numbers.len(), 16, mic.len()) else {
+        return refusal_number(Refusal::NoRoom);
+    };
+    let answer = authenticate::read(msg);
+    let bytes = answer.mic;
+    let reading = answer.reading;
+    match reading {
+        AuthenticateReading::Taken(a) => give_authenticate(numbers, mic, a, &bytes),
+        AuthenticateReading::Refused(e) => refusal_number(e),
+    }
+}
+
+// What was found of a message that was taken; both arrays have room.
+fn give_challenge(numbers: &mut [u64], out: &mut [u8], c: Challenge, bytes: &[u8; 8]) -> u64
+    requires { ⌜ (5 ≤ length (now numbers)) × (8 ≤ length (now out)) ⌝ }
+    ensures answer { λ r. ⌜ r ≡ 0 ⌝ }
+    ensures content { λ _. ⌜ now (numbers .exit) ≡ atFront (challengeNumbers c) (now (numbers .entry)) ⌝ }
+    ensures beside { λ _. ⌜ now (out .exit) ≡ atFront (now (bytes .entry)) (now (out .entry)) ⌝ }
+{
+    give_bytes(out, bytes);
+    give(numbers, &challenge_numbers(c))
+}
+
+// Reads CHALLENGE; `out` is for ServerChallenge.
+pub fn read_challenge(msg: &[u8], numbers: &mut [u64], out: &mut [u8]) -> u64
+    ensures answer { λ r. ⌜ r ≡ besideNumber 5 8 (chalHanded (readChallenge (now (msg .entry)) .reading)) (length (now (numbers .entry))) (length (now (out .entry))) ⌝ }
+    ensures content { λ _. ⌜ now (numbers .exit) ≡ besideOut 5 8 (chalHanded (readChallenge (now (msg .entry)) .reading)) (now (numbers .entry)) (length (now (out .entry))) ⌝ }
+    ensures beside { λ _. ⌜ now (out .exit) ≡ besideBytes 5 8 (chalHanded (readChallenge (now (msg .entry)) .reading)) (readChallenge (now (msg .entry)) .«server_challenge») (length (now (numbers .entry))) (now (out .entry)) ⌝ }
+{
+    let Checked::Held = rooms_hold(5, numbers.len(), 8, out.len()) else {
+        return refusal_number(Refusal::NoRoom);
+    };
+    let answer = challenge::read(msg);
+    let bytes = answer.server_challenge;
+    let reading = answer.reading;
+    match reading {
+        ChallengeReading::Taken(c) => give_challenge(numbers, out, c, &bytes),
+        ChallengeReading::Refused(e) => refusal_number(e),
+    }
+}
+
+// Reads a CHALLENGE for its first timestamp.
+pub fn read_timestamp(msg: &[u8], numbers: &mut [u64]) -> u64
+    ensures answer { λ r. ⌜ r ≡ callNumber 2 (timeHanded (timestampOf (now (msg .entry)))) (length (now (numbers .entry))) ⌝ }
+    ensures content { λ _. ⌜ now (numbers .exit) ≡ callOut 2 (timeHanded (timestampOf (now (msg .entry)))) (now (numbers .entry)) ⌝ }
+{
+    let Checked::Held = room_holds(2, numbers.len()) else {
+        return refusal_number(Refusal::NoRoom);
+    };
+    match challenge::read_timestamp(msg) {
+        TimestampReading::Taken(t) => give(numbers, &timestamp_numbers(t)),
+        TimestampReading::Refused(e) => refusal_number(e),
+    }
+}
+
+// Reads a CHALLENGE for whether pairs 1 and 2 are there.
+pub fn read_server_names(msg: &[u8], numbers: &mut [u64]) -> u64
+    ensures answer { λ r. ⌜ r ≡ callNumber 2 (namesHanded (serverNamesOf (now (msg .entry)))) (length (now (numbers .entry))) ⌝ }
+    ensures content { λ _. ⌜ now (numbers .exit) ≡ callOut 2 (namesHanded (serverNamesOf (now (msg .entry)))) (now (numbers .entry)) ⌝ }
+{
+    let Checked::Held = room_holds(2, numbers.len()) else {
+        return refusal_number(Refusal::NoRoom);
+    };
+    match challenge::read_server_names(msg) {
+        ServerNamesReading::Taken(n) => give(numbers, &server_names_numbers(n)),
+        ServerNamesReading::Refused(e) => refusal_number(e),
+    }
+}
+
+// Reads NL_AUTH.
+pub fn read_nl_auth(msg: &[u8], numbers: &mut [u64]) -> u64
+    ensures answer { λ r. ⌜ r ≡ callNumber 12 (nlHanded (readNlAuth (now (msg .entry)))) (length (now (numbers .entry))) ⌝ }
+    ensures content { λ _. ⌜ now (numbers .exit) ≡ callOut 12 (nlHanded (readNlAuth (now (msg .entry)))) (now (numbers .entry)) ⌝ }
+{
+    let Checked::Held = room_holds(12, numbers.len()) else {
+        return refusal_number(Refusal::NoRoom);
+    };
+    match nl_auth::read(msg) {
+        NlAuthReading::Taken(m) => give(numbers, &nl_auth_numbers(m)),
+        NlAuthReading::Refused(e) => refusal_number(e),
+    }
+}

@@ -1,0 +1,110 @@
+-- Laws of what is answered and handed out, by what the decision and the answer are known to be.
+use Prim.Native.Nat.{ℕ, _≤_}
+use mathlib.Core.Path.{_≡_, sym, _∙_}
+use mathlib.Core.Bool.{Bool}
+use mathlib.Core.List.{List, [], _∷_}
+use lib.Dec.{leb}
+use lib.ListN.{length}
+use borrow.Author.Tests.{leb-true}
+use Rattle.wire.specs.declared.check.Checked.{Checked}
+use Rattle.wire.specs.declared.check.Checked.the-variants.{Held, Failed}
+use Rattle.wire.specs.declared.refusal.Refusal.{Refusal}
+use Rattle.wire.specs.declared.refusal.Refusal.the-variants.{NoRoom}
+use Rattle.wire.specs.Number.{has}
+use Rattle.wire.proofs.Laws.{held-true}
+use Rattle.place.specs.Written.{roomHolds, atFront}
+use Rattle.challenge.specs.declared.Timestamp.{Timestamp}
+use Rattle.challenge.specs.declared.Timestamp.the-variants.{Time, Nothing}
+use Rattle.respond.specs.declared.answer.Answer.{Answer}
+use Rattle.respond.specs.declared.answer.Answered.{Answered}
+use Rattle.respond.specs.declared.answer.Answered.the-variants.{Sent, Refused}
+use Rattle.respond.specs.declared.decision.Decided.{Decided}
+use Rattle.respond.specs.declared.decision.Decided.the-variants.{Taken, Refused as Undecided}
+use Rattle.respond.specs.declared.decision.Decision.{Decision}
+use Rattle.respond.specs.declared.decision.Settings.{Settings}
+use Rattle.respond.specs.Answer.{respondAnswer, respondOut}
+use Rattle.respond.specs.Decision.{decisionOn}
+use Rattle.c_number.specs.Number.{refusalNumber, bit}
+use Rattle.c_number.specs.Handed.{numbers, refused}
+use Rattle.c_respond.specs.Respond.{settingsOf, decisionNumbers, decidedHanded, answeredNumber, answeredOut, respondedNumber, respondedNumbers, respondedOut}
+
+pub settings-are : (bits : ℕ) (a b c d : Bool) → a ≡ has bits 0x1 → b ≡ has bits 0x2 → c ≡ has bits 0x4 → d ≡ has bits 0x8 →
+    record { «demand_128» = a; ntlmv2 = b; integrity = c; confidentiality = d } ≡ settingsOf bits
+settings-are bits a b c d p q r s = simp (p, q, r, s)
+
+module _ (flags : ℕ) (w : Timestamp) where
+  pub timed : (t : ℕ) → w ≡ Time t → (flags ∷ 1 ∷ t ∷ []) ≡ decisionNumbers flags w
+  unfolding decisionNumbers
+  timed t h = rw h
+
+  pub untimed : w ≡ Nothing → (flags ∷ 0 ∷ 0 ∷ []) ≡ decisionNumbers flags w
+  unfolding decisionNumbers
+  untimed h = rw h
+
+-- ---- the decision
+
+module _ (t u : Settings) (s : List ℕ) (w : Decided) (p : w ≡ decisionOn t s) (q : t ≡ u) where
+  pub decided : (d : Decision) (xs : List ℕ) → xs ≡ decisionNumbers (d .flags .bits) (d .timestamp) → w ≡ Taken d →
+      numbers xs ≡ decidedHanded (decisionOn u s)
+  decided d xs e h = simp (← q, ← p, h, e)
+
+  pub undecided : (e : Refusal) → w ≡ Undecided e → refused e ≡ decidedHanded (decisionOn u s)
+  undecided e h = simp (← q, ← p, h)
+
+-- ---- the answer
+
+module _ (w : Answered) where
+  pub sent-number : (a : Answer) → w ≡ Sent a → a .len ≡ answeredNumber w
+  sent-number a h = simp h
+
+  pub sent-out : (a : Answer) (b : ℕ) (ys out : List ℕ) → b ≡ bit (a .«mic_due») → ys ≡ atFront (a .time ∷ b ∷ []) out → w ≡ Sent a →
+      ys ≡ answeredOut w out
+  sent-out a b ys out p q h = q ∙ simp (p, h)
+
+  pub unsent-number : (r : ℕ) (e : Refusal) → r ≡ refusalNumber e → w ≡ Refused e → r ≡ answeredNumber w
+  unsent-number r e p h = p ∙ simp h
+
+  pub unsent-out : (e : Refusal) (out : List ℕ) → w ≡ Refused e → out ≡ answeredOut w out
+  unsent-out e out h = simp h
+
+pub has-two : (room : ℕ) (k : Checked) → k ≡ roomHolds 2 room → k ≡ Held → 2 ≤ room
+has-two room k p h = leb-true 2 room (held-true (leb 2 room) (sym p ∙ h))
+
+-- the call, by its array's room
+module _ (v : Answered) (out : List ℕ) (k : Checked) (p : k ≡ roomHolds 2 (length out)) where
+  pub short-number : (r : ℕ) → k ≡ Failed → r ≡ refusalNumber NoRoom → r ≡ respondedNumber v (length out)
+  unfolding respondedNumber
+  short-number r f e = e ∙ simp (← p, f)
+
+  pub short-numbers : k ≡ Failed → out ≡ respondedNumbers v out
+  unfolding respondedNumbers
+  short-numbers f = simp (← p, f)
+
+  module _ (w : Answered) (q : w ≡ v) (f : k ≡ Held) where
+    pub room-number : (r : ℕ) → r ≡ answeredNumber w → r ≡ respondedNumber v (length out)
+    unfolding respondedNumber
+    room-number r e = e ∙ simp (← p, f, ← q)
+
+    pub room-numbers : (ys : List ℕ) → ys ≡ answeredOut w out → ys ≡ respondedNumbers v out
+    unfolding respondedNumbers
+    room-numbers ys e = e ∙ simp (← p, f, ← q)
+
+-- and the message's output
+module _ (room : ℕ) (sent l : List ℕ) (k : Checked) (p : k ≡ roomHolds 2 room) where
+  pub short-out : k ≡ Failed → l ≡ respondedOut sent room l
+  unfolding respondedOut
+  short-out f = simp (← p, f)
+
+  pub room-out : (ys : List ℕ) → k ≡ Held → ys ≡ sent → ys ≡ respondedOut sent room l
+  unfolding respondedOut
+  room-out ys f e = e ∙ simp (← p, f)
+
+-- the settings that were made are those of the bits
+module _ (t u : Settings) (q : t ≡ u) (s : List ℕ) (v mic lm nt domain user workstation key : List ℕ) where
+  pub of-answer : (w : Answered) (room clock : ℕ) → w ≡ respondAnswer room s t clock v mic lm nt domain user workstation key →
+      w ≡ respondAnswer room s u clock v mic lm nt domain user workstation key
+  of-answer w room clock e = rw (← q) e
+
+  pub of-out : (out ys : List ℕ) → ys ≡ respondOut out s t v mic lm nt domain user workstation key →
+      ys ≡ respondOut out s u v mic lm nt domain user workstation key
+  of-out out ys e = rw (← q) e

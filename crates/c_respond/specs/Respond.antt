@@ -1,0 +1,58 @@
+-- Answering a challenge by the C interface: settings as one number, the decision and the answer as numbers.
+use Prim.Native.Nat.{ℕ}
+use mathlib.Core.List.{List, [], _∷_}
+use lib.ListN.{length}
+use Rattle.wire.specs.declared.refusal.Refusal.the-variants.{NoRoom}
+use Rattle.wire.specs.Check.{after}
+use Rattle.wire.specs.Number.{has}
+use Rattle.place.specs.Written.{roomHolds, atFront}
+use Rattle.challenge.specs.declared.Timestamp.{Timestamp}
+use Rattle.challenge.specs.declared.Timestamp.the-variants.{Time, Nothing}
+use Rattle.respond.specs.declared.answer.Answered.{Answered}
+use Rattle.respond.specs.declared.answer.Answered.the-variants.{Sent, Refused}
+use Rattle.respond.specs.declared.decision.Decided.{Decided}
+use Rattle.respond.specs.declared.decision.Decided.the-variants.{Taken, Refused as Undecided}
+use Rattle.respond.specs.declared.decision.Settings.{Settings}
+use Rattle.c_number.specs.Number.{refusalNumber, bit}
+use Rattle.c_number.specs.Handed.{Handed, numbers, refused}
+
+-- the settings' bits: 128-bit demanded, NTLMv2, integrity, confidentiality
+abbrev pub settingsOf : ℕ → Settings
+settingsOf bits =
+    record {
+      «demand_128» = has bits 0x1;
+      ntlmv2 = has bits 0x2;
+      integrity = has bits 0x4;
+      confidentiality = has bits 0x8;
+    }
+
+-- ---- the decision: flags, whether a timestamp is there, and its value
+
+unfoldable pub decisionNumbers : ℕ → Timestamp → List ℕ
+decisionNumbers flags (Time t) = flags ∷ 1 ∷ t ∷ []
+decisionNumbers flags Nothing = flags ∷ 0 ∷ 0 ∷ []
+
+abbrev pub decidedHanded : Decided → Handed
+decidedHanded (Taken d) = numbers (decisionNumbers (d .flags .bits) (d .timestamp))
+decidedHanded (Undecided e) = refused e
+
+-- ---- the answer: its length; beside it Time and whether a MIC is due
+
+abbrev pub answeredNumber : Answered → ℕ
+answeredNumber (Sent a) = a .len
+answeredNumber (Refused e) = refusalNumber e
+
+abbrev pub answeredOut : Answered → List ℕ → List ℕ
+answeredOut (Sent a) out = atFront (a .time ∷ bit (a .«mic_due») ∷ []) out
+answeredOut (Refused e) out = out
+
+-- with the array of numbers: 33 before anything else where it is too short
+unfoldable pub respondedNumber : Answered → ℕ → ℕ
+respondedNumber a room = after (roomHolds 2 room) (refusalNumber NoRoom) (answeredNumber a)
+
+unfoldable pub respondedNumbers : Answered → List ℕ → List ℕ
+respondedNumbers a out = after (roomHolds 2 (length out)) out (answeredOut a out)
+
+-- the message's output, which is `sent` where the array has its room
+unfoldable pub respondedOut : List ℕ → ℕ → List ℕ → List ℕ
+respondedOut sent room out = after (roomHolds 2 room) out sent

@@ -1,0 +1,227 @@
+// Answering a challenge by the C interface.
+ghost use mathlib.Core.Path.{_≡_};
+ghost use Prim.Native.Nat.{_≤_};
+ghost use lib.ListN.{length};
+ghost use Rattle.respond.specs.Answer.{respondAnswer, respondOut};
+ghost use Rattle.respond.specs.Decision.{defaults, decisionOn};
+ghost use Rattle.c_number.specs.Handed.{callNumber, callOut};
+ghost use Rattle.c_respond.specs.Respond.{settingsOf, decisionNumbers, decidedHanded, answeredNumber, answeredOut, respondedNumber, respondedNumbers, respondedOut};
+use c_number::bit;
+use c_number::give;
+use c_number::refusal_number;
+use challenge::Timestamp;
+use place::written::room_holds;
+use respond::answer::Answered;
+use respond::by_default;
+use respond::decision::Decided;
+use respond::decision::Settings;
+use wire::check::Checked;
+use wire::number::has;
+use wire::refusal::Refusal;
+
+// The settings of the header's bits.
+fn settings_of(bits: u32) -> Settings
+    ensures { λ r. ⌜ r ≡ settingsOf bits ⌝ }
+{
+    Settings {
+        demand_128: has(bits, 0x1),
+        ntlmv2: has(bits, 0x2),
+        integrity: has(bits, 0x4),
+        confidentiality: has(bits, 0x8),
+    }
+}
+
+fn decision_numbers(flags: u32, timestamp: Timestamp) -> [u64; 3]
+    ensures { λ r. ⌜ r ≡ decisionNumbers flags timestamp ⌝ }
+{
+    match timestamp {
+        Timestamp::Time(t) => [flags as u64, 1, t],
+        Timestamp::Nothing => [flags as u64, 0, 0],
+    }
+}
+
+// Reading, 20 and 21.
+pub fn decide(settings: u32, challenge: &[u8], numbers: &mut [u64]) -> u64
+    ensures answer { λ r. ⌜ r ≡ callNumber 3 (decidedHanded (decisionOn (settingsOf settings) (now (challenge .entry)))) (length (now (numbers .entry))) ⌝ }
+    ensures content { λ _. ⌜ now (numbers .exit) ≡ callOut 3 (decidedHanded (decisionOn (settingsOf settings) (now (challenge .entry)))) (now (numbers .entry)) ⌝ }
+{
+    let Checked::Held = room_holds(3, numbers.len()) else {
+        return refusal_number(Refusal::NoRoom);
+    };
+    match respond::decision::decide(settings_of(settings), challenge) {
+        Decided::Taken(d) => {
+            let timestamp = d.timestamp;
+            give(numbers, &decision_numbers(d.flags.bits, timestamp))
+        }
+        Decided::Refused(e) => refusal_number(e),
+    }
+}
+
+// The answer's length, with the rest of it in an array that has room for it.
+fn give_answer(numbers: &mut [u64], answered: Answered) -> u64
+    requires { ⌜ 2 ≤ length (now numbers) ⌝ }
+    ensures answer { λ r. ⌜ r ≡ answeredNumber answered ⌝ }
+    ensures content { λ _. ⌜ now (numbers .exit) ≡ answeredOut answered (now (numbers .entry)) ⌝ }
+{
+    match answered {
+        Answered::Sent(a) => {
+            give(numbers, &[a.time, bit(a.mic_due)]);
+            a.len as u64
+        }
+        Answered::Refused(e) => refusal_number(e),
+    }
+}
+
+// Answers a challenge by the settings.
+pub fn respond<'a>(
+    out: &mut [u8],
+    challenge: &'a [u8],
+    settings: u32,
+    clock: u64,
+    version: &[u8; 8],
+    mic: &[u8; 16],
+    lm: &[u8],
+    nt: &[u8],
+    domain: &'a [u8],
+    user: &[u8],
+    workstation: &[u8],
+    key: &[u8],
+    numbers: &mut [u64],
+) -> u64
+    ensures answer { λ r. ⌜ r ≡ respondedNumber (respondAnswer (length (now (out .entry))) (now (challenge .entry)) (settingsOf settings) clock (now (version .entry)) (now (mic .entry)) (now (lm .entry)) (now (nt .entry)) (now (domain .entry)) (now (user .entry)) (now (workstation .entry)) (now (key .entry))) (length (now (numbers .entry))) ⌝ }
+    ensures content { λ _. ⌜ now (out .exit) ≡ respondedOut (respondOut (now (out .entry)) (now (challenge .entry)) (settingsOf settings) (now (version .entry)) (now (mic .entry)) (now (lm .entry)) (now (nt .entry)) (now (domain .entry)) (now (user .entry)) (now (workstation .entry)) (now (key .entry))) (length (now (numbers .entry))) (now (out .entry)) ⌝ }
+    ensures beside { λ _. ⌜ now (numbers .exit) ≡ respondedNumbers (respondAnswer (length (now (out .entry))) (now (challenge .entry)) (settingsOf settings) clock (now (version .entry)) (now (mic .entry)) (now (lm .entry)) (now (nt .entry)) (now (domain .entry)) (now (user .entry)) (now (workstation .entry)) (now (key .entry))) (now (numbers .entry)) ⌝ }
+{
+    let Checked::Held = room_holds(2, numbers.len()) else {
+        return refusal_number(Refusal::NoRoom);
+    };
+    let answered = respond::answer::respond(
+        out,
+        challenge,
+        settings_of(settings),
+        clock,
+        version,
+        mic,
+        lm,
+        nt,
+        domain,
+        user,
+        workstation,
+        key,
+    );
+    give_answer(numbers, answered)
+}
+
+// With the defaults, for the bench.
+pub fn respond_for_bench<'a>(
+    out: &mut [u8],
+    challenge: &'a [u8],
+    clock: u64,
+    version: &[u8; 8],
+    mic: &[u8; 16],
+    lm: &[u8],
+    nt: &[u8],
+    domain: &'a [u8],
+    user: &[u8],
+    workstation: &[u8],
+    key: &[u8],
+    numbers: &mut [u64],
+) -> u64
+    ensures answer { λ r. ⌜ r ≡ respondedNumber (respondAnswer (length (now (out .entry))) (now (challenge .entry)) defaults clock (now (version .entry)) (now (mic .entry)) (now (lm .entry)) (now (nt .entry)) (now (domain .entry)) (now (user .entry)) (now (workstation .entry)) (now (key .entry))) (length (now (numbers .entry))) ⌝ }
+    ensures content { λ _. ⌜ now (out .exit) ≡ respondedOut (respondOut (now (out .entry)) (now (challenge .entry)) defaults (now (version .entry)) (now (mic .entry)) (now (lm .entry)) (now (nt .entry)) (now (domain .entry)) (now (user .entry)) (now (workstation .entry)) (now (key .entry))) (length (now (numbers .entry))) (now (out .entry)) ⌝ }
+    ensures beside { λ _. ⌜ now (numbers .exit) ≡ respondedNumbers (respondAnswer (length (now (out .entry))) (now (challenge .entry)) defaults clock (now (version .entry)) (now (mic .entry)) (now (lm .entry)) (now (nt .entry)) (now (domain .entry)) (now (user .entry)) (now (workstation .entry)) (now (key .entry))) (now (numbers .entry)) ⌝ }
+{
+    let Checked::Held = room_holds(2, numbers.len()) else {
+        return refusal_number(Refusal::NoRoom);
+    };
+    let answered = by_default::respond_for_bench(
+        out,
+        challenge,
+        clock,
+        version,
+        mic,
+        lm,
+        nt,
+        domain,
+        user,
+        workstation,
+        key,
+    );
+    give_answer(numbers, answered)
+}
+
+// With the defaults, for old servers.
+pub fn respond_to_old_server<'a>(
+    out: &mut [u8],
+    challenge: &'a [u8],
+    clock: u64,
+    version: &[u8; 8],
+    mic: &[u8; 16],
+    lm: &[u8],
+    nt: &[u8],
+    domain: &'a [u8],
+    user: &[u8],
+    workstation: &[u8],
+    key: &[u8],
+    numbers: &mut [u64],
+) -> u64
+    ensures answer { λ r. ⌜ r ≡ respondedNumber (respondAnswer (length (now (out .entry))) (now (challenge .entry)) defaults clock (now (version .entry)) (now (mic .entry)) (now (lm .entry)) (now (nt .entry)) (now (domain .entry)) (now (user .entry)) (now (workstation .entry)) (now (key .entry))) (length (now (numbers .entry))) ⌝ }
+    ensures content { λ _. ⌜ now (out .exit) ≡ respondedOut (respondOut (now (out .entry)) (now (challenge .entry)) defaults (now (version .entry)) (now (mic .entry)) (now (lm .entry)) (now (nt .entry)) (now (domain .entry)) (now (user .entry)) (now (workstation .entry)) (now (key .entry))) (length (now (numbers .entry))) (now (out .entry)) ⌝ }
+    ensures beside { λ _. ⌜ now (numbers .exit) ≡ respondedNumbers (respondAnswer (length (now (out .entry))) (now (challenge .entry)) defaults clock (now (version .entry)) (now (mic .entry)) (now (lm .entry)) (now (nt .entry)) (now (domain .entry)) (now (user .entry)) (now (workstation .entry)) (now (key .entry))) (now (numbers .entry)) ⌝ }
+{
+    let Checked::Held = room_holds(2, numbers.len()) else {
+        return refusal_number(Refusal::NoRoom);
+    };
+    let answered = by_default::respond_to_old_server(
+        out,
+        challenge,
+        clock,
+        version,
+        mic,
+        lm,
+        nt,
+        domain,
+        user,
+        workstation,
+        key,
+    );
+    give_answer(numbers, answered)
+}
+
+// With the defaults, for the relay.
+pub fn respond_for_relay<'a>(
+    out: &mut [u8],
+    challenge: &'a [u8],
+    clock: u64,
+    version: &[u8; 8],
+    mic: &[u8; 16],
+    lm: &[u8],
+    nt: &[u8],
+    domain: &'a [u8],
+    user: &[u8],
+    workstation: &[u8],
+    key: &[u8],
+    numbers: &mut [u64],
+) -> u64
+    ensures answer { λ r. ⌜ r ≡ respondedNumber (respondAnswer (length (now (out .entry))) (now (challenge .entry)) defaults clock (now (version .entry)) (now (mic .entry)) (now (lm .entry)) (now (nt .entry)) (now (domain .entry)) (now (user .entry)) (now (workstation .entry)) (now (key .entry))) (length (now (numbers .entry))) ⌝ }
+    ensures content { λ _. ⌜ now (out .exit) ≡ respondedOut (respondOut (now (out .entry)) (now (challenge .entry)) defaults (now (version .entry)) (now (mic .entry)) (now (lm .entry)) (now (nt .entry)) (now (domain .entry)) (now (user .entry)) (now (workstation .entry)) (now (key .entry))) (length (now (numbers .entry))) (now (out .entry)) ⌝ }
+    ensures beside { λ _. ⌜ now (numbers .exit) ≡ respondedNumbers (respondAnswer (length (now (out .entry))) (now (challenge .entry)) defaults clock (now (version .entry)) (now (mic .entry)) (now (lm .entry)) (now (nt .entry)) (now (domain .entry)) (now (user .entry)) (now (workstation .entry)) (now (key .entry))) (now (numbers .entry)) ⌝ }
+{
+    let Checked::Held = room_holds(2, numbers.len()) else {
+        return refusal_number(Refusal::NoRoom);
+    };
+    let answered = by_default::respond_for_relay(
+        out,
+        challenge,
+        clock,
+        version,
+        mic,
+        lm,
+        nt,
+        domain,
+        user,
+        workstation,
+        key,
+    );
+    give_answer(numbers, answered)
+}
