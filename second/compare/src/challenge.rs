@@ -17,7 +17,7 @@ const BOTH_FIELDS: u32 = REQUEST_TARGET | TARGET_INFO;
 const END: u16 = 0;
 const TIMESTAMP: u16 = 7;
 /// The named ids, the one after them, and some that have named ones for a byte.
-const IDS: [u16; 16] = [
+pub const IDS: [u16; 16] = [
     1, 2, 3, 4, 5, 6, 7, 8, 9, 10, 11, 0x0100, 0x0700, 0x0701, 0x7FFF, 0xFFFF,
 ];
 /// Ids with a size of their own, and sizes that they forbid.
@@ -458,6 +458,38 @@ fn long_lines(random: &mut Random, messages: &mut Vec<Vec<u8>>) {
     }
 }
 
+/// A list of any pairs, sound or faulty.
+pub fn drawn_list(random: &mut Random) -> Vec<u8> {
+    let ids: Vec<u16> = (0..random.below(7)).map(|_| random.pick(&IDS)).collect();
+    let mut list = sound_list(random, &ids);
+    if random.one_in(3) {
+        list.truncate(list.len() - 4);
+        let fault = random.pick(&faults());
+        put_fault(random, &mut list, fault);
+    }
+    list
+}
+
+/// Lists of any length: check 1 is for messages.
+pub fn long_list(random: &mut Random) -> Vec<u8> {
+    let mut list = Vec::new();
+    if random.one_in(2) {
+        for _ in 0..random.pick(&[2, 3]) {
+            let len = random.pick(&[0xFFFE, 0xFFFF, 0x8000]);
+            put_pair(&mut list, random.pick(&[8, 11, 1]), len, &vec![5; len]);
+        }
+    } else {
+        for _ in 0..random.pick(&[5_000, 16_383, 20_000]) {
+            put_pair(&mut list, random.pick(&[1, 2, 8, 9]), 0, &[]);
+        }
+    }
+    put_sound_pair(random, &mut list, TIMESTAMP);
+    if !random.one_in(4) {
+        put_pair(&mut list, END, 0, &[]);
+    }
+    list
+}
+
 /// A message of any layout, sound or damaged.
 pub fn drawn(random: &mut Random) -> Vec<u8> {
     let mut flags = u32::from_le_bytes(random.array());
@@ -467,13 +499,7 @@ pub fn drawn(random: &mut Random) -> Vec<u8> {
     if !random.one_in(4) {
         flags |= BOTH_FIELDS;
     }
-    let ids: Vec<u16> = (0..random.below(7)).map(|_| random.pick(&IDS)).collect();
-    let mut list = sound_list(random, &ids);
-    if random.one_in(3) {
-        list.truncate(list.len() - 4);
-        let fault = random.pick(&faults());
-        put_fault(random, &mut list, fault);
-    }
+    let list = drawn_list(random);
     let units = random.pick(&[0, 1, 4, 7, 20]);
     let target = name(random, set_of(flags), units);
     let start = random.pick(&[FIXED, 50, PAYLOAD, PAYLOAD, 60, 64]);

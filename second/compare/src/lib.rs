@@ -8,10 +8,12 @@
 
 mod authenticate;
 mod challenge;
+pub mod command;
 mod names;
 mod nl_auth;
 mod random;
 pub mod tally;
+pub mod wide;
 mod wire;
 
 use std::fmt;

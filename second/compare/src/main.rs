@@ -3,17 +3,15 @@
 #![forbid(unsafe_code)]
 
 use std::env;
-use std::fmt;
-use std::io::{self, BufWriter, Write};
 use std::path::Path;
 use std::process::ExitCode;
 use std::thread;
 
+use compare::command::{fail, finish, seed_and_count, NOT_NUMBERS};
 use compare::{cases, compare};
 use programs::Program;
 
 const USAGE: &str = "usage: compare NTLM_LINE NL_AUTH_LINE SEED N";
-const NOT_NUMBERS: &str = "SEED and N are whole numbers, as in make compare SEED=7 N=1000";
 
 /// More threads than processors would only wait for each other.
 const MAX_THREADS: usize = 4;
@@ -23,9 +21,7 @@ fn main() -> ExitCode {
     let [ntlm, nl_auth, seed, drawn] = args.as_slice() else {
         return fail(2, &USAGE);
     };
-    let seed: Option<u64> = seed.to_str().and_then(|word| word.parse().ok());
-    let drawn: Option<usize> = drawn.to_str().and_then(|word| word.parse().ok());
-    let (Some(seed), Some(drawn)) = (seed, drawn) else {
+    let Some((seed, drawn)) = seed_and_count(seed, drawn) else {
         return fail(2, &NOT_NUMBERS);
     };
     let no_words: [&str; 0] = [];
@@ -41,23 +37,8 @@ fn main() -> ExitCode {
         };
         program.run(&case.message)
     });
-    let report = match report {
-        Ok(report) => report,
-        Err(cannot_run) => return fail(1, &cannot_run),
-    };
-    let mut out = BufWriter::new(io::stdout().lock());
-    let printed = report.print(seed, &cases, &mut out);
-    match printed.and_then(|failed| out.flush().map(|()| failed)) {
-        Ok(0) => ExitCode::SUCCESS,
-        Ok(_) => ExitCode::FAILURE,
-        Err(error) => fail(1, &error),
+    match report {
+        Ok(report) => finish(|mut out| report.print(seed, &cases, &mut out)),
+        Err(cannot_run) => fail(1, &cannot_run),
     }
-}
-
-/// One plain line on standard error, and the count that is always last.
-fn fail(status: u8, message: &dyn fmt::Display) -> ExitCode {
-    // Where these can't be printed, the status still tells.
-    let _ = writeln!(io::stderr(), "{message}");
-    let _ = writeln!(io::stdout(), "0 passed, 1 failed");
-    ExitCode::from(status)
 }

@@ -30,7 +30,7 @@ const TAKEN: [Kind; 5] = [
 
 /// Each refusal that a reading or a line can give, with every field that it
 /// can have.
-const REFUSALS: [(u8, &[u8]); 18] = [
+pub const REFUSALS: [(u8, &[u8]); 18] = [
     (1, &[0]),
     (2, &[0]),
     (3, &[0]),

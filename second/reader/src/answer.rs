@@ -104,8 +104,7 @@ pub fn answer(
     secrets: &Secrets<'_>,
     out: &mut [u8],
 ) -> Result<Answer, Refusal> {
-    let challenge = Challenge::read(challenge)?;
-    settings.policy.check(&challenge)?;
+    let challenge = settings.policy.decide(challenge)?;
 
     // "With NTLMv2 and a timestamp pair, Time is that value and the LM
     // response written is 24 zero bytes; otherwise Time is the box's clock and
@@ -140,6 +139,14 @@ pub fn answer(
 }
 
 impl Policy {
+    /// The decision on a challenge: "reading, 20, 21"; otherwise the challenge
+    /// that may be answered.
+    pub fn decide<'a>(&self, challenge: &'a [u8]) -> Result<Challenge<'a>, Refusal> {
+        let challenge = Challenge::read(challenge)?;
+        self.check(&challenge)?;
+        Ok(challenge)
+    }
+
     /// Checks 20 and 21.
     fn check(&self, challenge: &Challenge<'_>) -> Result<(), Refusal> {
         if self.require_128 && !challenge.flags.bits_128() {

@@ -41,6 +41,6 @@ pub use nl_auth::{NlAuth, NlAuthType};
 pub use program::{Program, LINE_LIMIT};
 pub use refusal::{Reason, Refusal};
 pub use target_info::{AvId, AvPair, Summary, TargetInfo, Walk};
-pub use wire::{Field, MAX_MESSAGE};
+pub use wire::{field_bytes, Field, MAX_MESSAGE};
 pub use write_authenticate::{write_authenticate, AuthenticateParts};
 pub use write_nl_auth::{write_nl_auth_request, write_nl_auth_response};

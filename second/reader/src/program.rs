@@ -1,6 +1,7 @@
 //! The line that a program prints for its input.
 
 use crate::line::{nl_auth_line, ntlm_line, write_line};
+use crate::refusal::Refusal;
 
 /// "A program whose line doesn't fit 65,536 bytes prints `refused 33 field=0`."
 /// The line's 0A is one of these bytes.
@@ -18,13 +19,18 @@ pub enum Program {
 impl Program {
     /// The line printed for `message`, in the room lent for it.
     pub fn line<'a>(self, message: &[u8], room: &'a mut [u8; LINE_LIMIT]) -> &'a [u8] {
-        let written = match self {
-            Self::Ntlm => ntlm_line(message, room),
-            Self::NlAuth => nl_auth_line(message, room),
-        };
-        let len = written
-            .or_else(|no_room| write_line(&no_room, room))
-            .unwrap_or_default();
+        let len = self.write_line(message, room).unwrap_or_default();
         room.get(..len).unwrap_or_default()
+    }
+
+    /// Writes the line printed for `message` to the start of `out`, which may
+    /// have any length, and gives its length: the message's line, or that of 33
+    /// where it has no room. Refuses by 33 where that has none either.
+    pub fn write_line(self, message: &[u8], out: &mut [u8]) -> Result<usize, Refusal> {
+        let written = match self {
+            Self::Ntlm => ntlm_line(message, out),
+            Self::NlAuth => nl_auth_line(message, out),
+        };
+        written.or_else(|no_room| write_line(&no_room, out))
     }
 }

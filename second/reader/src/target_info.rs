@@ -93,10 +93,13 @@ pub struct Summary<'a> {
 impl<'a> TargetInfo<'a> {
     /// The walk from the first pair on.
     pub const fn walk(self) -> Walk<'a> {
-        Walk {
-            list: self.0,
-            at: 0,
-        }
+        self.walk_from(0)
+    }
+
+    /// The walk from the pair that should start at `at`. Past the list there
+    /// are "under 4 bytes left".
+    pub const fn walk_from(self, at: usize) -> Walk<'a> {
+        Walk { list: self.0, at }
     }
 
     /// Checks 10 to 13 over the whole list; otherwise the number of pairs.
@@ -167,6 +170,11 @@ pub struct Walk<'a> {
 }
 
 impl<'a> Walk<'a> {
+    /// Where the next pair should start.
+    pub const fn at(&self) -> usize {
+        self.at
+    }
+
     /// The next pair, `None` at the end, or the refusal of the first fault.
     /// "At one pair the order is 11, 12, 10, 13."
     pub fn ask(&mut self) -> Result<Option<AvPair<'a>>, Refusal> {

@@ -61,6 +61,15 @@ pub struct Field<'a> {
     pub bytes: &'a [u8],
 }
 
+/// "Each field's place and bytes": the `len` bytes of `message` from `offset`
+/// on, and none where the message doesn't reach so far.
+pub fn field_bytes(message: &[u8], offset: u32, len: u16) -> &[u8] {
+    Head { len, offset }
+        .slice_of(message)
+        .unwrap_or_default()
+        .bytes
+}
+
 impl Field<'_> {
     /// Whether the field has no bytes.
     pub const fn is_empty(&self) -> bool {

@@ -311,3 +311,20 @@ fn the_three_calls_use_the_defaults() {
         }
     }
 }
+
+#[test]
+fn a_decision_is_the_reading_then_20_then_21() {
+    let policy = |require_128, integrity| Policy {
+        require_128,
+        integrity,
+        ..Policy::default()
+    };
+    let info = list(&[(7, &TIME.to_le_bytes())]);
+    let message = challenge(UNICODE | TARGET_INFO, b"", &info);
+    let decided = policy(false, false).decide(&message).expect("no refusal");
+    assert_eq!(decided.flags.0, UNICODE | TARGET_INFO);
+    assert_eq!(decided.pairs.timestamp, Some(TIME));
+    assert_eq!(refused(policy(true, true).decide(&message)), (20, 0));
+    assert_eq!(refused(policy(false, true).decide(&message)), (21, 0));
+    assert_eq!(refused(policy(true, true).decide(&message[..47])), (2, 0));
+}

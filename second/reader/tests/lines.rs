@@ -256,3 +256,34 @@ fn programs_refuse_over_65535_bytes() {
         }
     }
 }
+
+#[test]
+fn a_program_line_in_any_room_is_the_line_or_that_of_33() {
+    let message = p1();
+    let whole = line(ntlm_line, &message);
+    let no_room = "refused 33 field=0\n";
+    let lines = [
+        (whole.len(), &whole[..]),
+        (whole.len() - 1, no_room),
+        (19, no_room),
+    ];
+    for (room, expected) in lines {
+        let mut out = vec![0xEE; room];
+        let len = Program::Ntlm.write_line(&message, &mut out).expect("room");
+        assert_eq!(&out[..len], expected.as_bytes());
+        assert!(out[len..].iter().all(|&byte| byte == 0xEE));
+    }
+    for room in [0, 1, 18] {
+        let mut out = vec![0xEE; room];
+        for program in [Program::Ntlm, Program::NlAuth] {
+            let answer = program.write_line(&message, &mut out);
+            // NL_AUTH has a line for it that is shorter than that of 33.
+            if program == Program::NlAuth && room == 18 {
+                assert_eq!(answer, Ok(18));
+            } else {
+                assert_eq!(refused(answer), (33, 0));
+                assert!(out.iter().all(|&byte| byte == 0xEE));
+            }
+        }
+    }
+}

@@ -3,7 +3,9 @@
 mod common;
 
 use common::*;
-use reader::{Authenticate, AvId, Challenge, NlAuth, NlAuthType, TargetInfo, MAX_MESSAGE};
+use reader::{
+    field_bytes, Authenticate, AvId, Challenge, NlAuth, NlAuthType, TargetInfo, MAX_MESSAGE,
+};
 
 const MOST: u32 = 0xFFFF_FFFF;
 
@@ -476,4 +478,33 @@ fn the_timestamp_is_little_endian() {
     let expected = Some(0x0807_0605_0403_0201);
     assert_eq!(TargetInfo(&bytes).timestamp(), Ok(expected));
     assert_eq!(TargetInfo(&list(&[])).timestamp(), Ok(None));
+}
+
+#[test]
+fn a_field_has_its_own_bytes_or_none() {
+    let message = b"0123456789";
+    assert_eq!(field_bytes(message, 2, 3), b"234");
+    assert_eq!(field_bytes(message, 0, 10), message);
+    assert_eq!(field_bytes(message, 9, 1), b"9");
+    for (offset, len) in [(0, 11), (9, 2), (10, 0), (11, 0), (MOST, 2), (MOST, 0xFFFF)] {
+        assert_eq!(field_bytes(message, offset, len), b"");
+    }
+}
+
+#[test]
+fn a_walk_can_start_at_any_place() {
+    let bytes = list(&[(1, b"ab"), (8, b"x")]);
+    let info = TargetInfo(&bytes);
+    let mut walk = info.walk_from(6);
+    let pair = walk.ask().expect("no fault").expect("a pair");
+    assert_eq!((pair.id, pair.place, pair.value), (AvId(8), 10, &b"x"[..]));
+    // At the end it stays where it is.
+    for _ in 0..2 {
+        assert_eq!(walk.at(), 11);
+        assert_eq!(walk.ask(), Ok(None));
+    }
+    for at in [12, 15, 16, usize::MAX] {
+        assert_eq!(refused(info.walk_from(at).ask()), (11, 2));
+        assert_eq!(TargetInfo(&[]).walk_from(at).ask(), Ok(None));
+    }
 }

@@ -1,0 +1,135 @@
+//! Answering a CHALLENGE.
+
+use crate::{raw, written, Parts, Refusal};
+
+/// What the box demands of a challenge.
+#[derive(Clone, Copy, Debug, PartialEq, Eq, Hash)]
+pub struct Settings {
+    /// 128-bit demanded
+    pub demand_128: bool,
+    /// NTLMv2 is used
+    pub ntlmv2: bool,
+    /// Integrity wanted
+    pub integrity: bool,
+    /// Confidentiality wanted
+    pub confidentiality: bool,
+}
+
+impl Default for Settings {
+    fn default() -> Self {
+        Self {
+            demand_128: false,
+            ntlmv2: true,
+            integrity: false,
+            confidentiality: false,
+        }
+    }
+}
+
+impl Settings {
+    fn bits(self) -> u32 {
+        let settings = [
+            (self.demand_128, raw::DEMAND_128),
+            (self.ntlmv2, raw::NTLMV2),
+            (self.integrity, raw::INTEGRITY),
+            (self.confidentiality, raw::CONFIDENTIALITY),
+        ];
+        let set = settings.iter().filter(|(wanted, _)| *wanted);
+        set.fold(0, |bits, (_, bit)| bits | bit)
+    }
+}
+
+/// The decision to answer a challenge.
+#[derive(Clone, Copy, Debug, PartialEq, Eq, Hash)]
+pub struct Decision {
+    /// The challenge's flags.
+    pub flags: u32,
+    /// The challenge's timestamp, where it has one.
+    pub timestamp: Option<u64>,
+}
+
+/// Decides on a challenge: reading, 20, 21.
+pub fn decide(settings: Settings, challenge: &[u8]) -> Result<Decision, Refusal> {
+    let mut numbers = [0; raw::DECISION_NUMBERS];
+    Refusal::check(raw::decide(settings.bits(), challenge, &mut numbers))?;
+    let [flags, there, timestamp] = numbers;
+    Ok(Decision {
+        flags: flags as u32,
+        timestamp: (there != 0).then_some(timestamp),
+    })
+}
+
+/// Copies the domain to send: `own`, or where that is empty and UNICODE is set,
+/// the challenge's first pair 2.
+pub fn domain_to_send<'a>(
+    own: &[u8],
+    challenge: &[u8],
+    out: &'a mut [u8],
+) -> Result<&'a [u8], Refusal> {
+    written(raw::domain_to_send(own, challenge, out), out)
+}
+
+/// The answer to a challenge.
+#[derive(Clone, Copy, Debug, PartialEq, Eq)]
+pub struct Answer<'a> {
+    /// The AUTHENTICATE message.
+    pub message: &'a [u8],
+    /// The server's timestamp, or the clock.
+    pub time: u64,
+    /// Whether a MIC is due.
+    pub mic_due: bool,
+}
+
+impl<'a> Answer<'a> {
+    fn of(
+        answer: u64,
+        numbers: [u64; raw::RESPONSE_NUMBERS],
+        out: &'a [u8],
+    ) -> Result<Self, Refusal> {
+        let [time, mic_due] = numbers;
+        Ok(Self {
+            message: written(answer, out)?,
+            time,
+            mic_due: mic_due != 0,
+        })
+    }
+}
+
+/// Writes the AUTHENTICATE message that answers a challenge.
+pub fn respond<'a>(
+    out: &'a mut [u8],
+    challenge: &[u8],
+    settings: Settings,
+    clock: u64,
+    parts: &Parts<'_>,
+) -> Result<Answer<'a>, Refusal> {
+    let mut numbers = [0; raw::RESPONSE_NUMBERS];
+    let bits = settings.bits();
+    let answer = raw::respond(out, challenge, bits, clock, parts, &mut numbers);
+    Answer::of(answer, numbers, out)
+}
+
+macro_rules! thin_calls {
+    ($($(#[$doc:meta])* $name:ident;)*) => {$(
+        $(#[$doc])*
+        pub fn $name<'a>(
+            out: &'a mut [u8],
+            challenge: &[u8],
+            clock: u64,
+            parts: &Parts<'_>,
+        ) -> Result<Answer<'a>, Refusal> {
+            let mut numbers = [0; raw::RESPONSE_NUMBERS];
+            let answer = raw::$name(out, challenge, clock, parts, &mut numbers);
+            Answer::of(answer, numbers, out)
+        }
+    )*};
+}
+
+thin_calls! {
+    /// Answers with the default settings, for the bench.
+    respond_for_bench;
+    /// Answers with the default settings, for old servers.
+    respond_to_old_server;
+    /// Answers with the default settings, for the relay.
+    respond_for_relay;
+}

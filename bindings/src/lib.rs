@@ -1,0 +1,53 @@
+//! NTLM and NL_AUTH messages, read and written by the proved library behind
+//! `include/dialtable.h`: slices in, records out, refusals as errors.
+//!
+//! No call panics, allocates or keeps anything. What is written stands at the
+//! start of the caller's output and is handed back as that part of it; a
+//! refused call leaves the output as it was.
+//!
+//! ```
+//! let message = std::fs::read("../crates/ntlm_line/stdin")?;
+//! let mut room = [0; 256];
+//! let line = dialtable::authenticate_line(&message, &mut room)?;
+//! assert!(line.starts_with(b"auth flags=00000201 set=U domain= user=box7 "));
+//! # Ok::<_, Box<dyn std::error::Error>>(())
+//! ```
+
+#![warn(missing_docs)]
+#![warn(
+    clippy::indexing_slicing,
+    clippy::unwrap_used,
+    clippy::expect_used,
+    clippy::panic
+)]
+
+mod answering;
+mod lines;
+mod pairs;
+pub mod raw;
+mod reading;
+mod refusal;
+mod writing;
+
+pub use answering::{
+    decide, domain_to_send, respond, respond_for_bench, respond_for_relay, respond_to_old_server,
+    Answer, Decision, Settings,
+};
+pub use lines::{
+    authenticate_line, challenge_line, nl_auth_line, nl_auth_program_line, ntlm_line,
+    ntlm_program_line,
+};
+pub use pairs::{check_pairs, count_pairs, find_pair, Pair, Walk};
+pub use raw::Parts;
+pub use reading::{
+    read_authenticate, read_challenge, read_nl_auth, read_server_names, read_timestamp,
+    Authenticate, Challenge, Field, NlAuth, ServerNames,
+};
+pub use refusal::{Reason, Refusal};
+pub use writing::{write_authenticate, write_nl_auth_request, write_nl_auth_response};
+
+/// The part of `out` that a call has written, by its answer.
+fn written(answer: u64, out: &[u8]) -> Result<&[u8], Refusal> {
+    let len = Refusal::check(answer)? as usize;
+    Ok(out.get(..len).unwrap_or_default())
+}

@@ -1,0 +1,444 @@
+//! The calls of `include/dialtable.h` as they are: slices and numbers in, one
+//! number out. A refusal is a number too, and an array that is too short is
+//! refused 33. Everything `unsafe` stands here.
+//!
+//! Each call is sound for the same reason: a slice is memory of its length
+//! that is lent until the call ends, a `&mut` one overlaps no other, and the
+//! library touches only what it is lent.
+
+/// How many numbers [`read_authenticate`] gives.
+pub const AUTHENTICATE_NUMBERS: usize = 14;
+/// How many numbers [`read_challenge`] gives.
+pub const CHALLENGE_NUMBERS: usize = 5;
+/// How many numbers [`read_timestamp`] gives.
+pub const TIMESTAMP_NUMBERS: usize = 2;
+/// How many numbers [`read_server_names`] gives.
+pub const SERVER_NAMES_NUMBERS: usize = 2;
+/// How many numbers [`read_nl_auth`] gives.
+pub const NL_AUTH_NUMBERS: usize = 12;
+/// How many numbers [`count_pairs`] gives.
+pub const COUNT_NUMBERS: usize = 1;
+/// How many numbers [`find_pair`] gives.
+pub const FOUND_NUMBERS: usize = 3;
+/// How many numbers [`next_pair`] gives.
+pub const NEXT_NUMBERS: usize = 5;
+/// How many numbers [`decide`] gives.
+pub const DECISION_NUMBERS: usize = 3;
+/// How many numbers [`respond`] and its three thin calls give.
+pub const RESPONSE_NUMBERS: usize = 2;
+
+/// The setting "128-bit demanded".
+pub const DEMAND_128: u32 = 1;
+/// The setting "NTLMv2".
+pub const NTLMV2: u32 = 2;
+/// The setting "integrity wanted".
+pub const INTEGRITY: u32 = 4;
+/// The setting "confidentiality wanted".
+pub const CONFIDENTIALITY: u32 = 8;
+
+/// What an AUTHENTICATE message is written from, beside its flags.
+#[derive(Clone, Copy, Debug, Default)]
+pub struct Parts<'a> {
+    /// Version, written where the flags have VERSION.
+    pub version: [u8; 8],
+    /// MIC
+    pub mic: [u8; 16],
+    /// LmChallengeResponse
+    pub lm: &'a [u8],
+    /// NtChallengeResponse
+    pub nt: &'a [u8],
+    /// DomainName
+    pub domain: &'a [u8],
+    /// UserName
+    pub user: &'a [u8],
+    /// Workstation
+    pub workstation: &'a [u8],
+    /// EncryptedRandomSessionKey
+    pub key: &'a [u8],
+}
+
+/// The declarations of the header, in its order and layout.
+#[rustfmt::skip]
+mod c {
+    extern "C" {
+        pub fn dialtable_read_authenticate(msg: *const u8, msg_len: usize, numbers: *mut u64, numbers_len: usize,
+                                           mic: *mut u8, mic_len: usize) -> u64;
+        pub fn dialtable_read_challenge(msg: *const u8, msg_len: usize, numbers: *mut u64, numbers_len: usize,
+                                        server_challenge: *mut u8, server_challenge_len: usize) -> u64;
+        pub fn dialtable_read_timestamp(msg: *const u8, msg_len: usize, numbers: *mut u64, numbers_len: usize) -> u64;
+        pub fn dialtable_read_server_names(msg: *const u8, msg_len: usize, numbers: *mut u64,
+                                           numbers_len: usize) -> u64;
+        pub fn dialtable_read_nl_auth(msg: *const u8, msg_len: usize, numbers: *mut u64, numbers_len: usize) -> u64;
+        pub fn dialtable_field_bytes(msg: *const u8, msg_len: usize, offset: u32, len: u16, out: *mut u8,
+                                     out_len: usize) -> u64;
+
+        pub fn dialtable_check_pairs(list: *const u8, list_len: usize) -> u64;
+        pub fn dialtable_count_pairs(list: *const u8, list_len: usize, numbers: *mut u64, numbers_len: usize) -> u64;
+        pub fn dialtable_find_pair(list: *const u8, list_len: usize, id: u16, numbers: *mut u64,
+                                   numbers_len: usize) -> u64;
+        pub fn dialtable_next_pair(list: *const u8, list_len: usize, at: usize, numbers: *mut u64,
+                                   numbers_len: usize) -> u64;
+
+        pub fn dialtable_authenticate_line(msg: *const u8, msg_len: usize, out: *mut u8, out_len: usize) -> u64;
+        pub fn dialtable_challenge_line(msg: *const u8, msg_len: usize, out: *mut u8, out_len: usize) -> u64;
+        pub fn dialtable_nl_auth_line(msg: *const u8, msg_len: usize, out: *mut u8, out_len: usize) -> u64;
+        pub fn dialtable_ntlm_line(msg: *const u8, msg_len: usize, out: *mut u8, out_len: usize) -> u64;
+        pub fn dialtable_ntlm_program_line(msg: *const u8, msg_len: usize, out: *mut u8, out_len: usize) -> u64;
+        pub fn dialtable_nl_auth_program_line(msg: *const u8, msg_len: usize, out: *mut u8, out_len: usize) -> u64;
+
+        pub fn dialtable_write_authenticate(out: *mut u8, out_len: usize, flags: u32, version: *const u8,
+                                            mic: *const u8, lm: *const u8, lm_len: usize, nt: *const u8,
+                                            nt_len: usize, domain: *const u8, domain_len: usize, user: *const u8,
+                                            user_len: usize, workstation: *const u8, workstation_len: usize,
+                                            key: *const u8, key_len: usize) -> u64;
+        pub fn dialtable_write_nl_auth_request(out: *mut u8, out_len: usize, flags: u32, a: *const u8, a_len: usize,
+                                               b: *const u8, b_len: usize, c: *const u8, c_len: usize,
+                                               d: *const u8, d_len: usize, e: *const u8, e_len: usize) -> u64;
+        pub fn dialtable_write_nl_auth_response(out: *mut u8, out_len: usize) -> u64;
+
+        pub fn dialtable_decide(settings: u32, challenge: *const u8, challenge_len: usize, numbers: *mut u64,
+                                numbers_len: usize) -> u64;
+        pub fn dialtable_domain_to_send(own: *const u8, own_len: usize, challenge: *const u8, challenge_len: usize,
+                                        out: *mut u8, out_len: usize) -> u64;
+        pub fn dialtable_respond(out: *mut u8, out_len: usize, challenge: *const u8, challenge_len: usize,
+                                 settings: u32, clock: u64, version: *const u8, mic: *const u8, lm: *const u8,
+                                 lm_len: usize, nt: *const u8, nt_len: usize, domain: *const u8, domain_len: usize,
+                                 user: *const u8, user_len: usize, workstation: *const u8, workstation_len: usize,
+                                 key: *const u8, key_len: usize, numbers: *mut u64, numbers_len: usize) -> u64;
+    }
+
+    /// What the three thin calls have in common.
+    pub type ThinRespond = unsafe extern "C" fn(
+        out: *mut u8, out_len: usize, challenge: *const u8, challenge_len: usize, clock: u64, version: *const u8,
+        mic: *const u8, lm: *const u8, lm_len: usize, nt: *const u8, nt_len: usize, domain: *const u8,
+        domain_len: usize, user: *const u8, user_len: usize, workstation: *const u8, workstation_len: usize,
+        key: *const u8, key_len: usize, numbers: *mut u64, numbers_len: usize) -> u64;
+
+    extern "C" {
+        pub fn dialtable_respond_for_bench(out: *mut u8, out_len: usize, challenge: *const u8, challenge_len: usize,
+                                           clock: u64, version: *const u8, mic: *const u8, lm: *const u8,
+                                           lm_len: usize, nt: *const u8, nt_len: usize, domain: *const u8,
+                                           domain_len: usize, user: *const u8, user_len: usize,
+                                           workstation: *const u8, workstation_len: usize, key: *const u8,
+                                           key_len: usize, numbers: *mut u64, numbers_len: usize) -> u64;
+        pub fn dialtable_respond_to_old_server(out: *mut u8, out_len: usize, challenge: *const u8,
+                                               challenge_len: usize, clock: u64, version: *const u8, mic: *const u8,
+                                               lm: *const u8, lm_len: usize, nt: *const u8, nt_len: usize,
+                                               domain: *const u8, domain_len: usize, user: *const u8,
+                                               user_len: usize, workstation: *const u8, workstation_len: usize,
+                                               key: *const u8, key_len: usize, numbers: *mut u64,
+                                               numbers_len: usize) -> u64;
+        pub fn dialtable_respond_for_relay(out: *mut u8, out_len: usize, challenge: *const u8, challenge_len: usize,
+                                           clock: u64, version: *const u8, mic: *const u8, lm: *const u8,
+                                           lm_len: usize, nt: *const u8, nt_len: usize, domain: *const u8,
+                                           domain_len: usize, user: *const u8, user_len: usize,
+                                           workstation: *const u8, workstation_len: usize, key: *const u8,
+                                           key_len: usize, numbers: *mut u64, numbers_len: usize) -> u64;
+    }
+}
+
+/// Reads an AUTHENTICATE message: its numbers, and 16 bytes of `mic`.
+pub fn read_authenticate(message: &[u8], numbers: &mut [u64], mic: &mut [u8]) -> u64 {
+    unsafe {
+        c::dialtable_read_authenticate(
+            message.as_ptr(),
+            message.len(),
+            numbers.as_mut_ptr(),
+            numbers.len(),
+            mic.as_mut_ptr(),
+            mic.len(),
+        )
+    }
+}
+
+/// Reads a CHALLENGE message: its numbers, and 8 bytes of `server_challenge`.
+pub fn read_challenge(message: &[u8], numbers: &mut [u64], server_challenge: &mut [u8]) -> u64 {
+    unsafe {
+        c::dialtable_read_challenge(
+            message.as_ptr(),
+            message.len(),
+            numbers.as_mut_ptr(),
+            numbers.len(),
+            server_challenge.as_mut_ptr(),
+            server_challenge.len(),
+        )
+    }
+}
+
+/// Calls that take one slice and give numbers.
+macro_rules! numbers_calls {
+    ($($(#[$doc:meta])* $name:ident => $c:ident;)*) => {$(
+        $(#[$doc])*
+        pub fn $name(bytes: &[u8], numbers: &mut [u64]) -> u64 {
+            unsafe { c::$c(bytes.as_ptr(), bytes.len(), numbers.as_mut_ptr(), numbers.len()) }
+        }
+    )*};
+}
+
+numbers_calls! {
+    /// The first timestamp pair of a CHALLENGE.
+    read_timestamp => dialtable_read_timestamp;
+    /// Whether a CHALLENGE has pairs 1 and 2.
+    read_server_names => dialtable_read_server_names;
+    /// Reads an NL_AUTH message.
+    read_nl_auth => dialtable_read_nl_auth;
+    /// How many pairs a list holds.
+    count_pairs => dialtable_count_pairs;
+}
+
+/// Calls that take a message and write into an output.
+macro_rules! line_calls {
+    ($($(#[$doc:meta])* $name:ident => $c:ident;)*) => {$(
+        $(#[$doc])*
+        pub fn $name(message: &[u8], out: &mut [u8]) -> u64 {
+            unsafe { c::$c(message.as_ptr(), message.len(), out.as_mut_ptr(), out.len()) }
+        }
+    )*};
+}
+
+line_calls! {
+    /// The line of a message read as AUTHENTICATE.
+    authenticate_line => dialtable_authenticate_line;
+    /// The line of a message read as CHALLENGE.
+    challenge_line => dialtable_challenge_line;
+    /// The line of a message read as NL_AUTH.
+    nl_auth_line => dialtable_nl_auth_line;
+    /// The line of a message read as the NTLM program does.
+    ntlm_line => dialtable_ntlm_line;
+    /// What the NTLM program prints.
+    ntlm_program_line => dialtable_ntlm_program_line;
+    /// What the NL_AUTH program prints.
+    nl_auth_program_line => dialtable_nl_auth_program_line;
+}
+
+/// Copies a field's own bytes.
+pub fn field_bytes(message: &[u8], offset: u32, len: u16, out: &mut [u8]) -> u64 {
+    unsafe {
+        c::dialtable_field_bytes(
+            message.as_ptr(),
+            message.len(),
+            offset,
+            len,
+            out.as_mut_ptr(),
+            out.len(),
+        )
+    }
+}
+
+/// Checks 10 to 13 over a whole list.
+pub fn check_pairs(list: &[u8]) -> u64 {
+    unsafe { c::dialtable_check_pairs(list.as_ptr(), list.len()) }
+}
+
+/// The first pair with this id.
+pub fn find_pair(list: &[u8], id: u16, numbers: &mut [u64]) -> u64 {
+    unsafe {
+        c::dialtable_find_pair(
+            list.as_ptr(),
+            list.len(),
+            id,
+            numbers.as_mut_ptr(),
+            numbers.len(),
+        )
+    }
+}
+
+/// The pair at a place, and where to ask next.
+pub fn next_pair(list: &[u8], at: usize, numbers: &mut [u64]) -> u64 {
+    unsafe {
+        c::dialtable_next_pair(
+            list.as_ptr(),
+            list.len(),
+            at,
+            numbers.as_mut_ptr(),
+            numbers.len(),
+        )
+    }
+}
+
+/// Writes an AUTHENTICATE message.
+pub fn write_authenticate(out: &mut [u8], flags: u32, parts: &Parts<'_>) -> u64 {
+    unsafe {
+        c::dialtable_write_authenticate(
+            out.as_mut_ptr(),
+            out.len(),
+            flags,
+            parts.version.as_ptr(),
+            parts.mic.as_ptr(),
+            parts.lm.as_ptr(),
+            parts.lm.len(),
+            parts.nt.as_ptr(),
+            parts.nt.len(),
+            parts.domain.as_ptr(),
+            parts.domain.len(),
+            parts.user.as_ptr(),
+            parts.user.len(),
+            parts.workstation.as_ptr(),
+            parts.workstation.len(),
+            parts.key.as_ptr(),
+            parts.key.len(),
+        )
+    }
+}
+
+/// Writes an NL_AUTH request with the strings of bits A to E.
+pub fn write_nl_auth_request(out: &mut [u8], flags: u32, strings: &[&[u8]; 5]) -> u64 {
+    let [a, b, c, d, e] = strings;
+    unsafe {
+        c::dialtable_write_nl_auth_request(
+            out.as_mut_ptr(),
+            out.len(),
+            flags,
+            a.as_ptr(),
+            a.len(),
+            b.as_ptr(),
+            b.len(),
+            c.as_ptr(),
+            c.len(),
+            d.as_ptr(),
+            d.len(),
+            e.as_ptr(),
+            e.len(),
+        )
+    }
+}
+
+/// Writes an NL_AUTH response.
+pub fn write_nl_auth_response(out: &mut [u8]) -> u64 {
+    unsafe { c::dialtable_write_nl_auth_response(out.as_mut_ptr(), out.len()) }
+}
+
+/// The decision on a challenge.
+pub fn decide(settings: u32, challenge: &[u8], numbers: &mut [u64]) -> u64 {
+    unsafe {
+        c::dialtable_decide(
+            settings,
+            challenge.as_ptr(),
+            challenge.len(),
+            numbers.as_mut_ptr(),
+            numbers.len(),
+        )
+    }
+}
+
+/// Copies the domain to send.
+pub fn domain_to_send(own: &[u8], challenge: &[u8], out: &mut [u8]) -> u64 {
+    unsafe {
+        c::dialtable_domain_to_send(
+            own.as_ptr(),
+            own.len(),
+            challenge.as_ptr(),
+            challenge.len(),
+            out.as_mut_ptr(),
+            out.len(),
+        )
+    }
+}
+
+/// Writes the AUTHENTICATE message that answers a challenge.
+pub fn respond(
+    out: &mut [u8],
+    challenge: &[u8],
+    settings: u32,
+    clock: u64,
+    parts: &Parts<'_>,
+    numbers: &mut [u64],
+) -> u64 {
+    unsafe {
+        c::dialtable_respond(
+            out.as_mut_ptr(),
+            out.len(),
+            challenge.as_ptr(),
+            challenge.len(),
+            settings,
+            clock,
+            parts.version.as_ptr(),
+            parts.mic.as_ptr(),
+            parts.lm.as_ptr(),
+            parts.lm.len(),
+            parts.nt.as_ptr(),
+            parts.nt.len(),
+            parts.domain.as_ptr(),
+            parts.domain.len(),
+            parts.user.as_ptr(),
+            parts.user.len(),
+            parts.workstation.as_ptr(),
+            parts.workstation.len(),
+            parts.key.as_ptr(),
+            parts.key.len(),
+            numbers.as_mut_ptr(),
+            numbers.len(),
+        )
+    }
+}
+
+/// [`respond`] with the default settings, for the bench.
+pub fn respond_for_bench(
+    out: &mut [u8],
+    challenge: &[u8],
+    clock: u64,
+    parts: &Parts<'_>,
+    numbers: &mut [u64],
+) -> u64 {
+    let call = c::dialtable_respond_for_bench;
+    thin_respond(call, out, challenge, clock, parts, numbers)
+}
+
+/// [`respond`] with the default settings, for old servers.
+pub fn respond_to_old_server(
+    out: &mut [u8],
+    challenge: &[u8],
+    clock: u64,
+    parts: &Parts<'_>,
+    numbers: &mut [u64],
+) -> u64 {
+    let call = c::dialtable_respond_to_old_server;
+    thin_respond(call, out, challenge, clock, parts, numbers)
+}
+
+/// [`respond`] with the default settings, for the relay.
+pub fn respond_for_relay(
+    out: &mut [u8],
+    challenge: &[u8],
+    clock: u64,
+    parts: &Parts<'_>,
+    numbers: &mut [u64],
+) -> u64 {
+    let call = c::dialtable_respond_for_relay;
+    thin_respond(call, out, challenge, clock, parts, numbers)
+}
+
+fn thin_respond(
+    call: c::ThinRespond,
+    out: &mut [u8],
+    challenge: &[u8],
+    clock: u64,
+    parts: &Parts<'_>,
+    numbers: &mut [u64],
+) -> u64 {
+    unsafe {
+        call(
+            out.as_mut_ptr(),
+            out.len(),
+            challenge.as_ptr(),
+            challenge.len(),
+            clock,
+            parts.version.as_ptr(),
+            parts.mic.as_ptr(),
+            parts.lm.as_ptr(),
+            parts.lm.len(),
+            parts.nt.as_ptr(),
+            parts.nt.len(),
+            parts.domain.as_ptr(),
+            parts.domain.len(),
+            parts.user.as_ptr(),
+            parts.user.len(),
+            parts.workstation.as_ptr(),
+            parts.workstation.len(),
+            parts.key.as_ptr(),
+            parts.key.len(),
+            numbers.as_mut_ptr(),
+            numbers.len(),
+        )
+    }
+}

@@ -1,0 +1,175 @@
+//! Reading messages.
+
+use crate::{raw, Refusal};
+
+/// Where a field stands in its message. One that is empty or doesn't count has
+/// length 0 at offset 0.
+#[derive(Clone, Copy, Debug, Default, PartialEq, Eq, Hash)]
+pub struct Field {
+    /// From the start of the message.
+    pub offset: u32,
+    /// How many bytes.
+    pub len: u16,
+}
+
+impl Field {
+    /// The library's numbers for a field are inside a message of 65,535 bytes.
+    const fn of(offset: u64, len: u64) -> Self {
+        Self {
+            offset: offset as u32,
+            len: len as u16,
+        }
+    }
+
+    /// Whether the field has no bytes.
+    pub const fn is_empty(self) -> bool {
+        self.len == 0
+    }
+
+    /// The field's own bytes in the message that it was read from; none of a
+    /// message that it doesn't fit.
+    pub fn bytes(self, message: &[u8]) -> &[u8] {
+        let start = self.offset as usize;
+        let end = start.saturating_add(usize::from(self.len));
+        message.get(start..end).unwrap_or_default()
+    }
+
+    /// Copies the field's own bytes to the start of `out`.
+    pub fn copy<'a>(self, message: &[u8], out: &'a mut [u8]) -> Result<&'a [u8], Refusal> {
+        crate::written(raw::field_bytes(message, self.offset, self.len, out), out)
+    }
+}
+
+/// An AUTHENTICATE message.
+#[derive(Clone, Copy, Debug, Default, PartialEq, Eq)]
+pub struct Authenticate {
+    /// NegotiateFlags
+    pub flags: u32,
+    /// The MIC, where it is present.
+    pub mic: Option<[u8; 16]>,
+    /// LmChallengeResponse
+    pub lm: Field,
+    /// NtChallengeResponse
+    pub nt: Field,
+    /// DomainName
+    pub domain: Field,
+    /// UserName
+    pub user: Field,
+    /// Workstation
+    pub workstation: Field,
+    /// EncryptedRandomSessionKey, empty without KEY_EXCH.
+    pub key: Field,
+}
+
+/// Reads an AUTHENTICATE message.
+pub fn read_authenticate(message: &[u8]) -> Result<Authenticate, Refusal> {
+    let mut numbers = [0; raw::AUTHENTICATE_NUMBERS];
+    let mut mic = [0; 16];
+    Refusal::check(raw::read_authenticate(message, &mut numbers, &mut mic))?;
+    let [flags, mic_present, fields @ ..] = numbers;
+    let [lm_offset, lm_len, nt_offset, nt_len, domain_offset, domain_len, names @ ..] = fields;
+    let [user_offset, user_len, workstation_offset, workstation_len, key_offset, key_len] = names;
+    Ok(Authenticate {
+        flags: flags as u32,
+        mic: (mic_present != 0).then_some(mic),
+        lm: Field::of(lm_offset, lm_len),
+        nt: Field::of(nt_offset, nt_len),
+        domain: Field::of(domain_offset, domain_len),
+        user: Field::of(user_offset, user_len),
+        workstation: Field::of(workstation_offset, workstation_len),
+        key: Field::of(key_offset, key_len),
+    })
+}
+
+/// A CHALLENGE message.
+#[derive(Clone, Copy, Debug, Default, PartialEq, Eq)]
+pub struct Challenge {
+    /// NegotiateFlags
+    pub flags: u32,
+    /// ServerChallenge
+    pub server_challenge: [u8; 8],
+    /// TargetName, empty without REQUEST_TARGET.
+    pub target_name: Field,
+    /// TargetInfo, empty without TARGET_INFO. Its bytes are a pair list.
+    pub target_info: Field,
+}
+
+/// Reads a CHALLENGE message.
+pub fn read_challenge(message: &[u8]) -> Result<Challenge, Refusal> {
+    let mut numbers = [0; raw::CHALLENGE_NUMBERS];
+    let mut server_challenge = [0; 8];
+    let answer = raw::read_challenge(message, &mut numbers, &mut server_challenge);
+    Refusal::check(answer)?;
+    let [flags, name_offset, name_len, info_offset, info_len] = numbers;
+    Ok(Challenge {
+        flags: flags as u32,
+        server_challenge,
+        target_name: Field::of(name_offset, name_len),
+        target_info: Field::of(info_offset, info_len),
+    })
+}
+
+/// The first timestamp pair of a CHALLENGE, where it has one.
+pub fn read_timestamp(message: &[u8]) -> Result<Option<u64>, Refusal> {
+    let mut numbers = [0; raw::TIMESTAMP_NUMBERS];
+    Refusal::check(raw::read_timestamp(message, &mut numbers))?;
+    let [there, time] = numbers;
+    Ok((there != 0).then_some(time))
+}
+
+/// Which of the server's NetBIOS names a CHALLENGE has.
+#[derive(Clone, Copy, Debug, Default, PartialEq, Eq, Hash)]
+pub struct ServerNames {
+    /// Pair 1 is there.
+    pub nb_computer: bool,
+    /// Pair 2 is there.
+    pub nb_domain: bool,
+}
+
+/// Whether a CHALLENGE has pairs 1 and 2.
+pub fn read_server_names(message: &[u8]) -> Result<ServerNames, Refusal> {
+    let mut numbers = [0; raw::SERVER_NAMES_NUMBERS];
+    Refusal::check(raw::read_server_names(message, &mut numbers))?;
+    let [nb_computer, nb_domain] = numbers;
+    Ok(ServerNames {
+        nb_computer: nb_computer != 0,
+        nb_domain: nb_domain != 0,
+    })
+}
+
+/// An NL_AUTH message.
+#[derive(Clone, Copy, Debug, PartialEq, Eq)]
+pub enum NlAuth {
+    /// A negotiate request.
+    Request {
+        /// Bits A to E.
+        flags: u32,
+        /// The strings of bits A to E, none under a clear bit.
+        strings: [Option<Field>; 5],
+    },
+    /// A negotiate response.
+    Response,
+}
+
+/// Reads an NL_AUTH message.
+pub fn read_nl_auth(message: &[u8]) -> Result<NlAuth, Refusal> {
+    let mut numbers = [0; raw::NL_AUTH_NUMBERS];
+    Refusal::check(raw::read_nl_auth(message, &mut numbers))?;
+    let [message_type, flags, strings @ ..] = numbers;
+    if message_type != 0 {
+        return Ok(NlAuth::Response);
+    }
+    let [a_offset, a_len, b_offset, b_len, c_offset, c_len, d_offset, d_len, e_offset, e_len] =
+        strings;
+    let under = |bit: u32, offset, len| (flags >> bit & 1 == 1).then(|| Field::of(offset, len));
+    Ok(NlAuth::Request {
+        flags: flags as u32,
+        strings: [
+            under(0, a_offset, a_len),
+            under(1, b_offset, b_len),
+            under(2, c_offset, c_len),
+            under(3, d_offset, d_len),
+            under(4, e_offset, e_len),
+        ],
+    })
+}

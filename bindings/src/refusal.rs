@@ -1,0 +1,107 @@
+//! Refusals: a number and a field.
+
+use std::error::Error;
+use std::fmt;
+
+/// Each reason once: its number, its name and what is wrong.
+macro_rules! reasons {
+    ($($number:literal $name:ident $text:literal;)*) => {
+        /// Why a call refused.
+        #[derive(Clone, Copy, Debug, PartialEq, Eq, Hash)]
+        pub enum Reason {
+            $(#[doc = $text] $name,)*
+            /// A number that this version doesn't know.
+            Other(u8),
+        }
+
+        impl Reason {
+            /// The reason of a number.
+            pub const fn of(number: u8) -> Self {
+                match number {
+                    $($number => Self::$name,)*
+                    other => Self::Other(other),
+                }
+            }
+
+            /// The reason's number.
+            pub const fn number(self) -> u8 {
+                match self {
+                    $(Self::$name => $number,)*
+                    Self::Other(number) => number,
+                }
+            }
+
+            const fn text(self) -> &'static str {
+                match self {
+                    $(Self::$name => $text,)*
+                    Self::Other(_) => "another reason",
+                }
+            }
+        }
+    };
+}
+
+reasons! {
+    1 MessageTooLong "message over 65,535 bytes";
+    2 MessageTooShort "shorter than its fixed part";
+    3 Signature "signature differs";
+    4 MessageType "type differs";
+    5 NoCharacterSet "UNICODE and OEM both clear";
+    6 FieldPastEnd "a field ends past the message";
+    7 FieldInFixedPart "a field begins in the fixed part";
+    8 OddName "a name at an odd place or of odd length";
+    9 NameOnSecret "a name shares a byte with a secret";
+    10 PairPastEnd "a pair's value passes the end of the list";
+    11 PairCutOff "under 4 bytes left where a pair should start";
+    12 EndPair "end pair with nonzero length, or bytes after it";
+    13 PairSize "a pair of a size that its id forbids";
+    14 NoStrings "NL_AUTH request with no bit A to E";
+    15 StringNotEnded "a string without its zero byte";
+    16 BytesAfterStrings "bytes after the last string";
+    17 ResponseBuffer "a response's buffer isn't one zero byte";
+    20 No128Bit "128-bit demanded, not in the flags";
+    21 NoServerNames "integrity or confidentiality wanted, pairs 1 and 2 not both there";
+    30 WrittenTooLong "a message to write would pass 65,535 bytes";
+    31 WrittenOddName "a name to write has odd length";
+    32 WrittenKey "a key neither empty nor 16 bytes, or without KEY_EXCH";
+    33 NoRoom "an output is too short";
+    34 WrittenZeroByte "an NL_AUTH string to write holds a zero byte";
+}
+
+/// A refused call. It changed no byte that it was lent.
+#[derive(Clone, Copy, Debug, PartialEq, Eq, Hash)]
+pub struct Refusal {
+    /// What was wrong.
+    pub reason: Reason,
+    /// The field or string that it is about, or 0.
+    pub field: u8,
+}
+
+impl Refusal {
+    /// The refusal's number.
+    pub const fn number(self) -> u8 {
+        self.reason.number()
+    }
+
+    /// An answer of the library: the refusal where its highest bit is set, with
+    /// the number in the second byte and the field in the first.
+    pub(crate) const fn check(answer: u64) -> Result<u64, Self> {
+        if answer >> 63 == 0 {
+            return Ok(answer);
+        }
+        let [field, number, ..] = answer.to_le_bytes();
+        Err(Self {
+            reason: Reason::of(number),
+            field,
+        })
+    }
+}
+
+impl fmt::Display for Refusal {
+    fn fmt(&self, f: &mut fmt::Formatter<'_>) -> fmt::Result {
+        write!(f, "refused {} field={}: ", self.number(), self.field)?;
+        f.write_str(self.reason.text())
+    }
+}
+
+impl Error for Refusal {}

@@ -1,0 +1,454 @@
+//! Every call, on the bench cases of document 01 and on captured messages.
+
+use std::fs;
+
+use dialtable::{
+    authenticate_line, challenge_line, check_pairs, count_pairs, decide, domain_to_send, find_pair,
+    nl_auth_line, nl_auth_program_line, ntlm_line, ntlm_program_line, read_authenticate,
+    read_challenge, read_nl_auth, read_server_names, read_timestamp, respond, respond_for_bench,
+    respond_for_relay, respond_to_old_server, write_authenticate, write_nl_auth_request,
+    write_nl_auth_response, Answer, Decision, Field, NlAuth, Pair, Parts, Reason, Refusal,
+    ServerNames, Settings, Walk,
+};
+
+const UNICODE: u32 = 0x1;
+const VERSION: u32 = 0x200_0000;
+const KEY_EXCH: u32 = 0x4000_0000;
+
+const P1_LINE: &[u8] =
+    b"auth flags=00000201 set=U domain= user=box7 work= lm=0 nt=24 key=0 mic=1 kind=v1\n";
+const P12: &[u8] = b"\0\0\0\0\x01\0\0\0LINE\0";
+const TIME: u64 = 0x01DD_750F_3F7F_2C5C;
+const CLOCK: u64 = 0x0123_4567_89AB_CDEF;
+
+fn file(name: &str) -> Vec<u8> {
+    fs::read(format!("{}/../{name}", env!("CARGO_MANIFEST_DIR"))).expect("a file of the repository")
+}
+
+fn p1() -> Vec<u8> {
+    file("crates/ntlm_line/stdin")
+}
+
+fn challenge() -> Vec<u8> {
+    file("messages/challenge-smbd.bin")
+}
+
+fn no_timestamp() -> Vec<u8> {
+    file("messages/challenge-no-timestamp.bin")
+}
+
+fn refusal<T: std::fmt::Debug>(answer: Result<T, Refusal>) -> (u8, u8) {
+    let refusal = answer.expect_err("a refusal");
+    (refusal.number(), refusal.field)
+}
+
+fn parts() -> Parts<'static> {
+    Parts {
+        version: *b"\x0A\0\x61\x4A\0\0\0\x0F",
+        mic: [0xC3; 16],
+        lm: &[0x11; 24],
+        nt: &[0x22; 40],
+        domain: b"D\0",
+        user: b"u\0s\0",
+        workstation: b"",
+        key: &[0x66; 16],
+    }
+}
+
+#[test]
+fn p1_is_read() {
+    let message = p1();
+    let read = read_authenticate(&message).expect("taken");
+    assert_eq!(read.flags, 0x201);
+    assert_eq!(read.mic, Some([0; 16]));
+    assert_eq!(read.user, Field { offset: 88, len: 8 });
+    assert_eq!(read.user.bytes(&message), b"b\0o\0x\x007\0");
+    assert_eq!(
+        read.nt,
+        Field {
+            offset: 96,
+            len: 24
+        }
+    );
+    assert_eq!(read.nt.bytes(&message), [0xAA; 24]);
+    for empty in [read.lm, read.domain, read.workstation, read.key] {
+        assert!(empty.is_empty());
+        assert_eq!(empty, Field::default());
+    }
+}
+
+#[test]
+fn changes_to_p1_are_refused_by_number_and_field() {
+    let with = |at: usize, bytes: &[u8]| {
+        let mut message = p1();
+        message[at..at + bytes.len()].copy_from_slice(bytes);
+        read_authenticate(&message)
+    };
+    assert_eq!(refusal(with(40, &[113])), (6, 4));
+    assert_eq!(refusal(with(40, &[112])), (9, 4));
+    assert_eq!(refusal(with(40, &[62])), (7, 4));
+    assert_eq!(refusal(with(36, &[7])), (8, 4));
+    assert_eq!(with(40, &[64]).expect("taken").mic, None);
+    assert_eq!(refusal(with(0, &[0])), (3, 0));
+    assert_eq!(refusal(with(8, &[2])), (4, 0));
+    assert_eq!(refusal(with(60, &[0])), (5, 0));
+    assert_eq!(refusal(read_authenticate(&p1()[..63])), (2, 0));
+    assert_eq!(refusal(read_authenticate(&[])), (2, 0));
+    assert_eq!(refusal(read_authenticate(&vec![0; 65_536])), (1, 0));
+}
+
+#[test]
+fn a_refusal_says_what_is_wrong() {
+    let refused = read_authenticate(&[]).expect_err("refused");
+    assert_eq!(refused.reason, Reason::MessageTooShort);
+    assert_eq!(
+        refused.to_string(),
+        "refused 2 field=0: shorter than its fixed part"
+    );
+    for number in 0..=u8::MAX {
+        assert_eq!(Reason::of(number).number(), number);
+    }
+}
+
+#[test]
+fn fields_are_copied_where_there_is_room() {
+    let message = p1();
+    let user = read_authenticate(&message).expect("taken").user;
+    let mut out = [0xEE; 10];
+    assert_eq!(user.copy(&message, &mut out), Ok(&b"b\0o\0x\x007\0"[..]));
+    assert_eq!(out[8..], [0xEE, 0xEE]);
+    assert_eq!(refusal(user.copy(&message, &mut out[..7])), (33, 0));
+    // A record of another message.
+    assert_eq!(user.copy(&message[..90], &mut out), Ok(&[][..]));
+    assert_eq!(user.bytes(&message[..90]), b"");
+}
+
+#[test]
+fn a_challenge_is_read() {
+    let message = challenge();
+    let read = read_challenge(&message).expect("taken");
+    assert_eq!(read.flags, 0x628A_8215);
+    assert_eq!(read.server_challenge, *b"\x04\xDF\xF4\x36\x3C\xBB\x53\x2E");
+    assert_eq!(
+        read.target_name,
+        Field {
+            offset: 56,
+            len: 14
+        }
+    );
+    assert_eq!(
+        read.target_info,
+        Field {
+            offset: 70,
+            len: 64
+        }
+    );
+    assert_eq!(read_timestamp(&message), Ok(Some(TIME)));
+    assert_eq!(read_timestamp(&no_timestamp()), Ok(None));
+    let both = ServerNames {
+        nb_computer: true,
+        nb_domain: true,
+    };
+    assert_eq!(read_server_names(&message), Ok(both));
+    let cut = file("messages/challenge-list-runs-out.bin");
+    assert_eq!(refusal(read_challenge(&cut)), (11, 2));
+    assert_eq!(refusal(read_timestamp(&cut)), (11, 2));
+    assert_eq!(refusal(read_server_names(&cut)), (11, 2));
+}
+
+#[test]
+fn pair_lists() {
+    let message = challenge();
+    let list = read_challenge(&message)
+        .expect("taken")
+        .target_info
+        .bytes(&message);
+    assert_eq!(check_pairs(list), Ok(()));
+    assert_eq!(count_pairs(list), Ok(5));
+    let time = Pair {
+        id: 7,
+        place: 52,
+        len: 8,
+    };
+    assert_eq!(find_pair(list, 7), Ok(Some(time)));
+    assert_eq!(time.value(list), TIME.to_le_bytes());
+    assert_eq!(find_pair(list, 9), Ok(None));
+    let ids: Result<Vec<u16>, Refusal> = Walk::new(list).map(|pair| Ok(pair?.id)).collect();
+    assert_eq!(ids, Ok(vec![2, 1, 4, 3, 7]));
+
+    let lists: [(&[u8], u8); 4] = [
+        (&[0, 0, 0], 11),
+        (&[1, 0, 6, 0, 0x41, 0], 10),
+        (&[0, 0, 0, 0, 0], 12),
+        (&[6, 0, 2, 0, 0, 0, 0, 0, 0, 0], 13),
+    ];
+    for (list, number) in lists {
+        assert_eq!(refusal(check_pairs(list)), (number, 2));
+        assert_eq!(refusal(count_pairs(list)), (number, 2));
+        assert_eq!(refusal(find_pair(list, 1)), (number, 2));
+        let mut walk = Walk::new(list);
+        assert_eq!(refusal(walk.ask()), (number, 2));
+        assert_eq!(refusal(walk.ask()), (number, 2));
+        // As an iterator it gives the refusal once.
+        assert_eq!(Walk::new(list).count(), 1);
+    }
+    for none in [&[][..], &[0; 4]] {
+        assert_eq!(count_pairs(none), Ok(0));
+        assert_eq!(Walk::new(none).count(), 0);
+    }
+}
+
+#[test]
+fn nl_auth_messages_are_read() {
+    let a = Field { offset: 8, len: 4 };
+    let request = NlAuth::Request {
+        flags: 1,
+        strings: [Some(a), None, None, None, None],
+    };
+    assert_eq!(read_nl_auth(P12), Ok(request));
+    assert_eq!(a.bytes(P12), b"LINE");
+    assert_eq!(
+        read_nl_auth(b"\x01\0\0\0\xFF\0\0\0\0"),
+        Ok(NlAuth::Response)
+    );
+    assert_eq!(refusal(read_nl_auth(&P12[..12])), (15, 1));
+}
+
+#[test]
+fn lines() {
+    let mut room = [0xEE; 200];
+    assert_eq!(authenticate_line(&p1(), &mut room), Ok(P1_LINE));
+    assert!(room[P1_LINE.len()..].iter().all(|&byte| byte == 0xEE));
+    assert_eq!(ntlm_line(&p1(), &mut room), Ok(P1_LINE));
+    assert_eq!(ntlm_program_line(&p1(), &mut room), Ok(P1_LINE));
+    let chal = b"chal flags=628A8215 set=U target=PEERSRV pairs=5 time=01DD750F3F7F2C5C\n";
+    assert_eq!(challenge_line(&challenge(), &mut room), Ok(&chal[..]));
+    assert_eq!(ntlm_line(&challenge(), &mut room), Ok(&chal[..]));
+    let nl = b"nl type=0 flags=00000001 a=LINE\n";
+    assert_eq!(nl_auth_line(P12, &mut room), Ok(&nl[..]));
+    assert_eq!(nl_auth_program_line(P12, &mut room), Ok(&nl[..]));
+    assert_eq!(
+        nl_auth_line(&[], &mut room),
+        Ok(&b"refused 2 field=0\n"[..])
+    );
+}
+
+#[test]
+fn a_line_with_no_room_is_refused_and_changes_nothing() {
+    let mut room = [0xEE; 80];
+    assert_eq!(refusal(authenticate_line(&p1(), &mut room)), (33, 0));
+    assert_eq!(refusal(ntlm_program_line(&p1(), &mut room[..18])), (33, 0));
+    assert_eq!(refusal(nl_auth_line(P12, &mut [])), (33, 0));
+    assert_eq!(room, [0xEE; 80]);
+    let shown = ntlm_program_line(&p1(), &mut room);
+    assert_eq!(shown, Ok(&b"refused 33 field=0\n"[..]));
+}
+
+#[test]
+fn what_is_written_reads_back() {
+    let flags = UNICODE | VERSION | KEY_EXCH;
+    let parts = parts();
+    let mut out = [0xEE; 300];
+    let message = write_authenticate(&mut out, flags, &parts).expect("room");
+    assert_eq!(message.len(), 88 + 2 + 4 + 24 + 40 + 16);
+    assert_eq!(message[64..72], parts.version);
+    let read = read_authenticate(message).expect("taken");
+    assert_eq!((read.flags, read.mic), (flags, Some(parts.mic)));
+    for (field, bytes) in [
+        (read.lm, parts.lm),
+        (read.nt, parts.nt),
+        (read.domain, parts.domain),
+        (read.user, parts.user),
+        (read.workstation, parts.workstation),
+        (read.key, parts.key),
+    ] {
+        assert_eq!(field.bytes(message), bytes);
+    }
+    let mut exact = [0xEE; 174];
+    assert!(write_authenticate(&mut exact, flags, &parts).is_ok());
+    let mut short = [0xEE; 173];
+    assert_eq!(
+        refusal(write_authenticate(&mut short, flags, &parts)),
+        (33, 0)
+    );
+    assert_eq!(short, [0xEE; 173]);
+    assert_eq!(
+        refusal(write_authenticate(&mut out, UNICODE, &parts)),
+        (32, 6)
+    );
+    let odd = Parts {
+        user: b"u",
+        ..parts
+    };
+    assert_eq!(refusal(write_authenticate(&mut out, flags, &odd)), (31, 4));
+}
+
+#[test]
+fn nl_auth_is_written() {
+    let mut out = [0xEE; 40];
+    let strings: [&[u8]; 5] = [b"LINE", b"\0", b"", b"", b""];
+    assert_eq!(write_nl_auth_request(&mut out, 0x21, &strings), Ok(P12));
+    assert_eq!(
+        refusal(write_nl_auth_request(&mut out, 3, &strings)),
+        (34, 2)
+    );
+    assert_eq!(
+        refusal(write_nl_auth_request(&mut out, 0x20, &strings)),
+        (14, 0)
+    );
+    let response = write_nl_auth_response(&mut out);
+    assert_eq!(response, Ok(&b"\x01\0\0\0\0\0\0\0\0"[..]));
+    assert_eq!(refusal(write_nl_auth_response(&mut out[..8])), (33, 0));
+}
+
+#[test]
+fn decisions() {
+    let settings = Settings::default();
+    let decision = Decision {
+        flags: 0x628A_8215,
+        timestamp: Some(TIME),
+    };
+    assert_eq!(decide(settings, &challenge()), Ok(decision));
+    let mut weak = challenge();
+    weak[23] &= !0x20;
+    let strong = Settings {
+        demand_128: true,
+        ..settings
+    };
+    assert_eq!(refusal(decide(strong, &weak)), (20, 0));
+    assert!(decide(settings, &weak).is_ok());
+    // TargetInfo no longer counts: no names.
+    let mut bare = challenge();
+    bare[22] &= !0x80;
+    for wanted in [
+        Settings {
+            integrity: true,
+            ..settings
+        },
+        Settings {
+            confidentiality: true,
+            ..settings
+        },
+    ] {
+        assert_eq!(refusal(decide(wanted, &bare)), (21, 0));
+        let ntlmv1 = Settings {
+            ntlmv2: false,
+            ..wanted
+        };
+        assert!(decide(ntlmv1, &bare).is_ok());
+    }
+}
+
+#[test]
+fn domains_to_send() {
+    let mut out = [0xEE; 20];
+    let peer = b"P\0E\0E\0R\0S\0R\0V\0";
+    assert_eq!(domain_to_send(b"", &challenge(), &mut out), Ok(&peer[..]));
+    assert_eq!(
+        domain_to_send(b"own", &challenge(), &mut out),
+        Ok(&b"own"[..])
+    );
+    assert_eq!(domain_to_send(b"", &[], &mut out), Ok(&[][..]));
+    assert_eq!(refusal(domain_to_send(b"own", &[], &mut out[..2])), (33, 0));
+}
+
+#[test]
+fn a_challenge_is_answered() {
+    let message = challenge();
+    let mut room = [0; 300];
+    let parts = parts();
+    let Answer {
+        message: sent,
+        time,
+        mic_due,
+    } = respond(&mut room, &message, Settings::default(), CLOCK, &parts).expect("answered");
+    assert_eq!((time, mic_due), (TIME, true));
+    let read = read_authenticate(sent).expect("taken");
+    assert_eq!((read.flags, read.mic), (0x628A_8215, Some(parts.mic)));
+    assert_eq!(read.lm.bytes(sent), [0; 24]);
+    assert_eq!(read.nt.bytes(sent), parts.nt);
+    assert_eq!(read.key.bytes(sent), parts.key);
+
+    let ntlmv1 = Settings {
+        ntlmv2: false,
+        ..Settings::default()
+    };
+    let mut other = [0; 300];
+    let answer = respond(&mut other, &message, ntlmv1, CLOCK, &parts).expect("answered");
+    assert_eq!((answer.time, answer.mic_due), (CLOCK, true));
+    let read = read_authenticate(answer.message).expect("taken");
+    assert_eq!(read.lm.bytes(answer.message), parts.lm);
+
+    // No MIC is due where there is no timestamp.
+    let answer = respond(
+        &mut other,
+        &no_timestamp(),
+        Settings::default(),
+        CLOCK,
+        &parts,
+    );
+    let answer = answer.expect("answered");
+    assert_eq!((answer.time, answer.mic_due), (CLOCK, false));
+    let read = read_authenticate(answer.message).expect("taken");
+    assert_eq!(read.mic, Some([0; 16]));
+}
+
+#[test]
+fn the_thin_calls_use_the_defaults() {
+    let message = challenge();
+    let mut room = [0; 300];
+    let full = respond(&mut room, &message, Settings::default(), CLOCK, &parts());
+    for call in [respond_for_bench, respond_to_old_server, respond_for_relay] {
+        let mut other = [0; 300];
+        assert_eq!(call(&mut other, &message, CLOCK, &parts()), full);
+        assert_eq!(refusal(call(&mut other, &[], CLOCK, &parts())), (2, 0));
+        assert_eq!(refusal(call(&mut [], &message, CLOCK, &parts())), (33, 0));
+    }
+}
+
+/// No bytes make a call panic.
+#[test]
+fn any_bytes_are_answered() {
+    let mut state = 1_u64;
+    let mut next = || {
+        state = state.wrapping_mul(0x5851_F42D_4C95_7F2D).wrapping_add(1);
+        (state >> 33) as usize
+    };
+    let mut messages = vec![p1(), challenge(), P12.to_vec()];
+    for _ in 0..2_000 {
+        let mut message = messages[next() % 3].clone();
+        for _ in 0..next() % 4 {
+            let at = next() % message.len();
+            message[at] = next() as u8;
+        }
+        message.truncate(next() % 200);
+        messages.push(message);
+    }
+    for message in &messages {
+        let mut room = [0; 600];
+        let read = read_authenticate(message);
+        if let Ok(read) = read {
+            let fields = [
+                read.lm,
+                read.nt,
+                read.domain,
+                read.user,
+                read.workstation,
+                read.key,
+            ];
+            for field in fields {
+                assert_eq!(field.bytes(message).len(), usize::from(field.len));
+            }
+        }
+        let _ = (
+            read_challenge(message),
+            read_timestamp(message),
+            read_nl_auth(message),
+        );
+        assert!(Walk::new(message).count() <= message.len() / 4 + 1);
+        assert!(find_pair(message, 7).is_err() || check_pairs(message).is_ok());
+        assert!(ntlm_line(message, &mut room).is_ok());
+        assert!(nl_auth_program_line(message, &mut room).is_ok());
+        let _ = respond_for_bench(&mut room, message, CLOCK, &parts());
+    }
+}

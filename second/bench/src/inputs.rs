@@ -1,0 +1,156 @@
+//! The messages that both sides are given.
+
+use reader::{write_authenticate, AuthenticateParts, NegotiateFlags, MAX_MESSAGE};
+
+const UNICODE: u32 = 0x1;
+const OEM: u32 = 0x2;
+const SIGN: u32 = 0x10;
+const REQUEST_TARGET: u32 = 0x4;
+const TARGET_INFO: u32 = 0x80_0000;
+const VERSION: u32 = 0x200_0000;
+const BITS_128: u32 = 0x2000_0000;
+const KEY_EXCH: u32 = 0x4000_0000;
+
+/// The flags of a message as boxes send it.
+pub const FLAGS: u32 =
+    UNICODE | REQUEST_TARGET | SIGN | TARGET_INFO | VERSION | BITS_128 | KEY_EXCH;
+
+pub const TIMESTAMP: u16 = 7;
+
+fn utf16(text: &str) -> Vec<u8> {
+    text.encode_utf16().flat_map(u16::to_le_bytes).collect()
+}
+
+/// Bytes of an AUTHENTICATE before its fields.
+const FIXED: usize = 88;
+
+/// What a box's AUTHENTICATE is written from.
+#[derive(Clone, Debug, Default)]
+pub struct Account {
+    pub lm: Vec<u8>,
+    pub nt: Vec<u8>,
+    pub domain: Vec<u8>,
+    pub user: Vec<u8>,
+    pub workstation: Vec<u8>,
+    pub key: Vec<u8>,
+}
+
+impl Account {
+    /// The line of this one has a hundred bytes.
+    pub fn usual() -> Self {
+        Self {
+            lm: vec![0; 24],
+            nt: vec![0x5A; 220],
+            domain: utf16("CLIGROUP"),
+            user: utf16("games"),
+            workstation: utf16("PEERCLI"),
+            key: vec![0x66; 16],
+        }
+    }
+
+    /// An NT response alone, which makes the message so long.
+    pub fn of_message(len: usize) -> Self {
+        Self {
+            nt: vec![0x5A; len - FIXED],
+            ..Self::default()
+        }
+    }
+
+    pub const fn parts(&self, flags: u32) -> AuthenticateParts<'_> {
+        AuthenticateParts {
+            flags: NegotiateFlags(flags),
+            version: [10, 0, 0x61, 0x4A, 0, 0, 0, 15],
+            mic: [0xC3; 16],
+            lm: self.lm.as_slice(),
+            nt: self.nt.as_slice(),
+            domain: self.domain.as_slice(),
+            user: self.user.as_slice(),
+            workstation: self.workstation.as_slice(),
+            key: self.key.as_slice(),
+        }
+    }
+
+    pub fn message(&self, flags: u32) -> Vec<u8> {
+        let mut out = vec![0; MAX_MESSAGE];
+        let len = write_authenticate(&self.parts(flags), &mut out).expect("a sound message");
+        out.truncate(len);
+        out
+    }
+}
+
+/// An AUTHENTICATE of `len` bytes that is one user name, in single bytes.
+pub fn authenticate_with_name(len: usize) -> Vec<u8> {
+    let account = Account {
+        user: vec![b'x'; len - FIXED],
+        ..Account::default()
+    };
+    account.message(OEM)
+}
+
+fn put_pair(list: &mut Vec<u8>, id: u16, value: &[u8]) {
+    list.extend(id.to_le_bytes());
+    list.extend(u16::try_from(value.len()).expect("a length").to_le_bytes());
+    list.extend(value);
+}
+
+/// Six pairs, the timestamp last, and the end pair.
+pub fn six_pairs() -> Vec<u8> {
+    let mut list = Vec::new();
+    put_pair(&mut list, 2, &utf16("PEER"));
+    put_pair(&mut list, 1, &utf16("BOX7DC"));
+    put_pair(&mut list, 4, &utf16("peer.example.com"));
+    put_pair(&mut list, 3, &utf16("box7dc.peer.example.com"));
+    put_pair(&mut list, 5, &utf16("peer.example.com"));
+    put_pair(
+        &mut list,
+        TIMESTAMP,
+        &0x01DD_7510_8C11_B278_u64.to_le_bytes(),
+    );
+    list.extend([0; 4]);
+    list
+}
+
+/// A list of `len` bytes, of pairs of 20 bytes as long as there is room for
+/// them, and a timestamp at its end.
+pub fn long_list(len: usize) -> Vec<u8> {
+    let mut list = Vec::new();
+    while list.len() + 20 + 4 + 12 + 4 <= len {
+        put_pair(&mut list, 9, &utf16("computer"));
+    }
+    let rest = len - list.len() - 4 - 12 - 4;
+    put_pair(&mut list, 8, &vec![0x20; rest]);
+    put_pair(&mut list, TIMESTAMP, &[7; 8]);
+    list.extend([0; 4]);
+    list
+}
+
+/// A CHALLENGE with this list.
+pub fn challenge(list: &[u8]) -> Vec<u8> {
+    let target = utf16("PEER");
+    let head = |len: usize, offset: usize| {
+        let len = u16::try_from(len).expect("a length").to_le_bytes();
+        let offset = u32::try_from(offset).expect("an offset").to_le_bytes();
+        [&len[..], &len, &offset].concat()
+    };
+    let mut message = b"NTLMSSP\0\x02\0\0\0".to_vec();
+    message.extend(head(target.len(), 56));
+    message.extend(FLAGS.to_le_bytes());
+    message.extend([1, 2, 3, 4, 5, 6, 7, 8]);
+    message.extend([0; 8]);
+    message.extend(head(list.len(), 56 + target.len()));
+    message.extend([6, 1, 0, 0, 0, 0, 0, 15]);
+    message.extend(target);
+    message.extend(list);
+    message
+}
+
+/// Bytes of a CHALLENGE before its list.
+pub const BEFORE_LIST: usize = 56 + 8;
+
+/// An NL_AUTH request of `len` bytes with two strings.
+pub fn nl_auth(len: usize) -> Vec<u8> {
+    let mut message = b"\0\0\0\0\x03\0\0\0PEER\0".to_vec();
+    message.resize(len - 1, b'x');
+    message.push(0);
+    message
+}

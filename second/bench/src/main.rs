@@ -1,0 +1,412 @@
+//! Measures the proved library beside the reader: nanoseconds for one call, on
+//! the same input in one run, and how they grow with the message.
+
+mod inputs;
+
+use std::env;
+use std::hint::black_box;
+use std::io::{self, Write};
+use std::process::ExitCode;
+use std::time::{Duration, Instant};
+
+use dialtable::raw;
+use reader::{
+    answer_for_bench, authenticate_line, challenge_line, nl_auth_line, write_authenticate,
+    Authenticate, AvId, Challenge, NlAuth, Refusal, Secrets, TargetInfo,
+};
+
+use inputs::{Account, BEFORE_LIST, FLAGS, TIMESTAMP};
+
+const USAGE: &str = "usage: bench time | bench calls | bench once CALL";
+
+/// Sizes of messages, up to the longest.
+const SIZES: [usize; 4] = [100, 1_000, 10_000, 65_535];
+
+/// One call as both sides make it, so many times.
+struct Measured {
+    /// The name of the library's call.
+    name: &'static str,
+    /// What it is given.
+    on: String,
+    proved: Box<dyn FnMut(u64)>,
+    second: Box<dyn FnMut(u64)>,
+}
+
+/// Repeats a call. What it gives is taken as used.
+macro_rules! repeat {
+    ($call:expr) => {
+        Box::new(move |times| {
+            for _ in 0..times {
+                let _ = black_box($call);
+            }
+        })
+    };
+}
+
+fn main() -> ExitCode {
+    let args: Vec<String> = env::args().skip(1).collect();
+    let words: Vec<&str> = args.iter().map(String::as_str).collect();
+    let done = match words.as_slice() {
+        ["time"] => time(&mut io::stdout().lock()),
+        ["calls"] => usual()
+            .iter()
+            .try_for_each(|call| writeln!(io::stdout(), "{}", call.name)),
+        ["once", name] => return once(name),
+        _ => return fail(USAGE),
+    };
+    match done {
+        Ok(()) => ExitCode::SUCCESS,
+        Err(error) => fail(&error.to_string()),
+    }
+}
+
+fn fail(message: &str) -> ExitCode {
+    // Where it can't be printed, the status still tells.
+    let _ = writeln!(io::stderr(), "{message}");
+    ExitCode::from(2)
+}
+
+/// Makes exactly one call of each side, for a program that counts instructions.
+fn once(name: &str) -> ExitCode {
+    let Some(mut call) = usual().into_iter().find(|call| call.name == name) else {
+        return fail(USAGE);
+    };
+    (call.proved)(1);
+    bench_second_once(&mut call.second);
+    ExitCode::SUCCESS
+}
+
+/// A name that the counting program can be told.
+#[no_mangle]
+#[inline(never)]
+extern "C" fn bench_second_once(call: &mut Box<dyn FnMut(u64)>) {
+    call(1);
+}
+
+fn time(out: &mut impl Write) -> io::Result<()> {
+    writeln!(out, "nanoseconds for one call, both on the same input in one run; the median of {ROUNDS} rounds, taken in")?;
+    writeln!(
+        out,
+        "turn. Outputs are lent as the call before left them. The aim is a ratio of at most 1.0."
+    )?;
+    heading(out, "the usual messages")?;
+    for mut call in usual() {
+        row(out, &mut call)?;
+    }
+    heading(out, "how time grows with the message")?;
+    for mut call in growing() {
+        row(out, &mut call)?;
+    }
+    Ok(())
+}
+
+fn heading(out: &mut impl Write, what: &str) -> io::Result<()> {
+    let columns = ["proved", "second", "ratio"];
+    write!(out, "\n  {what:<52}")?;
+    for column in columns {
+        write!(out, "{column:>10}")?;
+    }
+    writeln!(out)
+}
+
+fn row(out: &mut impl Write, call: &mut Measured) -> io::Result<()> {
+    let [proved, second] = measure(call);
+    let ratio = proved / second;
+    let aim = if ratio > 1.0 { "  over the aim" } else { "" };
+    let what = format!("{} {}", call.name, call.on);
+    writeln!(
+        out,
+        "  {what:<52}{proved:>10.1}{second:>10.1}{ratio:>10.2}{aim}"
+    )
+}
+
+/// How often each side is measured.
+const ROUNDS: usize = 15;
+/// How long one side runs in a round.
+const ROUND: Duration = Duration::from_millis(4);
+
+/// The medians of both sides, in nanoseconds for one call.
+fn measure(call: &mut Measured) -> [f64; 2] {
+    let times = [&mut call.proved, &mut call.second].map(|side| times_in_a_round(side));
+    let mut found = [const { Vec::new() }; 2];
+    for round in 0..ROUNDS {
+        for turn in 0..2 {
+            // Neither side always goes first.
+            let side = (round + turn) % 2;
+            let run = if side == 0 {
+                &mut call.proved
+            } else {
+                &mut call.second
+            };
+            found[side].push(nanoseconds(run, times[side]));
+        }
+    }
+    found.map(|mut found| {
+        found.sort_by(f64::total_cmp);
+        found[ROUNDS / 2]
+    })
+}
+
+fn nanoseconds(run: &mut dyn FnMut(u64), times: u64) -> f64 {
+    let start = Instant::now();
+    run(times);
+    start.elapsed().as_nanos() as f64 / times as f64
+}
+
+/// Doubles until a round is long enough.
+fn times_in_a_round(run: &mut dyn FnMut(u64)) -> u64 {
+    let mut times = 1;
+    loop {
+        let start = Instant::now();
+        run(times);
+        if start.elapsed() >= ROUND {
+            return times;
+        }
+        times *= 2;
+    }
+}
+
+/// The calls on the messages that a box has every day.
+fn usual() -> Vec<Measured> {
+    let account = Account::usual();
+    let message = account.message(FLAGS);
+    let challenge = inputs::challenge(&inputs::six_pairs());
+    let nl_auth = inputs::nl_auth(18);
+    vec![
+        read_challenge(challenge.clone(), "six pairs"),
+        read_authenticate(message.clone()),
+        read_nl_auth(nl_auth.clone()),
+        line_of_challenge(challenge.clone()),
+        line_of_authenticate(message, "a line of 100 bytes"),
+        line_of_nl_auth(nl_auth),
+        find_pair(inputs::six_pairs(), "the last of six pairs"),
+        write(account.clone()),
+        respond(challenge, account),
+    ]
+}
+
+/// The same for longer and longer messages.
+fn growing() -> Vec<Measured> {
+    let mut calls = Vec::new();
+    let mut each = |call: fn(usize) -> Measured| calls.extend(SIZES.map(call));
+    each(|len| read_authenticate(Account::of_message(len).message(FLAGS)));
+    each(|len| {
+        read_challenge(
+            inputs::challenge(&inputs::long_list(len - BEFORE_LIST)),
+            "of pairs",
+        )
+    });
+    each(|len| read_nl_auth(inputs::nl_auth(len)));
+    each(|len| line_of_authenticate(inputs::authenticate_with_name(len), "of a name"));
+    each(|len| line_of_challenge(inputs::challenge(&inputs::long_list(len - BEFORE_LIST))));
+    each(|len| line_of_nl_auth(inputs::nl_auth(len)));
+    each(|len| find_pair(inputs::long_list(len), "the last pair"));
+    each(|len| write(Account::of_message(len)));
+    each(|len| {
+        let list = inputs::long_list(len - BEFORE_LIST);
+        respond(inputs::challenge(&list), Account::usual())
+    });
+    calls
+}
+
+fn bytes(message: &[u8]) -> String {
+    format!("({} bytes)", message.len())
+}
+
+fn read_authenticate(message: Vec<u8>) -> Measured {
+    let other = message.clone();
+    let (mut numbers, mut mic) = ([0; raw::AUTHENTICATE_NUMBERS], [0; 16]);
+    Measured {
+        name: "read_authenticate",
+        on: bytes(&message),
+        proved: repeat!(raw::read_authenticate(
+            black_box(&message),
+            &mut numbers,
+            &mut mic
+        )),
+        second: repeat!(Authenticate::read(black_box(&other))),
+    }
+}
+
+fn read_challenge(message: Vec<u8>, what: &str) -> Measured {
+    let other = message.clone();
+    let (mut numbers, mut server_challenge) = ([0; raw::CHALLENGE_NUMBERS], [0; 8]);
+    Measured {
+        name: "read_challenge",
+        on: format!("{what} {}", bytes(&message)),
+        proved: repeat!(raw::read_challenge(
+            black_box(&message),
+            &mut numbers,
+            &mut server_challenge
+        )),
+        second: repeat!(Challenge::read(black_box(&other))),
+    }
+}
+
+fn read_nl_auth(message: Vec<u8>) -> Measured {
+    let other = message.clone();
+    let mut numbers = [0; raw::NL_AUTH_NUMBERS];
+    Measured {
+        name: "read_nl_auth",
+        on: bytes(&message),
+        proved: repeat!(raw::read_nl_auth(black_box(&message), &mut numbers)),
+        second: repeat!(NlAuth::read(black_box(&other))),
+    }
+}
+
+/// Room for any line here.
+fn room() -> Vec<u8> {
+    vec![0; 66_000]
+}
+
+fn line_of_authenticate(message: Vec<u8>, what: &str) -> Measured {
+    let on = format!("{what} {}", bytes(&message));
+    line(
+        "authenticate_line",
+        on,
+        raw::authenticate_line,
+        authenticate_line,
+        message,
+    )
+}
+
+fn line_of_challenge(message: Vec<u8>) -> Measured {
+    line(
+        "challenge_line",
+        bytes(&message),
+        raw::challenge_line,
+        challenge_line,
+        message,
+    )
+}
+
+fn line_of_nl_auth(message: Vec<u8>) -> Measured {
+    line(
+        "nl_auth_line",
+        bytes(&message),
+        raw::nl_auth_line,
+        nl_auth_line,
+        message,
+    )
+}
+
+fn line(
+    name: &'static str,
+    on: String,
+    proved: impl Fn(&[u8], &mut [u8]) -> u64 + 'static,
+    second: impl Fn(&[u8], &mut [u8]) -> Result<usize, Refusal> + 'static,
+    message: Vec<u8>,
+) -> Measured {
+    let other = message.clone();
+    let (mut out, mut other_out) = (room(), room());
+    Measured {
+        name,
+        on,
+        proved: repeat!(proved(black_box(&message), &mut out)),
+        second: repeat!(second(black_box(&other), &mut other_out)),
+    }
+}
+
+fn find_pair(list: Vec<u8>, what: &str) -> Measured {
+    let other = list.clone();
+    let mut numbers = [0; raw::FOUND_NUMBERS];
+    Measured {
+        name: "find_pair",
+        on: format!("{what} {}", bytes(&list)),
+        proved: repeat!(raw::find_pair(black_box(&list), TIMESTAMP, &mut numbers)),
+        second: repeat!(TargetInfo(black_box(&other)).find(AvId(TIMESTAMP))),
+    }
+}
+
+/// The library's parts of an account.
+fn lent(account: &Account) -> raw::Parts<'_> {
+    let parts = account.parts(FLAGS);
+    raw::Parts {
+        version: parts.version,
+        mic: parts.mic,
+        lm: parts.lm,
+        nt: parts.nt,
+        domain: parts.domain,
+        user: parts.user,
+        workstation: parts.workstation,
+        key: parts.key,
+    }
+}
+
+fn write(account: Account) -> Measured {
+    let other = account.clone();
+    let (mut out, mut other_out) = (room(), room());
+    Measured {
+        name: "write_authenticate",
+        on: bytes(&account.message(FLAGS)),
+        proved: repeat!(raw::write_authenticate(
+            &mut out,
+            FLAGS,
+            black_box(&lent(&account))
+        )),
+        second: repeat!(write_authenticate(
+            black_box(&other.parts(FLAGS)),
+            &mut other_out
+        )),
+    }
+}
+
+fn respond(challenge: Vec<u8>, account: Account) -> Measured {
+    let (other, other_account) = (challenge.clone(), account.clone());
+    let (mut out, mut other_out) = (room(), room());
+    let mut numbers = [0; raw::RESPONSE_NUMBERS];
+    Measured {
+        name: "respond_for_bench",
+        on: bytes(&challenge),
+        proved: repeat!(raw::respond_for_bench(
+            &mut out,
+            black_box(&challenge),
+            1,
+            black_box(&lent(&account)),
+            &mut numbers
+        )),
+        second: repeat!({
+            let parts = black_box(other_account.parts(FLAGS));
+            let secrets = Secrets {
+                lm: parts.lm,
+                nt: parts.nt,
+                key: parts.key,
+                mic: parts.mic,
+            };
+            let account = reader::Account {
+                version: parts.version,
+                domain: parts.domain,
+                user: parts.user,
+                workstation: parts.workstation,
+            };
+            answer_for_bench(black_box(&other), &account, 1, &secrets, &mut other_out)
+        }),
+    }
+}
+
+#[cfg(test)]
+mod tests {
+    use super::*;
+    use reader::NegotiateFlags;
+
+    /// Both sides are given messages that they take, of the sizes that are
+    /// printed.
+    #[test]
+    fn the_inputs_are_what_they_are_called() {
+        let message = Account::usual().message(FLAGS);
+        let mut out = room();
+        assert_eq!(authenticate_line(&message, &mut out), Ok(100));
+        let challenge = Challenge::read(&inputs::challenge(&inputs::six_pairs()))
+            .map(|challenge| (challenge.flags, challenge.pairs.pairs));
+        assert_eq!(challenge, Ok((NegotiateFlags(FLAGS), 6)));
+        for len in SIZES {
+            let list = inputs::long_list(len - BEFORE_LIST);
+            let challenge = inputs::challenge(&list);
+            assert_eq!(challenge.len(), len);
+            assert!(Challenge::read(&challenge).is_ok());
+            assert_eq!(inputs::nl_auth(len).len(), len);
+            assert!(NlAuth::read(&inputs::nl_auth(len)).is_ok());
+            assert_eq!(inputs::authenticate_with_name(len).len(), len);
+        }
+    }
+}

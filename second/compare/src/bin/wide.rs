@@ -1,0 +1,111 @@
+//! Holds every call of the proved library, linked in, against the reader.
+
+use std::env;
+use std::io;
+use std::path::Path;
+use std::process::ExitCode;
+
+use compare::command::{fail, finish, seed_and_count, NOT_NUMBERS};
+use compare::wide::call::{Call, Line, Parts, Respond};
+use compare::wide::run;
+use depot::folder::Folder;
+use dialtable::raw;
+
+const USAGE: &str = "usage: wide MESSAGES SEED N";
+
+fn main() -> ExitCode {
+    let args: Vec<_> = env::args_os().skip(1).collect();
+    let [folder, seed, drawn] = args.as_slice() else {
+        return fail(2, &USAGE);
+    };
+    let Some((seed, drawn)) = seed_and_count(seed, drawn) else {
+        return fail(2, &NOT_NUMBERS);
+    };
+    let captured = match messages(Path::new(folder)) {
+        Ok(captured) => captured,
+        Err(error) => return fail(1, &error),
+    };
+    let report = run(library, seed, drawn, &captured, &mut io::stderr());
+    finish(|mut out| report.print(&mut out))
+}
+
+/// The messages of a folder, as the depot bench reads them.
+fn messages(folder: &Path) -> Result<Vec<Vec<u8>>, String> {
+    let folder = Folder::list(folder).map_err(|error| error.to_string())?;
+    let read = folder.messages.iter().map(|file| match file.read() {
+        Ok((_, message)) => Ok(message),
+        Err(error) => Err(format!("{}: {error}", file.name)),
+    });
+    read.collect()
+}
+
+/// A call of the library.
+fn library(call: &Call<'_>, out: &mut [u8], numbers: &mut [u64]) -> u64 {
+    match *call {
+        Call::ReadAuthenticate { message } => raw::read_authenticate(message, numbers, out),
+        Call::ReadChallenge { message } => raw::read_challenge(message, numbers, out),
+        Call::ReadTimestamp { message } => raw::read_timestamp(message, numbers),
+        Call::ReadServerNames { message } => raw::read_server_names(message, numbers),
+        Call::ReadNlAuth { message } => raw::read_nl_auth(message, numbers),
+        Call::FieldBytes {
+            message,
+            offset,
+            len,
+        } => raw::field_bytes(message, offset, len, out),
+        Call::CheckPairs { list } => raw::check_pairs(list),
+        Call::CountPairs { list } => raw::count_pairs(list, numbers),
+        Call::FindPair { list, id } => raw::find_pair(list, id, numbers),
+        Call::NextPair { list, at } => raw::next_pair(list, at, numbers),
+        Call::Line { line, message } => match line {
+            Line::Authenticate => raw::authenticate_line(message, out),
+            Line::Challenge => raw::challenge_line(message, out),
+            Line::NlAuth => raw::nl_auth_line(message, out),
+            Line::Ntlm => raw::ntlm_line(message, out),
+            Line::NtlmProgram => raw::ntlm_program_line(message, out),
+            Line::NlAuthProgram => raw::nl_auth_program_line(message, out),
+        },
+        Call::WriteAuthenticate { flags, ref parts } => {
+            raw::write_authenticate(out, flags, &lent(parts))
+        }
+        Call::WriteNlAuthRequest { flags, ref strings } => {
+            raw::write_nl_auth_request(out, flags, strings)
+        }
+        Call::WriteNlAuthResponse => raw::write_nl_auth_response(out),
+        Call::Decide {
+            settings,
+            challenge,
+        } => raw::decide(settings, challenge, numbers),
+        Call::DomainToSend { own, challenge } => raw::domain_to_send(own, challenge, out),
+        Call::Respond {
+            how,
+            challenge,
+            clock,
+            ref parts,
+        } => {
+            let parts = &lent(parts);
+            match how {
+                Respond::With { settings } => {
+                    raw::respond(out, challenge, settings, clock, parts, numbers)
+                }
+                Respond::ForBench => raw::respond_for_bench(out, challenge, clock, parts, numbers),
+                Respond::ToOldServer => {
+                    raw::respond_to_old_server(out, challenge, clock, parts, numbers)
+                }
+                Respond::ForRelay => raw::respond_for_relay(out, challenge, clock, parts, numbers),
+            }
+        }
+    }
+}
+
+const fn lent<'a>(parts: &Parts<'a>) -> raw::Parts<'a> {
+    raw::Parts {
+        version: parts.version,
+        mic: parts.mic,
+        lm: parts.lm,
+        nt: parts.nt,
+        domain: parts.domain,
+        user: parts.user,
+        workstation: parts.workstation,
+        key: parts.key,
+    }
+}

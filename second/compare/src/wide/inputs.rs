@@ -1,0 +1,284 @@
+//! What the calls are given: messages drawn and mutated, and what is written.
+
+use crate::names::{name, string};
+use crate::random::Random;
+use crate::wire::{damage, offsets, set_of, FIELD_LENGTHS, LONG, MAX_MESSAGE};
+use crate::wire::{KEY_EXCH, OEM, UNICODE};
+use crate::{authenticate, challenge, nl_auth};
+
+use super::call::Parts;
+
+/// Where heads stand: the six of an AUTHENTICATE, two of them a CHALLENGE's
+/// too, and its TargetInfo.
+const HEADS: [usize; 7] = [12, 20, 28, 36, 44, 52, 40];
+
+/// Where flags stand in each kind of message.
+const FLAGS: [usize; 3] = [4, 20, 60];
+
+/// A message of any kind, sound or damaged, of 0 to 66,000 bytes. `captured`
+/// are sound ones to mutate.
+pub fn message(random: &mut Random, captured: &[Vec<u8>]) -> Vec<u8> {
+    let mut message = match random.below(20) {
+        0..=4 => authenticate::drawn(random),
+        5..=11 => challenge::drawn(random),
+        12..=13 => nl_auth::drawn(random),
+        14..=18 if !captured.is_empty() => {
+            let message = captured[random.below(captured.len())].clone();
+            mutated(random, message)
+        }
+        _ => {
+            let len = random.below(200);
+            random.bytes(len)
+        }
+    };
+    if random.one_in(250) {
+        // Cut off, or with bytes after it that no field covers.
+        let len = if random.one_in(2) {
+            random.pick(&LONG)
+        } else {
+            random.below(66_001)
+        };
+        message.resize(len, random.byte());
+    }
+    message
+}
+
+/// One to three changes: a head's length or offset at a boundary, a flag, or
+/// damage anywhere.
+fn mutated(random: &mut Random, mut message: Vec<u8>) -> Vec<u8> {
+    for _ in 0..random.between(1, 3) {
+        match random.below(4) {
+            0 | 1 => boundary_head(random, &mut message),
+            2 => {
+                let at = random.pick(&FLAGS) + random.below(4);
+                if let Some(byte) = message.get_mut(at) {
+                    *byte ^= 1 << random.below(8);
+                }
+            }
+            _ => damage(random, &mut message),
+        }
+    }
+    message
+}
+
+/// A head's length or offset, or both, at a boundary.
+fn boundary_head(random: &mut Random, message: &mut [u8]) {
+    let total = message.len();
+    let head = random.pick(&HEADS);
+    let Some(bytes) = message.get_mut(head..head + 8) else {
+        return;
+    };
+    let mut len = u16::from_le_bytes([bytes[0], bytes[1]]);
+    let change = random.below(3);
+    if change != 0 {
+        len = boundary_len(random, total);
+        bytes[..2].copy_from_slice(&len.to_le_bytes());
+    }
+    if change != 1 {
+        let offset = boundary_offset(random, len, total);
+        bytes[4..].copy_from_slice(&offset.to_le_bytes());
+    }
+}
+
+/// 0, 1, a fixed part, what the message has, 0xFFFF and others.
+pub fn boundary_len(random: &mut Random, total: usize) -> u16 {
+    let whole = u16::try_from(total).unwrap_or(u16::MAX);
+    match random.below(3) {
+        0 => random.pick(&FIELD_LENGTHS),
+        1 => random.pick(&[
+            48,
+            64,
+            88,
+            whole,
+            whole.wrapping_sub(88),
+            whole.wrapping_add(1),
+        ]),
+        _ => u16::from(random.byte()),
+    }
+}
+
+/// 0, 1, around the fixed parts, around the message's end and 0xFFFFFFFF.
+pub fn boundary_offset(random: &mut Random, len: u16, total: usize) -> u32 {
+    match random.below(3) {
+        0 => random.pick(&[0, 1, 64, 88]),
+        1 => u32::try_from(random.below(total + 2)).expect("an offset"),
+        _ => random.pick(&offsets(len, total)),
+    }
+}
+
+/// A challenge to answer: the message itself where it is one, and mostly a
+/// drawn one where it isn't.
+pub fn challenge(random: &mut Random, message: &[u8]) -> Vec<u8> {
+    let is_challenge = message.get(8..12) == Some(&[2, 0, 0, 0]);
+    if is_challenge || random.one_in(4) {
+        message.to_vec()
+    } else {
+        challenge::drawn(random)
+    }
+}
+
+/// Flags that decide something, mostly with a character set.
+pub fn flags(random: &mut Random) -> u32 {
+    let flags = u32::from_le_bytes(random.array());
+    if random.one_in(16) {
+        flags & !(UNICODE | OEM)
+    } else {
+        flags | random.pick(&[UNICODE, OEM])
+    }
+}
+
+/// The parts of a message to write.
+#[derive(Clone, Debug)]
+pub struct Drawn {
+    version: [u8; 8],
+    mic: [u8; 16],
+    lm: Vec<u8>,
+    nt: Vec<u8>,
+    domain: Vec<u8>,
+    user: Vec<u8>,
+    workstation: Vec<u8>,
+    key: Vec<u8>,
+}
+
+impl Drawn {
+    /// Parts for a message with these flags, mostly such as are accepted.
+    pub fn new(random: &mut Random, flags: u32) -> Self {
+        let set = set_of(flags);
+        let part = |random: &mut Random| {
+            let units = random.pick(&[0, 0, 1, 4, 7, 30]);
+            let mut part = name(random, set, units);
+            if random.one_in(24) {
+                part.push(random.byte());
+            }
+            part
+        };
+        let [domain, user, workstation] = std::array::from_fn(|_| part(random));
+        let secret = |random: &mut Random, lens: &[usize]| {
+            let len = random.pick(lens);
+            random.bytes(len)
+        };
+        let mut drawn = Self {
+            version: random.array(),
+            mic: random.array(),
+            lm: secret(random, &[0, 1, 24, 24, 25]),
+            nt: secret(random, &[0, 16, 24, 52, 220]),
+            domain,
+            user,
+            workstation,
+            key: if flags & KEY_EXCH != 0 {
+                secret(random, &[0, 16, 16, 16, 16, 16, 15, 17, 32])
+            } else {
+                secret(random, &[0, 0, 0, 0, 0, 0, 0, 0, 0, 0, 0, 0, 1, 16])
+            },
+        };
+        if random.one_in(100) {
+            drawn.lengthen(random);
+        }
+        drawn
+    }
+
+    /// Makes the message around 65,535 bytes long, or far longer.
+    fn lengthen(&mut self, random: &mut Random) {
+        let others: usize = self.parts().lengths().iter().sum();
+        let total = random.pick(&LONG).max(88 + others);
+        let more = random.pick(&[total - 88 - others, MAX_MESSAGE, 0x1_0000]);
+        let field = match random.below(5) {
+            0 => &mut self.lm,
+            1 => &mut self.domain,
+            2 => &mut self.user,
+            3 => &mut self.workstation,
+            _ => &mut self.nt,
+        };
+        field.resize(field.len() + more, b'x');
+    }
+
+    pub fn parts(&self) -> Parts<'_> {
+        Parts {
+            version: self.version,
+            mic: self.mic,
+            lm: &self.lm,
+            nt: &self.nt,
+            domain: &self.domain,
+            user: &self.user,
+            workstation: &self.workstation,
+            key: &self.key,
+        }
+    }
+
+    /// LM response, NT response and key of the same lengths, with other bytes.
+    pub fn other_secrets(&self, random: &mut Random) -> [Vec<u8>; 3] {
+        [&self.lm, &self.nt, &self.key].map(|secret| random.bytes(secret.len()))
+    }
+}
+
+impl Parts<'_> {
+    const fn lengths(&self) -> [usize; 6] {
+        [
+            self.lm.len(),
+            self.nt.len(),
+            self.domain.len(),
+            self.user.len(),
+            self.workstation.len(),
+            self.key.len(),
+        ]
+    }
+}
+
+/// Any flags of an NL_AUTH request, mostly with a bit A to E.
+pub fn nl_auth_flags(random: &mut Random) -> u32 {
+    let flags = u32::from_le_bytes(random.array());
+    if random.one_in(30) {
+        flags & !0x1F
+    } else {
+        flags
+    }
+}
+
+/// Five strings for an NL_AUTH request, mostly such as are accepted.
+pub fn strings(random: &mut Random) -> [Vec<u8>; 5] {
+    let mut strings: [Vec<u8>; 5] = std::array::from_fn(|_| {
+        let len = random.pick(&[0, 1, 4, 9, 20]);
+        let mut text = string(random, len);
+        if random.one_in(20) {
+            let at = random.below(len + 1);
+            text.insert(at, 0);
+        }
+        text
+    });
+    if random.one_in(100) {
+        let total: usize = strings.iter().map(Vec::len).sum();
+        let chosen = random.below(5);
+        let len = strings[chosen].len() + random.pick(&LONG) - 8 - random.below(6) - total;
+        strings[chosen].resize(len, b'y');
+    }
+    strings
+}
+
+/// A pair list: the TargetInfo of `message` as its head has it, the message
+/// itself, or a drawn one.
+pub fn list(random: &mut Random, message: &[u8]) -> Vec<u8> {
+    match random.below(16) {
+        0 => message.to_vec(),
+        1..=4 => target_info(message).unwrap_or_default().to_vec(),
+        5 if random.one_in(40) => challenge::long_list(random),
+        _ => challenge::drawn_list(random),
+    }
+}
+
+fn target_info(message: &[u8]) -> Option<&[u8]> {
+    let [len_low, len_high, _, _, offset @ ..] = *message.get(40..)?.first_chunk::<8>()?;
+    let start = usize::try_from(u32::from_le_bytes(offset)).ok()?;
+    let len = usize::from(u16::from_le_bytes([len_low, len_high]));
+    message.get(start..start.checked_add(len)?)
+}
+
+/// Where a walk is asked: the boundaries of the list, and anywhere.
+pub fn places(random: &mut Random, list: &[u8]) -> [usize; 4] {
+    let len = list.len();
+    [
+        random.below(len + 6),
+        random.pick(&[len, len.saturating_sub(4), len.saturating_sub(3), len + 1]),
+        random.pick(&[1, 4, 0xFFFF, 0x1_0000, 0xFFFF_FFFF]),
+        random.pick(&[usize::MAX, usize::MAX - 3, usize::MAX / 2, 1 << 32]),
+    ]
+}

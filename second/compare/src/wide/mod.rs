@@ -1,0 +1,403 @@
+//! Every call of the library held against the second reader, on messages at
+//! every boundary, then on drawn and mutated ones.
+
+pub mod call;
+pub mod hold;
+mod inputs;
+mod second;
+mod secret;
+mod tally;
+
+use std::hint::black_box;
+use std::io::{self, Write};
+use std::time::{Duration, Instant};
+
+use crate::challenge::IDS;
+use crate::random::Random;
+use crate::wire::KEY_EXCH;
+
+use call::{Call, Line, Respond};
+use hold::{Holder, Lent, Library, MOST_NUMBERS};
+use inputs::Drawn;
+use secret::{changeable_places, secret_places};
+
+pub use second::second;
+pub use tally::Tally;
+
+/// How often a long run says how far it is.
+const PROGRESS: Duration = Duration::from_secs(5);
+
+/// How many differences are printed whole.
+const SHOWN: usize = 20;
+
+/// What a run found.
+pub struct Report {
+    seed: u64,
+    cases: usize,
+    failed: usize,
+    tally: Tally,
+    differences: Vec<hold::Difference>,
+    different: usize,
+}
+
+/// Holds the library against the second reader: a case for each message at a
+/// boundary and for each that is `captured`, then `drawn` more, some of them
+/// captured ones with changes.
+pub fn run(
+    library: impl Library,
+    seed: u64,
+    drawn: usize,
+    captured: &[Vec<u8>],
+    progress: &mut impl Write,
+) -> Report {
+    let boundaries = crate::cases(seed, 0).into_iter();
+    let mut given: Vec<Vec<u8>> = boundaries.map(|case| case.message).collect();
+    given.extend_from_slice(captured);
+    run_on(library, seed, given, drawn, captured, progress)
+}
+
+fn run_on(
+    library: impl Library,
+    seed: u64,
+    given: Vec<Vec<u8>>,
+    drawn: usize,
+    captured: &[Vec<u8>],
+    progress: &mut impl Write,
+) -> Report {
+    let cases = given.len() + drawn;
+    let mut given = given.into_iter();
+    let mut random = Random::new(!seed);
+    let mut run = Run {
+        holder: Holder::new(library, &mut random),
+        random,
+    };
+    let mut failed = 0;
+    let mut said = Instant::now();
+    for done in 0..cases {
+        let message = given
+            .next()
+            .unwrap_or_else(|| inputs::message(&mut run.random, captured));
+        let before = run.holder.different;
+        run.case(message);
+        failed += usize::from(run.holder.different > before);
+        if said.elapsed() >= PROGRESS {
+            said = Instant::now();
+            // Where it can't be printed, the run goes on.
+            let _ = writeln!(progress, "{} of {cases} cases", done + 1);
+        }
+    }
+    let Holder {
+        tally,
+        differences,
+        different,
+        ..
+    } = run.holder;
+    Report {
+        seed,
+        cases,
+        failed,
+        tally,
+        differences,
+        different,
+    }
+}
+
+/// Bytes after a message that a reader must not come to.
+const BEYOND: usize = 16;
+
+struct Run<L> {
+    holder: Holder<L>,
+    random: Random,
+}
+
+impl<L: Library> Run<L> {
+    /// Every call on one message, and on what is drawn beside it.
+    fn case(&mut self, mut message: Vec<u8>) {
+        self.holder.stir(&mut self.random);
+        let len = message.len();
+        message.extend(self.random.array::<BEYOND>());
+        let before = message.clone();
+        self.calls(&message[..len]);
+        // The library could write through what it only has to read.
+        if black_box(&message) != &before {
+            self.holder.input_changed(&before[..len]);
+        }
+    }
+
+    fn calls(&mut self, message: &[u8]) {
+        self.readings(message);
+        self.fields(message);
+        let list = inputs::list(&mut self.random, message);
+        self.pairs(&list);
+        self.lines(message);
+        self.writing();
+        let challenge = inputs::challenge(&mut self.random, message);
+        self.answering(&challenge);
+        self.secrets_read(message);
+        self.secrets_answered(&challenge);
+    }
+
+    fn readings(&mut self, message: &[u8]) {
+        for call in [
+            Call::ReadAuthenticate { message },
+            Call::ReadChallenge { message },
+            Call::ReadTimestamp { message },
+            Call::ReadServerNames { message },
+            Call::ReadNlAuth { message },
+        ] {
+            self.hold_arrays(&call);
+        }
+    }
+
+    /// A call that gives arrays, at the room that it needs, at more, and at
+    /// less in one or both.
+    fn hold_arrays(&mut self, call: &Call<'_>) {
+        let (room, numbers) = (call.array().unwrap_or_default(), call.numbers());
+        self.holder.hold(call, Lent { room, numbers });
+        let lent = Lent {
+            room: self.other_room(room),
+            numbers: self.other_room(numbers).min(MOST_NUMBERS),
+        };
+        self.holder.hold(call, lent);
+    }
+
+    /// The room that is needed, one less, none, or some more.
+    fn other_room(&mut self, needed: usize) -> usize {
+        match self.random.below(5) {
+            0 => 0,
+            1 => needed.saturating_sub(1),
+            2 => self.random.below(needed + 1),
+            3 => needed,
+            _ => needed + self.random.between(1, 6),
+        }
+    }
+
+    fn fields(&mut self, message: &[u8]) {
+        for _ in 0..3 {
+            let len = inputs::boundary_len(&mut self.random, message.len());
+            let offset = inputs::boundary_offset(&mut self.random, len, message.len());
+            self.hold_rooms(&Call::FieldBytes {
+                message,
+                offset,
+                len,
+            });
+        }
+    }
+
+    /// A call that writes, at exactly the room that it needs, one less, none,
+    /// less, and more.
+    fn hold_rooms(&mut self, call: &Call<'_>) {
+        let numbers = call.numbers();
+        let rooms = match self.holder.measure(call) {
+            Some(len) => [
+                len,
+                len.saturating_sub(1),
+                0,
+                self.random.below(len + 1),
+                len + self.random.between(1, 64),
+            ],
+            None => [0, 1, self.random.below(100), 150, 300],
+        };
+        for room in rooms {
+            self.holder.hold(call, Lent { room, numbers });
+        }
+        if numbers > 0 {
+            let numbers = self.random.below(numbers);
+            for room in [rooms[0], rooms[4]] {
+                self.holder.hold(call, Lent { room, numbers });
+            }
+        }
+    }
+
+    fn pairs(&mut self, list: &[u8]) {
+        self.hold_arrays(&Call::CheckPairs { list });
+        self.hold_arrays(&Call::CountPairs { list });
+        for id in [0, self.random.pick(&IDS), self.random.pick(&[1, 2, 7])] {
+            self.hold_arrays(&Call::FindPair { list, id });
+        }
+        // The walk from the start, as a caller would ask.
+        let mut walk = reader::TargetInfo(list).walk();
+        for _ in 0..8 {
+            let at = walk.at();
+            self.hold_arrays(&Call::NextPair { list, at });
+            if !matches!(walk.ask(), Ok(Some(_))) {
+                break;
+            }
+        }
+        for at in inputs::places(&mut self.random, list) {
+            self.hold_arrays(&Call::NextPair { list, at });
+        }
+    }
+
+    fn lines(&mut self, message: &[u8]) {
+        for line in Line::ALL {
+            self.hold_rooms(&Call::Line { line, message });
+        }
+        // Around the line of 33, which has 19 bytes.
+        for line in [Line::NtlmProgram, Line::NlAuthProgram] {
+            let room = self.random.between(17, 21);
+            let lent = Lent { room, numbers: 0 };
+            self.holder.hold(&Call::Line { line, message }, lent);
+        }
+    }
+
+    fn writing(&mut self) {
+        let flags = inputs::flags(&mut self.random);
+        let drawn = Drawn::new(&mut self.random, flags);
+        self.hold_rooms(&Call::WriteAuthenticate {
+            flags,
+            parts: drawn.parts(),
+        });
+        let flags = inputs::nl_auth_flags(&mut self.random);
+        let strings = inputs::strings(&mut self.random);
+        self.hold_rooms(&Call::WriteNlAuthRequest {
+            flags,
+            strings: strings.each_ref().map(Vec::as_slice),
+        });
+        self.hold_rooms(&Call::WriteNlAuthResponse);
+    }
+
+    fn answering(&mut self, challenge: &[u8]) {
+        let flags = challenge_flags(challenge);
+        let mut drawn = Drawn::new(&mut self.random, flags);
+        for settings in self.settings() {
+            self.hold_arrays(&Call::Decide {
+                settings,
+                challenge,
+            });
+            self.hold_respond(Respond::With { settings }, challenge, &drawn);
+            drawn = Drawn::new(&mut self.random, flags);
+        }
+        for how in Respond::THIN {
+            self.hold_respond(how, challenge, &drawn);
+        }
+        let parts = drawn.parts();
+        for own in [&[], parts.domain] {
+            self.hold_rooms(&Call::DomainToSend { own, challenge });
+        }
+    }
+
+    /// Two sums of the four settings, one with bits that are ignored.
+    fn settings(&mut self) -> [u32; 2] {
+        let settings = u32::from_le_bytes(self.random.array());
+        [settings & 0xF, settings >> 4]
+    }
+
+    fn hold_respond(&mut self, how: Respond, challenge: &[u8], drawn: &Drawn) {
+        let clock = self.random.bits();
+        self.hold_rooms(&Call::Respond {
+            how,
+            challenge,
+            clock,
+            parts: drawn.parts(),
+        });
+    }
+
+    /// Demand 3: two messages that differ only in secrets get the same answer
+    /// and the same line.
+    fn secrets_read(&mut self, message: &[u8]) {
+        let mut other = message.to_vec();
+        for at in changeable_places(message) {
+            other[at] = self.random.byte();
+        }
+        if other == message {
+            return;
+        }
+        let other = other.as_slice();
+        // All but the MIC's own bytes.
+        let mic = |_: &[u8]| (0..16).collect();
+        let calls = [message, other].map(|message| Call::ReadAuthenticate { message });
+        let lent = Lent {
+            room: 16,
+            numbers: calls[0].numbers(),
+        };
+        self.holder.hold_alike(&calls[0], &calls[1], lent, mic);
+        for line in [Line::Authenticate, Line::Ntlm, Line::NtlmProgram] {
+            // A message of type 2 is read as CHALLENGE, which has no secrets.
+            if line != Line::Authenticate && message[8..12] == [2, 0, 0, 0] {
+                continue;
+            }
+            let calls = [message, other].map(|message| Call::Line { line, message });
+            let len = self.holder.measure(&calls[0]).unwrap_or_default();
+            for room in [len, self.other_room(len)] {
+                let lent = Lent { room, numbers: 0 };
+                self.holder
+                    .hold_alike(&calls[0], &calls[1], lent, |_| Vec::new());
+            }
+        }
+    }
+
+    /// Demand 3: two answers to one challenge, with other secrets of the same
+    /// lengths, are alike outside them.
+    fn secrets_answered(&mut self, challenge: &[u8]) {
+        let drawn = Drawn::new(&mut self.random, challenge_flags(challenge));
+        let others = drawn.other_secrets(&mut self.random);
+        let (clock, mic) = (self.random.bits(), self.random.array());
+        let [settings, _] = self.settings();
+        let thin = self.random.pick(&Respond::THIN);
+        for how in [Respond::With { settings }, thin] {
+            let call = |parts| Call::Respond {
+                how,
+                challenge,
+                clock,
+                parts,
+            };
+            let calls = [
+                call(drawn.parts()),
+                call(drawn.parts().with_secrets(&others, mic)),
+            ];
+            let len = self.holder.measure(&calls[0]).unwrap_or(100);
+            let lent = Lent {
+                room: if self.random.one_in(4) {
+                    self.other_room(len)
+                } else {
+                    len
+                },
+                numbers: calls[0].numbers(),
+            };
+            self.holder
+                .hold_alike(&calls[0], &calls[1], lent, secret_places);
+        }
+    }
+}
+
+/// A challenge's flags, as far as it has any, so that the parts fit it.
+fn challenge_flags(challenge: &[u8]) -> u32 {
+    challenge
+        .get(20..24)
+        .and_then(|bytes| bytes.first_chunk())
+        .map_or(KEY_EXCH, |bytes| u32::from_le_bytes(*bytes))
+}
+
+impl Report {
+    /// Prints the counts, the shortest differences and last 'N passed, M
+    /// failed', and gives M: each case is one test, and each kind of answer
+    /// that was missed is one that failed.
+    pub fn print(&self, out: &mut impl Write) -> io::Result<usize> {
+        let calls = self.tally.calls();
+        writeln!(
+            out,
+            "{} cases from seed {}, {calls} calls held:",
+            self.cases, self.seed
+        )?;
+        write!(out, "{}", self.tally)?;
+        let mut differences: Vec<_> = self.differences.iter().collect();
+        differences.sort_by_key(|difference| difference.size);
+        for difference in differences.iter().take(SHOWN) {
+            writeln!(out, "{}", difference.text)?;
+        }
+        if self.different > SHOWN {
+            writeln!(out, "and {} more that differ", self.different - SHOWN)?;
+        }
+        let not_reached = self.tally.not_reached();
+        for kind in &not_reached {
+            writeln!(out, "NOT REACHED: {kind}")?;
+        }
+        let failed = self.failed + not_reached.len();
+        writeln!(out, "{} passed, {failed} failed", self.cases - self.failed)?;
+        Ok(failed)
+    }
+}
+
+#[cfg(test)]
+mod tests;

@@ -1,0 +1,218 @@
+//! The second reader's answer to each call, in the form of `include/dialtable.h`.
+
+use reader::{
+    answer, answer_for_bench, answer_for_old_servers, answer_for_relay, authenticate_line,
+    challenge_line, domain_to_send, field_bytes, nl_auth_line, ntlm_line, write_authenticate,
+    write_nl_auth_request, write_nl_auth_response, Account, Answer, Authenticate,
+    AuthenticateParts, AvId, Challenge, Field, NegotiateFlags, NlAuth, NlAuthFlags, Policy,
+    Program, Reason, Refusal, Secrets, Settings, TargetInfo,
+};
+
+use super::call::{refused, Call, Line, Parts, Respond};
+
+/// Makes a call: `out` and `numbers` are what is lent for its outputs.
+pub fn second(call: &Call<'_>, out: &mut [u8], numbers: &mut [u64]) -> u64 {
+    match call_of(call, out, numbers) {
+        Ok(answer) => answer as u64,
+        Err(refusal) => refused(refusal.number(), refusal.field),
+    }
+}
+
+fn call_of(call: &Call<'_>, out: &mut [u8], numbers: &mut [u64]) -> Result<usize, Refusal> {
+    // "An array .. that is too short is refused 33, before anything is read."
+    if numbers.len() < call.numbers() || call.array().is_some_and(|len| out.len() < len) {
+        return Err(Reason::NoRoom.of_message());
+    }
+    match *call {
+        Call::ReadAuthenticate { message } => {
+            let read = Authenticate::read(message)?;
+            put_bytes(out, &read.mic_bytes());
+            let head = [u64::from(read.flags.0), u64::from(read.mic.is_some())];
+            put(numbers, &head);
+            let fields = [
+                read.lm,
+                read.nt,
+                read.domain,
+                read.user,
+                read.workstation,
+                read.key,
+            ];
+            put_fields(&mut numbers[2..], &fields);
+            Ok(0)
+        }
+        Call::ReadChallenge { message } => {
+            let read = Challenge::read(message)?;
+            put_bytes(out, &read.server_challenge);
+            put(numbers, &[u64::from(read.flags.0)]);
+            put_fields(&mut numbers[1..], &[read.target_name, read.target_info]);
+            Ok(0)
+        }
+        Call::ReadTimestamp { message } => {
+            put(
+                numbers,
+                &optional(Challenge::read(message)?.pairs.timestamp),
+            );
+            Ok(0)
+        }
+        Call::ReadServerNames { message } => {
+            let pairs = Challenge::read(message)?.pairs;
+            let there = [pairs.computer, pairs.domain].map(|pair| u64::from(pair.is_some()));
+            put(numbers, &there);
+            Ok(0)
+        }
+        Call::ReadNlAuth { message } => {
+            let read = NlAuth::read(message)?;
+            put(
+                numbers,
+                &[read.message_type as u64, u64::from(read.flags.bits())],
+            );
+            put_fields(&mut numbers[2..], &read.strings);
+            Ok(0)
+        }
+        Call::FieldBytes {
+            message,
+            offset,
+            len,
+        } => copy(field_bytes(message, offset, len), out),
+        Call::CheckPairs { list } => TargetInfo(list).count().map(|_| 0),
+        Call::CountPairs { list } => {
+            put(numbers, &[TargetInfo(list).count()? as u64]);
+            Ok(0)
+        }
+        Call::FindPair { list, id } => {
+            let found = TargetInfo(list).find(AvId(id))?;
+            let found = found.map_or([0; 3], |pair| {
+                [1, pair.place as u64, pair.value.len() as u64]
+            });
+            put(numbers, &found);
+            Ok(0)
+        }
+        Call::NextPair { list, at } => {
+            let mut walk = TargetInfo(list).walk_from(at);
+            let pair = walk.ask()?.map_or([0; 4], |pair| {
+                let value = [pair.place, pair.value.len()].map(|number| number as u64);
+                [1, u64::from(pair.id.0), value[0], value[1]]
+            });
+            put(numbers, &pair);
+            put(&mut numbers[4..], &[walk.at() as u64]);
+            Ok(0)
+        }
+        Call::Line { line, message } => match line {
+            Line::Authenticate => authenticate_line(message, out),
+            Line::Challenge => challenge_line(message, out),
+            Line::NlAuth => nl_auth_line(message, out),
+            Line::Ntlm => ntlm_line(message, out),
+            Line::NtlmProgram => Program::Ntlm.write_line(message, out),
+            Line::NlAuthProgram => Program::NlAuth.write_line(message, out),
+        },
+        Call::WriteAuthenticate { flags, parts } => {
+            let parts = AuthenticateParts {
+                flags: NegotiateFlags(flags),
+                version: parts.version,
+                mic: parts.mic,
+                lm: parts.lm,
+                nt: parts.nt,
+                domain: parts.domain,
+                user: parts.user,
+                workstation: parts.workstation,
+                key: parts.key,
+            };
+            write_authenticate(&parts, out)
+        }
+        Call::WriteNlAuthRequest { flags, strings } => {
+            write_nl_auth_request(NlAuthFlags::new(flags), &strings, out)
+        }
+        Call::WriteNlAuthResponse => write_nl_auth_response(out),
+        Call::Decide {
+            settings,
+            challenge,
+        } => {
+            let decided = policy(settings).decide(challenge)?;
+            put(numbers, &[u64::from(decided.flags.0)]);
+            put(&mut numbers[1..], &optional(decided.pairs.timestamp));
+            Ok(0)
+        }
+        Call::DomainToSend { own, challenge } => copy(domain_to_send(own, challenge).bytes(), out),
+        Call::Respond {
+            how,
+            challenge,
+            clock,
+            ref parts,
+        } => {
+            let Answer { len, time, mic_due } = respond(how, challenge, clock, parts, out)?;
+            put(numbers, &[time, u64::from(mic_due)]);
+            Ok(len)
+        }
+    }
+}
+
+fn respond(
+    how: Respond,
+    challenge: &[u8],
+    clock: u64,
+    parts: &Parts<'_>,
+    out: &mut [u8],
+) -> Result<Answer, Refusal> {
+    let account = Account {
+        version: parts.version,
+        domain: parts.domain,
+        user: parts.user,
+        workstation: parts.workstation,
+    };
+    let secrets = &Secrets {
+        lm: parts.lm,
+        nt: parts.nt,
+        key: parts.key,
+        mic: parts.mic,
+    };
+    match how {
+        Respond::With { settings } => {
+            let settings = Settings {
+                policy: policy(settings),
+                account,
+            };
+            answer(challenge, &settings, clock, secrets, out)
+        }
+        Respond::ForBench => answer_for_bench(challenge, &account, clock, secrets, out),
+        Respond::ToOldServer => answer_for_old_servers(challenge, &account, clock, secrets, out),
+        Respond::ForRelay => answer_for_relay(challenge, &account, clock, secrets, out),
+    }
+}
+
+/// "Settings are a sum of these bits; other bits are ignored."
+const fn policy(settings: u32) -> Policy {
+    Policy {
+        require_128: settings & 1 != 0,
+        ntlmv2: settings & 2 != 0,
+        integrity: settings & 4 != 0,
+        confidentiality: settings & 8 != 0,
+    }
+}
+
+fn copy(bytes: &[u8], out: &mut [u8]) -> Result<usize, Refusal> {
+    if out.len() < bytes.len() {
+        return Err(Reason::NoRoom.of_message());
+    }
+    put_bytes(out, bytes);
+    Ok(bytes.len())
+}
+
+fn put_bytes(out: &mut [u8], bytes: &[u8]) {
+    out[..bytes.len()].copy_from_slice(bytes);
+}
+
+fn put(numbers: &mut [u64], values: &[u64]) {
+    numbers[..values.len()].copy_from_slice(values);
+}
+
+/// Each field's offset and length.
+fn put_fields(numbers: &mut [u64], fields: &[Field<'_>]) {
+    for (numbers, field) in numbers.chunks_exact_mut(2).zip(fields) {
+        put(numbers, &[field.place as u64, field.bytes.len() as u64]);
+    }
+}
+
+/// Whether a number is there, and the number or 0.
+fn optional(number: Option<u64>) -> [u64; 2] {
+    [u64::from(number.is_some()), number.unwrap_or_default()]
+}

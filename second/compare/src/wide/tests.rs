@@ -1,0 +1,288 @@
+use std::io::sink;
+
+use super::call::{refusal, refused, Call, Line, Respond, NAMES};
+use super::hold::{Difference, Library};
+use super::{run_on, second, Report};
+
+/// Drawn cases that a planted fault is tried on.
+const TRIED: usize = 400;
+
+fn captured() -> Vec<Vec<u8>> {
+    let files = ["challenge-smbd.bin", "authenticate-smbclient.bin"];
+    let folder = concat!(env!("CARGO_MANIFEST_DIR"), "/../../messages/");
+    let read = |name| std::fs::read(format!("{folder}{name}")).expect("a message");
+    files.map(read).to_vec()
+}
+
+fn report(library: impl Library) -> Report {
+    run_on(library, 5, captured(), TRIED, &captured(), &mut sink())
+}
+
+fn printed(library: impl Library) -> (usize, String) {
+    let mut out = Vec::new();
+    let failed = report(library).print(&mut out).expect("room for the text");
+    (failed, String::from_utf8(out).expect("text"))
+}
+
+#[test]
+fn the_reader_agrees_with_itself_and_reaches_every_call() {
+    let report = report(second);
+    assert_eq!((report.failed, report.different), (0, 0));
+    for missing in report.tally.not_reached() {
+        assert!(!missing.ends_with(" answers"), "{missing}");
+        assert!(!missing.ends_with(" secrets"), "{missing}");
+    }
+    let (_, out) = printed(second);
+    for name in NAMES {
+        assert!(out.contains(&format!("\n  {name} ")), "{name}");
+    }
+    assert!(out.contains(&format!("\n{} passed, ", TRIED + 2)));
+}
+
+#[test]
+fn a_difference_is_printed_whole_and_counted() {
+    let message = b"\x02\0\0\0\0\0\0\0\x5C".to_vec();
+    let library = |call: &Call<'_>, out: &mut [u8], numbers: &mut [u64]| match call {
+        Call::ReadNlAuth { .. } => refused(16, 0),
+        _ => second(call, out, numbers),
+    };
+    let report = run_on(library, 5, vec![message], 0, &[], &mut sink());
+    let mut out = Vec::new();
+    let failed = report.print(&mut out).expect("room for the text");
+    let out = String::from_utf8(out).expect("text");
+    assert!(out.starts_with("1 cases from seed 5, "));
+    let told =
+        "\nDIFFERENT: read_nl_auth message=02000000000000005C\n    lent: 0 bytes, 12 numbers\n    \
+                proved: refused 16 field=0, numbers [";
+    assert!(out.contains(told), "{out}");
+    assert!(out.contains("\n    second: refused 4 field=0, numbers ["));
+    let missed = out.matches("NOT REACHED: ").count();
+    assert_eq!(failed, missed + 1);
+    assert!(out.ends_with(&format!("\n0 passed, {failed} failed\n")));
+}
+
+/// The library with one fault: `fault` is told the call, what it answered and
+/// what was lent, and may change them.
+fn planted(
+    fault: impl Fn(&Call<'_>, u64, &mut [u8], &mut [u64]) -> u64,
+) -> impl Fn(&Call<'_>, &mut [u8], &mut [u64]) -> u64 {
+    move |call, out, numbers| {
+        let answer = second(call, out, numbers);
+        fault(call, answer, out, numbers)
+    }
+}
+
+/// Runs a faulty library: the fault must be found, and told by `what` and the
+/// name of its call.
+fn found(what: &str, name: &str, library: impl Library) {
+    let report = report(library);
+    assert!(report.failed > 0);
+    let start = format!("{what}: {name} ");
+    let told = |difference: &Difference| difference.text.starts_with(&start);
+    assert!(report.differences.iter().any(told), "{start}");
+}
+
+#[test]
+fn a_room_that_is_one_byte_too_strict_is_found() {
+    found("DIFFERENT", "ntlm_line", |call, out, numbers| match call {
+        Call::Line {
+            line: Line::Ntlm, ..
+        } => {
+            let less = out.len().saturating_sub(1);
+            second(call, &mut out[..less], numbers)
+        }
+        _ => second(call, out, numbers),
+    });
+}
+
+#[test]
+fn a_byte_changed_by_a_refusal_is_found() {
+    found(
+        "CHANGED MORE THAN IT WRITES",
+        "respond",
+        planted(|call, answer, out, _| {
+            if let (Call::Respond { .. }, Some((20, _)), Some(byte)) =
+                (call, refusal(answer), out.first_mut())
+            {
+                *byte = !*byte;
+            }
+            answer
+        }),
+    );
+}
+
+#[test]
+fn a_byte_after_the_answer_is_found() {
+    found(
+        "CHANGED MORE THAN IT WRITES",
+        "write_authenticate",
+        planted(|call, answer, out, _| {
+            if let Call::WriteAuthenticate { .. } = call {
+                if let Some(byte) = usize::try_from(answer).ok().and_then(|at| out.get_mut(at)) {
+                    *byte = !*byte;
+                }
+            }
+            answer
+        }),
+    );
+}
+
+#[test]
+fn a_number_after_the_answer_is_found() {
+    found(
+        "CHANGED MORE THAN IT WRITES",
+        "find_pair",
+        planted(|call, answer, _, numbers| {
+            if let (Call::FindPair { .. }, Some(number)) = (call, numbers.get_mut(3)) {
+                *number = 0;
+            }
+            answer
+        }),
+    );
+}
+
+#[test]
+fn another_field_of_a_refusal_is_found() {
+    found(
+        "DIFFERENT",
+        "read_authenticate",
+        planted(|call, answer, _, _| match (call, refusal(answer)) {
+            (Call::ReadAuthenticate { .. }, Some((6, 4))) => refused(6, 3),
+            _ => answer,
+        }),
+    );
+}
+
+#[test]
+fn a_short_array_that_is_read_for_is_found() {
+    found(
+        "DIFFERENT",
+        "read_challenge",
+        |call, out, numbers| match call {
+            Call::ReadChallenge { .. } if numbers.len() < 5 => {
+                let answer = second(call, &mut [0; 8], &mut [0; 5]);
+                if refusal(answer).is_some() {
+                    answer
+                } else {
+                    refused(33, 0)
+                }
+            }
+            _ => second(call, out, numbers),
+        },
+    );
+}
+
+#[test]
+fn time_from_the_clock_is_found() {
+    found(
+        "DIFFERENT",
+        "respond_for_relay",
+        planted(|call, answer, _, numbers| {
+            if let Call::Respond {
+                how: Respond::ForRelay,
+                clock,
+                ..
+            } = call
+            {
+                if refusal(answer).is_none() {
+                    numbers[0] = *clock;
+                }
+            }
+            answer
+        }),
+    );
+}
+
+/// The library with other inputs in some calls.
+fn other_call(
+    change: impl for<'a> Fn(Call<'a>) -> Call<'a>,
+) -> impl Fn(&Call<'_>, &mut [u8], &mut [u64]) -> u64 {
+    move |call, out, numbers| second(&change(*call), out, numbers)
+}
+
+#[test]
+fn a_mic_that_is_not_due_is_found() {
+    // Written through, whatever the challenge has.
+    found(
+        "DIFFERENT",
+        "respond",
+        planted(|call, answer, out, numbers| {
+            if let Call::Respond { parts, .. } = call {
+                if refusal(answer).is_none() && numbers[1] == 0 {
+                    out[72..88].copy_from_slice(&parts.mic);
+                }
+            }
+            answer
+        }),
+    );
+}
+
+#[test]
+fn settings_that_are_left_out_are_found() {
+    found(
+        "DIFFERENT",
+        "decide",
+        other_call(|call| match call {
+            Call::Decide {
+                settings,
+                challenge,
+            } => Call::Decide {
+                settings: settings & !8,
+                challenge,
+            },
+            call => call,
+        }),
+    );
+}
+
+#[test]
+fn a_line_that_shows_a_secret_is_found_without_the_reader() {
+    let leaks = planted(|call, answer, out, _| {
+        if let Call::Line {
+            line: Line::Authenticate,
+            message,
+        } = call
+        {
+            if let (None, Some(last), Some(byte)) =
+                (refusal(answer), message.last(), out.last_mut())
+            {
+                *byte = *last;
+            }
+        }
+        answer
+    });
+    found("SECRETS TELL", "authenticate_line", leaks);
+}
+
+#[test]
+fn a_refusal_by_a_secret_is_found_without_the_reader() {
+    let leaks = planted(|call, answer, _, _| match call {
+        Call::Respond { parts, .. } if parts.key.first().is_some_and(|&byte| byte > 0x80) => {
+            refused(32, 6)
+        }
+        _ => answer,
+    });
+    found("SECRETS TELL", "respond", leaks);
+}
+
+#[test]
+fn a_byte_read_past_the_message_is_found() {
+    let past = |call: &Call<'_>, out: &mut [u8], numbers: &mut [u64]| match *call {
+        // The message as if it were longer by what follows it in memory.
+        Call::Line {
+            line: Line::Challenge,
+            message,
+        } if message.len() == 47 => {
+            let longer = [message, &[0]].concat();
+            let call = Call::Line {
+                line: Line::Challenge,
+                message: &longer,
+            };
+            second(&call, out, numbers)
+        }
+        _ => second(call, out, numbers),
+    };
+    let short = captured()[0][..47].to_vec();
+    let report = run_on(past, 5, vec![short], 0, &[], &mut sink());
+    assert_eq!(report.failed, 1);
+}

@@ -1,0 +1,510 @@
+/*
+ * The C interface as a C programmer uses it: every call of dialtable.h, and every named place of its arrays.
+ * dialtable_test P1 CHALLENGE NO_TIMESTAMP, three message files. The last line is 'N passed, M failed'.
+ */
+#include <stdio.h>
+#include <stdlib.h>
+#include <string.h>
+
+#include "dialtable.h"
+
+static int passed, failed;
+
+static void check(int holds, int line, const char *what)
+{
+    if (holds) {
+        passed++;
+    } else {
+        failed++;
+        printf("%s:%d: failed: %s\n", __FILE__, line, what);
+    }
+}
+
+#define CHECK(claim) check((claim) != 0, __LINE__, #claim)
+/* A number that isn't the one that was expected is printed. */
+#define EQUAL(got, expected) equal((uint64_t)(got), (uint64_t)(expected), __LINE__, #got)
+
+static void equal(uint64_t got, uint64_t expected, int line, const char *what)
+{
+    check(got == expected, line, what);
+    if (got != expected)
+        printf("    got %lx, expected %lx\n", (unsigned long)got, (unsigned long)expected);
+}
+
+static int refused(uint64_t answer, unsigned number, unsigned field)
+{
+    return DIALTABLE_IS_REFUSED(answer) && DIALTABLE_NUMBER(answer) == number && DIALTABLE_FIELD(answer) == field;
+}
+
+/* Whether all of these bytes are the byte that every output is filled with first. */
+#define FILL 0xEE
+static int untouched(const uint8_t *bytes, size_t len)
+{
+    while (len > 0)
+        if (bytes[--len] != FILL)
+            return 0;
+    return 1;
+}
+
+typedef struct {
+    uint8_t bytes[1024];
+    size_t len;
+} message_t;
+
+static void read_file(const char *path, message_t *message)
+{
+    FILE *file = fopen(path, "rb");
+    if (file == NULL) {
+        printf("%s can't be opened: give the path of a message\n0 passed, 1 failed\n", path);
+        exit(1);
+    }
+    message->len = fread(message->bytes, 1, sizeof message->bytes, file);
+    fclose(file);
+}
+
+static const char p1_line[] =
+    "auth flags=00000201 set=U domain= user=box7 work= lm=0 nt=24 key=0 mic=1 kind=v1\n";
+static const uint8_t box7[] = {'b', 0, 'o', 0, 'x', 0, '7', 0};
+static const uint8_t p12[] = {0, 0, 0, 0, 1, 0, 0, 0, 'L', 'I', 'N', 'E', 0};
+
+#define CHALLENGE_TIME 0x01DD750F3F7F2C5Cu
+#define CLOCK 0x0123456789ABCDEFu
+
+/* P1 is read, and every number of it has its place. */
+static void reads_authenticate(const message_t *p1)
+{
+    uint64_t numbers[DIALTABLE_AUTHENTICATE_NUMBERS + 1];
+    uint8_t mic[17], zeros[16] = {0}, name[9];
+
+    numbers[DIALTABLE_AUTHENTICATE_NUMBERS] = 77;
+    memset(mic, FILL, sizeof mic);
+    EQUAL(p1->len, 120);
+    EQUAL(dialtable_read_authenticate(p1->bytes, p1->len, numbers, DIALTABLE_AUTHENTICATE_NUMBERS, mic, 16), 0);
+    EQUAL(DIALTABLE_AUTHENTICATE_NUMBERS, 14);
+    EQUAL(numbers[DIALTABLE_AUTHENTICATE_FLAGS], 0x201);
+    EQUAL(numbers[DIALTABLE_AUTHENTICATE_MIC_PRESENT], 1);
+    EQUAL(numbers[DIALTABLE_AUTHENTICATE_LM_OFFSET], 0);
+    EQUAL(numbers[DIALTABLE_AUTHENTICATE_LM_LEN], 0);
+    EQUAL(numbers[DIALTABLE_AUTHENTICATE_NT_OFFSET], 96);
+    EQUAL(numbers[DIALTABLE_AUTHENTICATE_NT_LEN], 24);
+    EQUAL(numbers[DIALTABLE_AUTHENTICATE_DOMAIN_OFFSET], 0);
+    EQUAL(numbers[DIALTABLE_AUTHENTICATE_DOMAIN_LEN], 0);
+    EQUAL(numbers[DIALTABLE_AUTHENTICATE_USER_OFFSET], 88);
+    EQUAL(numbers[DIALTABLE_AUTHENTICATE_USER_LEN], 8);
+    EQUAL(numbers[DIALTABLE_AUTHENTICATE_WORKSTATION_OFFSET], 0);
+    EQUAL(numbers[DIALTABLE_AUTHENTICATE_WORKSTATION_LEN], 0);
+    EQUAL(numbers[DIALTABLE_AUTHENTICATE_KEY_OFFSET], 0);
+    EQUAL(numbers[DIALTABLE_AUTHENTICATE_KEY_LEN], 0);
+    EQUAL(numbers[DIALTABLE_AUTHENTICATE_NUMBERS], 77);
+    CHECK(memcmp(mic, zeros, 16) == 0);
+    EQUAL(mic[16], FILL);
+
+    memset(name, FILL, sizeof name);
+    EQUAL(dialtable_field_bytes(p1->bytes, p1->len, (uint32_t)numbers[DIALTABLE_AUTHENTICATE_USER_OFFSET],
+                                (uint16_t)numbers[DIALTABLE_AUTHENTICATE_USER_LEN], name, sizeof name), 8);
+    CHECK(memcmp(name, box7, 8) == 0);
+    EQUAL(name[8], FILL);
+    CHECK(refused(dialtable_field_bytes(p1->bytes, p1->len, 88, 8, name, 7), 33, 0));
+    EQUAL(dialtable_field_bytes(p1->bytes, p1->len, 0xFFFFFFFFu, 2, NULL, 0), 0);
+}
+
+/* Refusals, and arrays that are too short: nothing changes. */
+static void refuses(const message_t *p1)
+{
+    uint64_t numbers[DIALTABLE_AUTHENTICATE_NUMBERS] = {7};
+    uint8_t mic[16];
+    message_t other = *p1;
+
+    memset(mic, FILL, sizeof mic);
+    CHECK(refused(dialtable_read_authenticate(NULL, 0, numbers, 14, mic, 16), 2, 0));
+    CHECK(refused(dialtable_read_authenticate(NULL, 0, numbers, 13, mic, 16), 33, 0));
+    CHECK(refused(dialtable_read_authenticate(p1->bytes, p1->len, numbers, 14, mic, 15), 33, 0));
+    CHECK(refused(dialtable_read_authenticate(p1->bytes, p1->len, NULL, 0, NULL, 0), 33, 0));
+    other.bytes[40] = 113;
+    CHECK(refused(dialtable_read_authenticate(other.bytes, other.len, numbers, 14, mic, 16), 6, 4));
+    other.bytes[40] = 112;
+    CHECK(refused(dialtable_read_authenticate(other.bytes, other.len, numbers, 14, mic, 16), 9, 4));
+    EQUAL(numbers[0], 7);
+    CHECK(untouched(mic, sizeof mic));
+}
+
+static void reads_challenge(const message_t *challenge)
+{
+    static const uint8_t expected[8] = {0x04, 0xDF, 0xF4, 0x36, 0x3C, 0xBB, 0x53, 0x2E};
+    uint64_t numbers[DIALTABLE_CHALLENGE_NUMBERS];
+    uint8_t server_challenge[9];
+
+    memset(server_challenge, FILL, sizeof server_challenge);
+    EQUAL(dialtable_read_challenge(challenge->bytes, challenge->len, numbers, DIALTABLE_CHALLENGE_NUMBERS,
+                                   server_challenge, 8), 0);
+    EQUAL(DIALTABLE_CHALLENGE_NUMBERS, 5);
+    EQUAL(numbers[DIALTABLE_CHALLENGE_FLAGS], 0x628A8215u);
+    EQUAL(numbers[DIALTABLE_CHALLENGE_TARGET_NAME_OFFSET], 56);
+    EQUAL(numbers[DIALTABLE_CHALLENGE_TARGET_NAME_LEN], 14);
+    EQUAL(numbers[DIALTABLE_CHALLENGE_TARGET_INFO_OFFSET], 70);
+    EQUAL(numbers[DIALTABLE_CHALLENGE_TARGET_INFO_LEN], 64);
+    CHECK(memcmp(server_challenge, expected, 8) == 0);
+    EQUAL(server_challenge[8], FILL);
+
+    EQUAL(dialtable_read_timestamp(challenge->bytes, challenge->len, numbers, DIALTABLE_TIMESTAMP_NUMBERS), 0);
+    EQUAL(DIALTABLE_TIMESTAMP_NUMBERS, 2);
+    EQUAL(numbers[DIALTABLE_TIMESTAMP_THERE], 1);
+    EQUAL(numbers[DIALTABLE_TIMESTAMP_TIME], CHALLENGE_TIME);
+
+    EQUAL(dialtable_read_server_names(challenge->bytes, challenge->len, numbers, DIALTABLE_SERVER_NAMES_NUMBERS), 0);
+    EQUAL(DIALTABLE_SERVER_NAMES_NUMBERS, 2);
+    EQUAL(numbers[DIALTABLE_SERVER_NAMES_NB_COMPUTER], 1);
+    EQUAL(numbers[DIALTABLE_SERVER_NAMES_NB_DOMAIN], 1);
+    /* Pair 1 becomes an unknown one. */
+    {
+        message_t other = *challenge;
+        other.bytes[88] = 0x7F;
+        EQUAL(dialtable_read_server_names(other.bytes, other.len, numbers, DIALTABLE_SERVER_NAMES_NUMBERS), 0);
+        EQUAL(numbers[DIALTABLE_SERVER_NAMES_NB_COMPUTER], 0);
+        EQUAL(numbers[DIALTABLE_SERVER_NAMES_NB_DOMAIN], 1);
+    }
+}
+
+static void reads_nl_auth(void)
+{
+    /* Every string has its own length: a to e, of 1 to 5 bytes. */
+    static const uint8_t five[] = "\0\0\0\0\x1F\0\0\0" "a\0" "bb\0" "ccc\0" "dddd\0" "eeeee";
+    static const uint8_t response[] = {1, 0, 0, 0, 0xFF, 0, 0, 0, 0};
+    uint64_t numbers[DIALTABLE_NL_AUTH_NUMBERS];
+
+    EQUAL(dialtable_read_nl_auth(five, sizeof five, numbers, DIALTABLE_NL_AUTH_NUMBERS), 0);
+    EQUAL(DIALTABLE_NL_AUTH_NUMBERS, 12);
+    EQUAL(numbers[DIALTABLE_NL_AUTH_TYPE], 0);
+    EQUAL(numbers[DIALTABLE_NL_AUTH_FLAGS], 0x1F);
+    EQUAL(numbers[DIALTABLE_NL_AUTH_A_OFFSET], 8);
+    EQUAL(numbers[DIALTABLE_NL_AUTH_A_LEN], 1);
+    EQUAL(numbers[DIALTABLE_NL_AUTH_B_OFFSET], 10);
+    EQUAL(numbers[DIALTABLE_NL_AUTH_B_LEN], 2);
+    EQUAL(numbers[DIALTABLE_NL_AUTH_C_OFFSET], 13);
+    EQUAL(numbers[DIALTABLE_NL_AUTH_C_LEN], 3);
+    EQUAL(numbers[DIALTABLE_NL_AUTH_D_OFFSET], 17);
+    EQUAL(numbers[DIALTABLE_NL_AUTH_D_LEN], 4);
+    EQUAL(numbers[DIALTABLE_NL_AUTH_E_OFFSET], 22);
+    EQUAL(numbers[DIALTABLE_NL_AUTH_E_LEN], 5);
+    EQUAL(dialtable_read_nl_auth(response, sizeof response, numbers, DIALTABLE_NL_AUTH_NUMBERS), 0);
+    EQUAL(numbers[DIALTABLE_NL_AUTH_TYPE], 1);
+    EQUAL(numbers[DIALTABLE_NL_AUTH_FLAGS], 0);
+    EQUAL(numbers[DIALTABLE_NL_AUTH_E_LEN], 0);
+    CHECK(refused(dialtable_read_nl_auth(p12, sizeof p12 - 1, numbers, DIALTABLE_NL_AUTH_NUMBERS), 15, 1));
+}
+
+/* TargetInfo stands at 70 of the challenge and has five pairs. */
+static void reads_pairs(const message_t *challenge)
+{
+    static const uint8_t cut[] = {0, 0, 0}, past[] = {1, 0, 6, 0, 0x41, 0}, after[] = {0, 0, 0, 0, 0},
+                         size[] = {6, 0, 2, 0, 0, 0, 0, 0, 0, 0};
+    static const unsigned ids[] = {2, 1, 4, 3, 7};
+    const uint8_t *list = challenge->bytes + 70;
+    uint64_t numbers[DIALTABLE_NEXT_NUMBERS];
+    size_t at = 0, pair;
+
+    EQUAL(dialtable_check_pairs(list, 64), 0);
+    EQUAL(dialtable_check_pairs(NULL, 0), 0);
+    CHECK(refused(dialtable_check_pairs(cut, sizeof cut), 11, 2));
+    CHECK(refused(dialtable_check_pairs(past, sizeof past), 10, 2));
+    CHECK(refused(dialtable_check_pairs(after, sizeof after), 12, 2));
+    CHECK(refused(dialtable_check_pairs(size, sizeof size), 13, 2));
+    EQUAL(dialtable_count_pairs(list, 64, numbers, 1), 0);
+    EQUAL(numbers[0], 5);
+
+    EQUAL(dialtable_find_pair(list, 64, 7, numbers, DIALTABLE_FOUND_NUMBERS), 0);
+    EQUAL(DIALTABLE_FOUND_NUMBERS, 3);
+    EQUAL(numbers[DIALTABLE_FOUND_THERE], 1);
+    EQUAL(numbers[DIALTABLE_FOUND_PLACE], 52);
+    EQUAL(numbers[DIALTABLE_FOUND_LEN], 8);
+    EQUAL(dialtable_find_pair(list, 64, 9, numbers, DIALTABLE_FOUND_NUMBERS), 0);
+    EQUAL(numbers[DIALTABLE_FOUND_THERE], 0);
+    EQUAL(numbers[DIALTABLE_FOUND_PLACE], 0);
+    EQUAL(numbers[DIALTABLE_FOUND_LEN], 0);
+
+    EQUAL(DIALTABLE_NEXT_NUMBERS, 5);
+    for (pair = 0; pair < 5; pair++) {
+        EQUAL(dialtable_next_pair(list, 64, at, numbers, DIALTABLE_NEXT_NUMBERS), 0);
+        EQUAL(numbers[DIALTABLE_NEXT_THERE], 1);
+        EQUAL(numbers[DIALTABLE_NEXT_ID], ids[pair]);
+        EQUAL(numbers[DIALTABLE_NEXT_PLACE], at + 4);
+        EQUAL(numbers[DIALTABLE_NEXT_AT], at + 4 + numbers[DIALTABLE_NEXT_LEN]);
+        at = (size_t)numbers[DIALTABLE_NEXT_AT];
+    }
+    EQUAL(numbers[DIALTABLE_NEXT_LEN], 8);
+    EQUAL(at, 60);
+    EQUAL(dialtable_next_pair(list, 64, at, numbers, DIALTABLE_NEXT_NUMBERS), 0);
+    EQUAL(numbers[DIALTABLE_NEXT_THERE], 0);
+    EQUAL(numbers[DIALTABLE_NEXT_ID], 0);
+    EQUAL(numbers[DIALTABLE_NEXT_PLACE], 0);
+    EQUAL(numbers[DIALTABLE_NEXT_LEN], 0);
+    EQUAL(numbers[DIALTABLE_NEXT_AT], 60);
+    CHECK(refused(dialtable_next_pair(list, 64, 61, numbers, DIALTABLE_NEXT_NUMBERS), 11, 2));
+}
+
+typedef uint64_t line_call(const uint8_t *msg, size_t msg_len, uint8_t *out, size_t out_len);
+
+/* The line at exactly its room, with bytes after it, and with one byte less. */
+static void has_line(line_call *call, const uint8_t *msg, size_t msg_len, const char *expected)
+{
+    uint8_t out[256];
+    size_t len = strlen(expected);
+
+    memset(out, FILL, sizeof out);
+    EQUAL(call(msg, msg_len, out, len), len);
+    CHECK(memcmp(out, expected, len) == 0);
+    CHECK(untouched(out + len, sizeof out - len));
+    memset(out, FILL, sizeof out);
+    CHECK(refused(call(msg, msg_len, out, len - 1), 33, 0) || memcmp(out, "refused 33 field=0\n", 19) == 0);
+    CHECK(untouched(out + len - 1, sizeof out - len + 1));
+}
+
+static void prints_lines(const message_t *p1, const message_t *challenge)
+{
+    static const char chal[] = "chal flags=628A8215 set=U target=PEERSRV pairs=5 time=01DD750F3F7F2C5C\n";
+    static const char nl[] = "nl type=0 flags=00000001 a=LINE\n";
+    uint8_t out[256];
+
+    has_line(dialtable_authenticate_line, p1->bytes, p1->len, p1_line);
+    has_line(dialtable_ntlm_line, p1->bytes, p1->len, p1_line);
+    has_line(dialtable_ntlm_program_line, p1->bytes, p1->len, p1_line);
+    has_line(dialtable_challenge_line, challenge->bytes, challenge->len, chal);
+    has_line(dialtable_ntlm_line, challenge->bytes, challenge->len, chal);
+    has_line(dialtable_nl_auth_line, p12, sizeof p12, nl);
+    has_line(dialtable_nl_auth_program_line, p12, sizeof p12, nl);
+    has_line(dialtable_authenticate_line, NULL, 0, "refused 2 field=0\n");
+    has_line(dialtable_challenge_line, p1->bytes, p1->len, "refused 4 field=0\n");
+    EQUAL(dialtable_ntlm_program_line(p1->bytes, p1->len, out, 19), 19);
+    CHECK(memcmp(out, "refused 33 field=0\n", 19) == 0);
+    CHECK(refused(dialtable_ntlm_program_line(p1->bytes, p1->len, out, 18), 33, 0));
+
+    /* The main job: what a log would have. */
+    EQUAL(dialtable_ntlm_line(p1->bytes, p1->len, out, sizeof out), strlen(p1_line));
+    fwrite(out, 1, strlen(p1_line), stdout);
+}
+
+static const uint8_t version[8] = {10, 0, 0x61, 0x4A, 0, 0, 0, 15};
+static const uint8_t mic[16] = {1, 2, 3, 4, 5, 6, 7, 8, 9, 10, 11, 12, 13, 14, 15, 16};
+static const uint8_t lm[24] = {0x11, 0x12};
+static const uint8_t nt[40] = {0x21, 0x22};
+static const uint8_t work[6] = {'P', 0, 'I', 0, 'T', 0};
+static const uint8_t key[16] = {0x61, 0x62};
+#define FLAGS 0x42000001u /* KEY_EXCH, VERSION, UNICODE */
+
+/* Whether a field that was read has these bytes. */
+static int is_field(const uint8_t *msg, const uint64_t *numbers, int place, const uint8_t *bytes, size_t len)
+{
+    return numbers[place + 1] == len && (len == 0 || memcmp(msg + numbers[place], bytes, len) == 0);
+}
+
+static void writes_and_reads_back(void)
+{
+    uint64_t numbers[DIALTABLE_AUTHENTICATE_NUMBERS];
+    uint8_t out[256], read_mic[16];
+    size_t len = 88 + sizeof box7 + sizeof work + sizeof lm + sizeof nt + sizeof key;
+
+    memset(out, FILL, sizeof out);
+    EQUAL(dialtable_write_authenticate(out, sizeof out, FLAGS, version, mic, lm, sizeof lm, nt, sizeof nt, NULL, 0,
+                                       box7, sizeof box7, work, sizeof work, key, sizeof key), len);
+    CHECK(untouched(out + len, sizeof out - len));
+    CHECK(memcmp(out + 64, version, 8) == 0);
+    EQUAL(dialtable_read_authenticate(out, len, numbers, DIALTABLE_AUTHENTICATE_NUMBERS, read_mic, 16), 0);
+    EQUAL(numbers[DIALTABLE_AUTHENTICATE_FLAGS], FLAGS);
+    EQUAL(numbers[DIALTABLE_AUTHENTICATE_MIC_PRESENT], 1);
+    CHECK(memcmp(read_mic, mic, 16) == 0);
+    CHECK(is_field(out, numbers, DIALTABLE_AUTHENTICATE_LM_OFFSET, lm, sizeof lm));
+    CHECK(is_field(out, numbers, DIALTABLE_AUTHENTICATE_NT_OFFSET, nt, sizeof nt));
+    CHECK(is_field(out, numbers, DIALTABLE_AUTHENTICATE_DOMAIN_OFFSET, NULL, 0));
+    CHECK(is_field(out, numbers, DIALTABLE_AUTHENTICATE_USER_OFFSET, box7, sizeof box7));
+    CHECK(is_field(out, numbers, DIALTABLE_AUTHENTICATE_WORKSTATION_OFFSET, work, sizeof work));
+    CHECK(is_field(out, numbers, DIALTABLE_AUTHENTICATE_KEY_OFFSET, key, sizeof key));
+
+    memset(out, FILL, sizeof out);
+    CHECK(refused(dialtable_write_authenticate(out, len - 1, FLAGS, version, mic, lm, sizeof lm, nt, sizeof nt, NULL,
+                                               0, box7, sizeof box7, work, sizeof work, key, sizeof key), 33, 0));
+    CHECK(refused(dialtable_write_authenticate(out, sizeof out, FLAGS, version, mic, lm, sizeof lm, nt, sizeof nt,
+                                               NULL, 0, box7, 7, work, sizeof work, key, sizeof key), 31, 4));
+    CHECK(untouched(out, sizeof out));
+}
+
+static void writes_nl_auth(void)
+{
+    static const uint8_t name[] = {'L', 'I', 'N', 'E'}, zero[] = {0};
+    static const uint8_t response[] = {1, 0, 0, 0, 0, 0, 0, 0, 0};
+    uint8_t out[32];
+
+    memset(out, FILL, sizeof out);
+    /* Bit 0x20 is dropped, and string B is passed over. */
+    EQUAL(dialtable_write_nl_auth_request(out, sizeof out, 0x21, name, 4, zero, 1, NULL, 0, NULL, 0, NULL, 0),
+          sizeof p12);
+    CHECK(memcmp(out, p12, sizeof p12) == 0);
+    CHECK(untouched(out + sizeof p12, sizeof out - sizeof p12));
+    CHECK(refused(dialtable_write_nl_auth_request(out, sizeof out, 3, name, 4, zero, 1, NULL, 0, NULL, 0, NULL, 0),
+                  34, 2));
+    EQUAL(dialtable_write_nl_auth_response(out, sizeof out), sizeof response);
+    CHECK(memcmp(out, response, sizeof response) == 0);
+    CHECK(refused(dialtable_write_nl_auth_response(out, 8), 33, 0));
+}
+
+static void decides(const message_t *challenge, const message_t *no_timestamp)
+{
+    uint64_t numbers[DIALTABLE_DECISION_NUMBERS];
+    message_t other = *challenge;
+
+    EQUAL(dialtable_decide(DIALTABLE_DEFAULTS, challenge->bytes, challenge->len, numbers, DIALTABLE_DECISION_NUMBERS),
+          0);
+    EQUAL(DIALTABLE_DECISION_NUMBERS, 3);
+    EQUAL(numbers[DIALTABLE_DECISION_FLAGS], 0x628A8215u);
+    EQUAL(numbers[DIALTABLE_DECISION_TIMESTAMP_THERE], 1);
+    EQUAL(numbers[DIALTABLE_DECISION_TIMESTAMP], CHALLENGE_TIME);
+    EQUAL(dialtable_decide(DIALTABLE_DEFAULTS, no_timestamp->bytes, no_timestamp->len, numbers,
+                           DIALTABLE_DECISION_NUMBERS), 0);
+    EQUAL(numbers[DIALTABLE_DECISION_TIMESTAMP_THERE], 0);
+    EQUAL(numbers[DIALTABLE_DECISION_TIMESTAMP], 0);
+
+    other.bytes[23] &= 0xDF; /* the 128-bit flag */
+    CHECK(refused(dialtable_decide(DIALTABLE_DEMAND_128, other.bytes, other.len, numbers, 3), 20, 0));
+    EQUAL(dialtable_decide(0, other.bytes, other.len, numbers, 3), 0);
+    other.bytes[22] &= 0x7F; /* TARGET_INFO */
+    CHECK(refused(dialtable_decide(DIALTABLE_NTLMV2 | DIALTABLE_INTEGRITY, other.bytes, other.len, numbers, 3), 21,
+                  0));
+    CHECK(refused(dialtable_decide(DIALTABLE_NTLMV2 | DIALTABLE_CONFIDENTIALITY, other.bytes, other.len, numbers, 3),
+                  21, 0));
+    EQUAL(dialtable_decide(DIALTABLE_INTEGRITY | DIALTABLE_CONFIDENTIALITY, other.bytes, other.len, numbers, 3), 0);
+}
+
+static void finds_domain(const message_t *challenge)
+{
+    static const uint8_t peersrv[] = {'P', 0, 'E', 0, 'E', 0, 'R', 0, 'S', 0, 'R', 0, 'V', 0};
+    uint8_t out[16];
+
+    EQUAL(dialtable_domain_to_send(NULL, 0, challenge->bytes, challenge->len, out, sizeof out), sizeof peersrv);
+    CHECK(memcmp(out, peersrv, sizeof peersrv) == 0);
+    EQUAL(dialtable_domain_to_send(box7, sizeof box7, challenge->bytes, challenge->len, out, sizeof out), sizeof box7);
+    CHECK(memcmp(out, box7, sizeof box7) == 0);
+    CHECK(refused(dialtable_domain_to_send(box7, sizeof box7, NULL, 0, out, 7), 33, 0));
+    EQUAL(dialtable_domain_to_send(NULL, 0, NULL, 0, NULL, 0), 0);
+}
+
+/* The challenge has SIGN, KEY_EXCH, VERSION and a timestamp: its own domain is sent, and 24 zero bytes for the LM. */
+static void answers(const message_t *challenge, const message_t *no_timestamp)
+{
+    uint64_t numbers[DIALTABLE_RESPONSE_NUMBERS], read[DIALTABLE_AUTHENTICATE_NUMBERS];
+    uint8_t out[256], thin[256], read_mic[16], zeros[24] = {0};
+    size_t len = 88 + 14 + sizeof box7 + sizeof work + 24 + sizeof nt + sizeof key;
+
+    EQUAL(dialtable_respond(out, len, challenge->bytes, challenge->len, DIALTABLE_DEFAULTS, CLOCK, version, mic, lm, 2,
+                            nt, sizeof nt, NULL, 0, box7, sizeof box7, work, sizeof work, key, sizeof key, numbers,
+                            DIALTABLE_RESPONSE_NUMBERS), len);
+    EQUAL(DIALTABLE_RESPONSE_NUMBERS, 2);
+    EQUAL(numbers[DIALTABLE_RESPONSE_TIME], CHALLENGE_TIME);
+    EQUAL(numbers[DIALTABLE_RESPONSE_MIC_DUE], 1);
+    EQUAL(dialtable_read_authenticate(out, len, read, DIALTABLE_AUTHENTICATE_NUMBERS, read_mic, 16), 0);
+    EQUAL(read[DIALTABLE_AUTHENTICATE_FLAGS], 0x628A8215u);
+    CHECK(memcmp(read_mic, mic, 16) == 0);
+    CHECK(is_field(out, read, DIALTABLE_AUTHENTICATE_LM_OFFSET, zeros, 24));
+    CHECK(is_field(out, read, DIALTABLE_AUTHENTICATE_NT_OFFSET, nt, sizeof nt));
+    CHECK(is_field(out, read, DIALTABLE_AUTHENTICATE_DOMAIN_OFFSET, challenge->bytes + 74, 14));
+    CHECK(is_field(out, read, DIALTABLE_AUTHENTICATE_USER_OFFSET, box7, sizeof box7));
+    CHECK(is_field(out, read, DIALTABLE_AUTHENTICATE_WORKSTATION_OFFSET, work, sizeof work));
+    CHECK(is_field(out, read, DIALTABLE_AUTHENTICATE_KEY_OFFSET, key, sizeof key));
+
+#define THIN(call) \
+    memset(thin, FILL, sizeof thin); \
+    memset(numbers, 0, sizeof numbers); \
+    EQUAL(call(thin, sizeof thin, challenge->bytes, challenge->len, CLOCK, version, mic, lm, 2, nt, sizeof nt, NULL, \
+               0, box7, sizeof box7, work, sizeof work, key, sizeof key, numbers, DIALTABLE_RESPONSE_NUMBERS), len); \
+    CHECK(memcmp(thin, out, len) == 0 && untouched(thin + len, sizeof thin - len)); \
+    EQUAL(numbers[DIALTABLE_RESPONSE_TIME], CHALLENGE_TIME); \
+    EQUAL(numbers[DIALTABLE_RESPONSE_MIC_DUE], 1)
+    THIN(dialtable_respond_for_bench);
+    THIN(dialtable_respond_to_old_server);
+    THIN(dialtable_respond_for_relay);
+
+    /* No timestamp: the clock, the caller's LM response, and no MIC. */
+    EQUAL(dialtable_respond(out, sizeof out, no_timestamp->bytes, no_timestamp->len, DIALTABLE_DEFAULTS, CLOCK,
+                            version, mic, lm, sizeof lm, nt, sizeof nt, box7, sizeof box7, NULL, 0, NULL, 0, NULL, 0,
+                            numbers, DIALTABLE_RESPONSE_NUMBERS), 88 + sizeof box7 + sizeof lm + sizeof nt);
+    EQUAL(numbers[DIALTABLE_RESPONSE_TIME], CLOCK);
+    EQUAL(numbers[DIALTABLE_RESPONSE_MIC_DUE], 0);
+    CHECK(memcmp(out + 72, zeros, 16) == 0);
+    EQUAL(dialtable_read_authenticate(out, 88 + 8 + 24 + 40, read, DIALTABLE_AUTHENTICATE_NUMBERS, read_mic, 16), 0);
+    CHECK(is_field(out, read, DIALTABLE_AUTHENTICATE_LM_OFFSET, lm, sizeof lm));
+
+    /* Refused: nothing changes, and an array that is too short comes before the challenge. */
+    memset(out, FILL, sizeof out);
+    numbers[0] = 7;
+    CHECK(refused(dialtable_respond(out, len - 1, challenge->bytes, challenge->len, DIALTABLE_DEFAULTS, CLOCK, version,
+                                    mic, lm, 2, nt, sizeof nt, NULL, 0, box7, sizeof box7, work, sizeof work, key,
+                                    sizeof key, numbers, 2), 33, 0));
+    CHECK(refused(dialtable_respond_for_relay(out, sizeof out, NULL, 0, CLOCK, version, mic, lm, 2, nt, sizeof nt,
+                                              NULL, 0, NULL, 0, NULL, 0, NULL, 0, numbers, 2), 2, 0));
+    CHECK(refused(dialtable_respond_for_relay(out, sizeof out, NULL, 0, CLOCK, version, mic, lm, 2, nt, sizeof nt,
+                                              NULL, 0, NULL, 0, NULL, 0, NULL, 0, numbers, 1), 33, 0));
+    EQUAL(numbers[0], 7);
+    CHECK(untouched(out, sizeof out));
+}
+
+/* A caller may leave anything in a register above a number of 32 bits: these hand on their own registers as they are. */
+__attribute__((noinline)) static uint64_t decide_wide(uint64_t settings, const uint8_t *challenge, size_t challenge_len,
+                                                      uint64_t *numbers, size_t numbers_len)
+{
+    return dialtable_decide((uint32_t)settings, challenge, challenge_len, numbers, numbers_len);
+}
+
+__attribute__((noinline)) static uint64_t field_wide(const uint8_t *msg, size_t msg_len, uint64_t offset, uint64_t len,
+                                                     uint8_t *out, size_t out_len)
+{
+    return dialtable_field_bytes(msg, msg_len, (uint32_t)offset, (uint16_t)len, out, out_len);
+}
+
+__attribute__((noinline)) static uint64_t find_wide(const uint8_t *list, size_t list_len, uint64_t id, uint64_t *numbers,
+                                                    size_t numbers_len)
+{
+    return dialtable_find_pair(list, list_len, (uint16_t)id, numbers, numbers_len);
+}
+
+static void takes_numbers_in_wide_registers(const message_t *p1, const message_t *challenge)
+{
+    volatile uint64_t above = 0xA5A5A5A500000000u;
+    uint64_t numbers[DIALTABLE_FOUND_NUMBERS];
+    uint8_t name[8];
+    message_t weak = *challenge;
+
+    weak.bytes[23] &= 0xDF; /* the 128-bit flag */
+    EQUAL(decide_wide(above | DIALTABLE_DEFAULTS, weak.bytes, weak.len, numbers, DIALTABLE_DECISION_NUMBERS), 0);
+    CHECK(refused(decide_wide(above | DIALTABLE_DEMAND_128, weak.bytes, weak.len, numbers, 3), 20, 0));
+    EQUAL(field_wide(p1->bytes, p1->len, above | 88, above | 8, name, sizeof name), 8);
+    CHECK(memcmp(name, box7, 8) == 0);
+    EQUAL(find_wide(challenge->bytes + 70, 64, above | 0xA5A50007u, numbers, DIALTABLE_FOUND_NUMBERS), 0);
+    EQUAL(numbers[DIALTABLE_FOUND_THERE], 1);
+}
+
+int main(int argc, char **argv)
+{
+    message_t p1, challenge, no_timestamp;
+
+    if (argc != 4) {
+        puts("usage: dialtable_test P1 CHALLENGE NO_TIMESTAMP\n0 passed, 1 failed");
+        return 2;
+    }
+    read_file(argv[1], &p1);
+    read_file(argv[2], &challenge);
+    read_file(argv[3], &no_timestamp);
+
+    reads_authenticate(&p1);
+    refuses(&p1);
+    reads_challenge(&challenge);
+    reads_nl_auth();
+    reads_pairs(&challenge);
+    prints_lines(&p1, &challenge);
+    writes_and_reads_back();
+    writes_nl_auth();
+    decides(&challenge, &no_timestamp);
+    finds_domain(&challenge);
+    answers(&challenge, &no_timestamp);
+    takes_numbers_in_wide_registers(&p1, &challenge);
+
+    printf("%d passed, %d failed\n", passed, failed);
+    return failed != 0;
+}
