@@ -28,20 +28,18 @@ use Rattle.wire.proofs.Bools.{and-left}
 use Rattle.av_pairs.specs.declared.AvPair.{AvPair}
 use Rattle.av_pairs.specs.declared.Found.{Found}
 use Rattle.av_pairs.specs.declared.Found.the-variants.{At, Nothing}
-use Rattle.av_pairs.specs.declared.Search.{Search}
-use Rattle.av_pairs.specs.declared.Search.the-variants.{Done, Refused as Unsearched}
-use Rattle.av_pairs.specs.AvPairs.{checkPairs, firstPair, findPair, searchRefusal, isThere}
-use Rattle.av_pairs.proofs.Searches.{was-done, was-refused, found-in}
+use Rattle.av_pairs.specs.AvPairs.{checkPairs, firstPair, isThere}
+use Rattle.av_pairs.proofs.Searches.{found-in}
 use Rattle.challenge.specs.declared.Challenge.{Challenge}
 use Rattle.challenge.specs.declared.Fields.{Fields}
 use Rattle.challenge.specs.declared.Reading.{Reading}
 use Rattle.challenge.specs.declared.Reading.the-variants.{Taken, Refused}
+use Rattle.challenge.specs.declared.Timestamp.{Timestamp}
 use Rattle.challenge.specs.declared.Timestamp.the-variants.{Time, Nothing as NoTime}
-use Rattle.challenge.specs.declared.TimestampReading.{TimestampReading}
-use Rattle.challenge.specs.declared.TimestampReading.the-variants.{Taken as TimeTaken, Refused as TimeRefused}
-use Rattle.challenge.specs.declared.ServerNamesReading.{ServerNamesReading}
-use Rattle.challenge.specs.declared.ServerNamesReading.the-variants.{Taken as NamesTaken, Refused as NamesRefused}
-use Rattle.challenge.specs.Challenge.{layout, fieldsAt, checkFields, fieldsOf, onTaken, infoOf, readingOf, serverChallenge, readChallenge, timestampIn, timestampOf, serverNamesIn, serverNamesOf, searchedTime, searchedNames, readingRefusal, Long}
+use Rattle.challenge.specs.declared.TimestampReading.the-variants.{Taken as TimeTaken}
+use Rattle.challenge.specs.declared.ServerNames.{ServerNames}
+use Rattle.challenge.specs.declared.ServerNamesReading.the-variants.{Taken as NamesTaken}
+use Rattle.challenge.specs.Challenge.{layout, fieldsAt, checkFields, fieldsOf, onTaken, infoOf, readingOf, serverChallenge, readChallenge, timestampIn, serverNamesIn, readingRefusal, Long}
 
 -- both fields are those of their heads
 pub both : (s : List ℕ) (w : NegotiateFlags) (i j : Bool) (a b : Field) →
@@ -119,72 +117,41 @@ pub answered : (s b : List ℕ) (r : Reading) → r ≡ readingOf s → b ≡ se
 unfolding readChallenge
 answered s b r p q = rw (← p, q)
 
--- what follows the whole reading: checks 1 to 8, and then a list that is checked
-split : {A : Type 0} (f : Refusal → A) (k : Reading) (v : Challenge → Verdict) (x : Challenge → A) →
-    onTaken f k (λ c. onClear f (v c) (x c)) ≡ onTaken f (onTaken Refused k (λ c. onClear Refused (v c) (Taken c))) x
-split f (Taken c) v x = go (v c) where
-  go : (w : Verdict) → onClear f w (x c) ≡ onTaken f (onClear Refused w (Taken c)) x
-  go Clear = refl
-  go (Not e) = refl
-split f (Refused e) v x = refl
-
-pub time-by : (s : List ℕ) (y : TimestampReading) → y ≡ onTaken TimeRefused (fieldsOf s) (λ c. searchedTime (infoOf s c)) → y ≡ timestampOf s
-unfolding timestampOf readingOf searchedTime
-time-by s y h = h ∙ split TimeRefused (fieldsOf s) (λ c. checkPairs (infoOf s c)) (λ c. TimeTaken (timestampIn (infoOf s c)))
-
-pub of-time : (l m : List ℕ) (y : TimestampReading) → l ≡ m → y ≡ searchedTime l → y ≡ searchedTime m
-of-time l m y e h = rw (← e) h
-
-pub ruleset time = (time-by, with-taken, reading-stops, of-time)
-
-pub names-by : (s : List ℕ) (y : ServerNamesReading) → y ≡ onTaken NamesRefused (fieldsOf s) (λ c. searchedNames (infoOf s c)) → y ≡ serverNamesOf s
-unfolding serverNamesOf readingOf searchedNames
-names-by s y h = h ∙ split NamesRefused (fieldsOf s) (λ c. checkPairs (infoOf s c)) (λ c. NamesTaken (serverNamesIn (infoOf s c)))
-
-pub of-names : (l m : List ℕ) (y : ServerNamesReading) → l ≡ m → y ≡ searchedNames l → y ≡ searchedNames m
-of-names l m y e h = rw (← e) h
-
-pub ruleset names = (names-by, with-taken, reading-stops, of-names)
-
--- a list whose search was refused
-pub time-refused : (id : AvId) (l : List ℕ) (r : Search) (e d : Refusal) → r ≡ findPair id l → r ≡ Unsearched e → d ≡ searchRefusal r →
-    TimeRefused d ≡ searchedTime l
-unfolding searchedTime
-time-refused id l r e d p h q = simp (was-refused id l r p e h, q, h)
-
-pub names-refused : (id : AvId) (l : List ℕ) (r : Search) (e d : Refusal) → r ≡ findPair id l → r ≡ Unsearched e → d ≡ searchRefusal r →
-    NamesRefused d ≡ searchedNames l
-unfolding searchedNames
-names-refused id l r e d p h q = simp (was-refused id l r p e h, q, h)
-
 -- a timestamp has eight bytes
 pub eight : (a : AvId) (n : ℕ) → isTimestamp a ≡ true → sizeAllowed a n ≡ true → n ≡ 8
 eight a n t h = let i : a .id ≡ 7 = eqb-true (a .id) 7 t in eqb-true n 8 (and-left (eqb n 8) true (rw i at h))
 
--- a search for the timestamp that was made
-module _ (l : List ℕ) (r : Search) (f : Found) (e : r ≡ findPair (record { id = 7 }) l) (h : r ≡ Done f) where
-  pub no-time : f ≡ Nothing → TimeTaken NoTime ≡ searchedTime l
-  unfolding searchedTime timestampIn firstPair
-  no-time q = let w = was-done (record { id = 7 }) l r e f h in simp (w .0, ← (w .1), q)
+-- the search for the timestamp
+module _ (l : List ℕ) (f : Found) (e : f ≡ firstPair (record { id = 7 }) l) where
+  pub no-time : f ≡ Nothing → NoTime ≡ timestampIn l
+  unfolding timestampIn firstPair
+  no-time h = simp (← e, h)
 
-  module _ (p : AvPair) (q : f ≡ At p) where
-    pub time-room : p .at + 8 ≤ length l
+  module _ (p : AvPair) (h : f ≡ At p) where
+    pub time-inside : p .at + 8 ≤ length l
     unfolding firstPair
-    time-room =
-        let w = was-done (record { id = 7 }) l r e f h in
-        let g = found-in isTimestamp l p (sym (w .1) ∙ q) in
+    time-inside =
+        let g = found-in isTimestamp l p (sym e ∙ h) in
         omega (arith, g .gave .inside, eight (p .id) (p .len) (g .wanted) (g .gave .size))
 
-    pub time-is : (t : ℕ) → t ≡ u64At l (p .at) → TimeTaken (Time t) ≡ searchedTime l
-    unfolding searchedTime timestampIn firstPair
-    time-is t y = let w = was-done (record { id = 7 }) l r e f h in simp (w .0, ← (w .1), q, y)
+    pub time-is : (t : ℕ) → t ≡ u64At l (p .at) → Time t ≡ timestampIn l
+    unfolding timestampIn firstPair
+    time-is t q = simp (← e, h, q)
 
--- the two searches for names that were made
-pub names-are : (l : List ℕ) (r v : Search) (f g : Found) (a b : Bool) →
-    r ≡ findPair (record { id = 1 }) l → r ≡ Done f → v ≡ findPair (record { id = 2 }) l → v ≡ Done g →
-    a ≡ isThere f → b ≡ isThere g → NamesTaken (record { «nb_computer_name» = a; «nb_domain_name» = b }) ≡ searchedNames l
-unfolding searchedNames serverNamesIn firstPair
-names-are l r v f g a b e h k n p q =
-    let w = was-done (record { id = 1 }) l r e f h in
-    let u = was-done (record { id = 2 }) l v k g n in
-    simp (w .0, p, q, w .1, u .1)
+-- the two searches for names
+pub names-are : (l : List ℕ) (f g : Found) (a b : Bool) →
+    f ≡ firstPair (record { id = 1 }) l → g ≡ firstPair (record { id = 2 }) l → a ≡ isThere f → b ≡ isThere g →
+    record { «nb_computer_name» = a; «nb_domain_name» = b } ≡ serverNamesIn l
+unfolding serverNamesIn firstPair
+names-are l f g a b e h p q = simp (p, q, e, h)
+
+-- what was found in the bytes that were handed out is that of TargetInfo's bytes
+pub of-time : (l m : List ℕ) (t : Timestamp) → l ≡ m → t ≡ timestampIn l → TimeTaken t ≡ TimeTaken (timestampIn m)
+of-time l m t e h = rw (← e, h)
+
+pub of-names : (l m : List ℕ) (n : ServerNames) → l ≡ m → n ≡ serverNamesIn l → NamesTaken n ≡ NamesTaken (serverNamesIn m)
+of-names l m n e h = rw (← e, h)
+
+pub ruleset time = (with-taken, reading-stops, of-time)
+
+pub ruleset names = (with-taken, reading-stops, of-names)

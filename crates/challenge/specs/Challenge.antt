@@ -128,13 +128,6 @@ serverNamesIn list =
 unfoldable pub serverNamesOf : List ℕ → ServerNamesReading
 serverNamesOf s = onTaken NamesRefused (readingOf s) (λ c. NamesTaken (serverNamesIn (infoOf s c)))
 
--- a list that is searched: its refusal, and else the timestamp, or which of pairs 1 and 2 are there
-unfoldable pub searchedTime : List ℕ → TimestampReading
-searchedTime list = onClear TimeRefused (checkPairs list) (TimeTaken (timestampIn list))
-
-unfoldable pub searchedNames : List ℕ → ServerNamesReading
-searchedNames list = onClear NamesRefused (checkPairs list) (NamesTaken (serverNamesIn list))
-
 -- the refusal of a message that was refused (asked only then)
 abbrev pub readingRefusal : Reading → Refusal
 readingRefusal (Taken c) = TooLong

@@ -2,12 +2,11 @@
 ghost use mathlib.Core.Path.{_≡_};
 ghost use Prim.Native.Nat.{_≤_};
 ghost use lib.ListN.{length};
-ghost use Rattle.challenge.specs.Challenge.{fieldsAt, checkEnds, checkBegins, checkNames, checkFields, fieldsOf, readingOf, serverChallenge, readChallenge, readingRefusal, Long, searchedTime, timestampOf, searchedNames, serverNamesOf};
+ghost use Rattle.challenge.specs.Challenge.{fieldsAt, checkEnds, checkBegins, checkNames, checkFields, fieldsOf, readingOf, serverChallenge, readChallenge, readingRefusal, Long, timestampIn, timestampOf, serverNamesIn, serverNamesOf};
 use av_id::AvId;
 use av_pairs::Found;
-use av_pairs::Search;
 use av_pairs::check_pairs;
-use av_pairs::find_pair;
+use av_pairs::first_pair;
 use field::Field;
 use field::field_at;
 use head::Head;
@@ -203,71 +202,59 @@ impl Reading {
     }
 }
 
-// Checks 10 to 13 over a list, then its timestamp.
-fn timestamp_in(list: &[u8]) -> TimestampReading
-    ensures { λ r. ⌜ r ≡ searchedTime (now (list .entry)) ⌝ }
+// The timestamp of a list of pairs, as a number.
+pub fn timestamp_in(list: &[u8]) -> Timestamp
+    ensures { λ r. ⌜ r ≡ timestampIn (now (list .entry)) ⌝ }
 {
-    let search = find_pair(
-        list,
-        AvId {
-            id: AvId::TIMESTAMP,
-        },
-    );
-    let Search::Done(found) = search else {
-        return TimestampReading::Refused(search.refusal());
+    let id = AvId {
+        id: AvId::TIMESTAMP,
     };
-    let Found::At(p) = found else {
-        return TimestampReading::Taken(Timestamp::Nothing);
+    let Found::At(p) = first_pair(list, id) else {
+        return Timestamp::Nothing;
     };
-    TimestampReading::Taken(Timestamp::Time(u64_at(list, p.at)))
+    Timestamp::Time(u64_at(list, p.at))
 }
 
 // The timestamp of a challenge as a number; refuses as reading does.
 pub fn read_timestamp(msg: &[u8]) -> TimestampReading
     ensures { λ r. ⌜ r ≡ timestampOf (now (msg .entry)) ⌝ }
 {
-    let reading = fields_of(msg);
+    let reading = reading_of(msg);
     let Reading::Taken(c) = reading else {
         return TimestampReading::Refused(reading.refusal());
     };
-    timestamp_in(c.fields.target_info.bytes(msg))
+    TimestampReading::Taken(timestamp_in(c.fields.target_info.bytes(msg)))
 }
 
-// Checks 10 to 13 over a list, then which of pairs 1 and 2 it holds.
-fn server_names_in(list: &[u8]) -> ServerNamesReading
-    ensures { λ r. ⌜ r ≡ searchedNames (now (list .entry)) ⌝ }
+// Which of pairs 1 and 2 a list of pairs holds.
+pub fn server_names_in(list: &[u8]) -> ServerNames
+    ensures { λ r. ⌜ r ≡ serverNamesIn (now (list .entry)) ⌝ }
 {
-    let computer = find_pair(
+    let computer = first_pair(
         list,
         AvId {
             id: AvId::NB_COMPUTER_NAME,
         },
     );
-    let Search::Done(first) = computer else {
-        return ServerNamesReading::Refused(computer.refusal());
-    };
-    let domain = find_pair(
+    let domain = first_pair(
         list,
         AvId {
             id: AvId::NB_DOMAIN_NAME,
         },
     );
-    let Search::Done(second) = domain else {
-        return ServerNamesReading::Refused(domain.refusal());
-    };
-    ServerNamesReading::Taken(ServerNames {
-        nb_computer_name: first.is_there(),
-        nb_domain_name: second.is_there(),
-    })
+    ServerNames {
+        nb_computer_name: computer.is_there(),
+        nb_domain_name: domain.is_there(),
+    }
 }
 
 // Whether a challenge holds pairs 1 and 2; refuses as reading does.
 pub fn read_server_names(msg: &[u8]) -> ServerNamesReading
     ensures { λ r. ⌜ r ≡ serverNamesOf (now (msg .entry)) ⌝ }
 {
-    let reading = fields_of(msg);
+    let reading = reading_of(msg);
     let Reading::Taken(c) = reading else {
         return ServerNamesReading::Refused(reading.refusal());
     };
-    server_names_in(c.fields.target_info.bytes(msg))
+    ServerNamesReading::Taken(server_names_in(c.fields.target_info.bytes(msg)))
 }

@@ -9,7 +9,7 @@ use av_pairs::Count;
 use av_pairs::count_pairs;
 use challenge::Challenge;
 use challenge::Reading as ChallengeReading;
-use line_chal::time_in;
+use challenge::timestamp_in;
 use nl_auth::Reading as NlAuthReading;
 use place::written::Written;
 use wire::number::u32_at;
@@ -48,7 +48,7 @@ fn challenge_listed(out: &mut [u8], msg: &[u8], c: Challenge) -> Written
 {
     let list = c.fields.target_info.bytes(msg);
     match count_pairs(list) {
-        Count::Pairs(n) => line_chal::write(out, msg, c, c.flags.unicode(), n, time_in(list)),
+        Count::Pairs(n) => line_chal::write(out, msg, c, c.flags.unicode(), n, timestamp_in(list)),
         Count::Refused(e) => line_refused::write(out, e),
     }
 }

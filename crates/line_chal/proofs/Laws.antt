@@ -1,48 +1,21 @@
--- Laws of the timestamp and its word, and of the line's length.
+-- Laws of the timestamp's word, and of the line's length.
 use Prim.Native.Nat.{ℕ, _+_, _≤_}
-use mathlib.Core.Path.{_≡_, sym, _∙_}
+use mathlib.Core.Path.{_≡_, sym}
 use mathlib.Core.Bool.{Bool}
 use mathlib.Core.List.{List}
 use native.Mathlib.Omega.{arith}
 use lib.ListN.{length, length-append}
 use Rattle.text.specs.Text.{ascii}
-use Rattle.wire.specs.Number.{u64At}
 use Rattle.field.specs.Field.{fieldBytes}
 use Rattle.place.specs.Place.{Wrote}
 use Rattle.place.proofs.Laws.{nothing}
-use Rattle.av_id.specs.AvId.{isTimestamp}
-use Rattle.av_pairs.specs.declared.AvPair.{AvPair}
-use Rattle.av_pairs.specs.declared.Found.{Found}
-use Rattle.av_pairs.specs.declared.Found.the-variants.{At, Nothing}
-use Rattle.av_pairs.specs.AvPairs.{firstPair}
-use Rattle.av_pairs.proofs.Searches.{found-in}
 use Rattle.challenge.specs.declared.Challenge.{Challenge}
 use Rattle.challenge.specs.declared.Timestamp.{Timestamp}
 use Rattle.challenge.specs.declared.Timestamp.the-variants.{Time, Nothing as NoTime}
-use Rattle.challenge.specs.Challenge.{timestampIn}
-use Rattle.challenge.proofs.Laws.{eight}
 use Rattle.word.specs.Words.{Room, numberWord, nameWord}
 use Rattle.word.proofs.Labels.{start-size}
 use Rattle.word.proofs.Numbers.{length-hex}
 use Rattle.line_chal.specs.Chal.{timeText, timeWord, chalEnd, chalText}
-
--- ---- the timestamp
-
-module _ (l : List ℕ) (f : Found) (e : f ≡ firstPair (record { id = 7 }) l) where
-  pub no-time : f ≡ Nothing → NoTime ≡ timestampIn l
-  unfolding timestampIn firstPair
-  no-time h = simp (← e, h)
-
-  module _ (p : AvPair) (h : f ≡ At p) where
-    pub time-inside : p .at + 8 ≤ length l
-    unfolding firstPair
-    time-inside =
-        let g = found-in isTimestamp l p (sym e ∙ h) in
-        omega (arith, g .gave .inside, eight (p .id) (p .len) (g .wanted) (g .gave .size))
-
-    pub time-is : (t : ℕ) → t ≡ u64At l (p .at) → Time t ≡ timestampIn l
-    unfolding timestampIn firstPair
-    time-is t q = simp (← e, h, q)
 
 -- ---- its word
 

@@ -2,21 +2,16 @@
 ghost use mathlib.Core.Path.{_≡_};
 ghost use Prim.Native.Nat.{_+_, _≤_};
 ghost use lib.ListN.{length};
-ghost use Rattle.challenge.specs.Challenge.{timestampIn};
 ghost use Rattle.place.specs.Place.{Wrote};
 ghost use Rattle.word.specs.Words.{Room};
 ghost use Rattle.line_chal.specs.Chal.{timeText, timeWord, chalEnd, chalText};
 ghost use Rattle.word.specs.Call.{lineAnswer, lineAfter};
-use av_id::AvId;
-use av_pairs::Found;
-use av_pairs::first_pair;
 use challenge::Challenge;
 use challenge::Timestamp;
 use place::Place;
 use place::written::Written;
 use place::written::room_holds;
 use wire::check::Checked;
-use wire::number::u64_at;
 use wire::refusal::Refusal;
 use word::digits::put_hex;
 use word::words::name_word_size;
@@ -24,19 +19,6 @@ use word::words::number_word_size;
 use word::words::put_name_word;
 use word::words::put_number_word;
 use word::words::put_start;
-
-// The timestamp of a list of pairs, as a number.
-pub fn time_in(list: &[u8]) -> Timestamp
-    ensures { λ r. ⌜ r ≡ timestampIn (now (list .entry)) ⌝ }
-{
-    let id = AvId {
-        id: AvId::TIMESTAMP,
-    };
-    let Found::At(p) = first_pair(list, id) else {
-        return Timestamp::Nothing;
-    };
-    Timestamp::Time(u64_at(list, p.at))
-}
 
 fn time_size(time: Timestamp) -> usize
     ensures { λ r. ⌜ (r ≡ length (timeWord time)) × (r ≤ 22) ⌝ }

@@ -20,7 +20,6 @@ use Rattle.respond.specs.declared.answer.Answered.the-variants.{Sent, Re
 use Rattle.respond.specs.Domain.{domainToSend}
 use Rattle.respond.specs.Decision.{defaults}
 use Rattle.respond.specs.Answer.{micDue, timeToSend, lmToSend, micToSend, keyToSend, answerWith, sendAnswer, sendOut, respondAnswer, respondOut}
-use Rattle.respond.proofs.Decisions.{with-decided, decision-stops}
 
 -- the MIC by whether it was told to be due
 module _ (t : Timestamp) (mic : List ℕ) (b : Bool) (q : b ≡ micDue t) where
@@ -84,8 +83,6 @@ module _ (settings : Settings) (d : Decision) (v mic lm nt own s domain user wor
   pub out-of-domain : (out o : List ℕ) → o ≡ sendOut out settings d v mic lm nt domain user workstation key →
       o ≡ sendOut out settings d v mic lm nt (domainToSend own s) user workstation key
   out-of-domain out o h = rw (← e) h
-
-pub ruleset answering = (with-decided, decision-stops, of-domain, out-of-domain)
 
 -- with settings that are the defaults
 module _ (settings : Settings) (e : settings ≡ defaults) (s v mic lm nt domain user workstation key : List ℕ) where

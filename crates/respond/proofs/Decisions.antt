@@ -1,10 +1,10 @@
 -- Laws of the decision on a challenge.
 use mathlib.Core.Path.{_≡_, sym, _∙_}
-use mathlib.Core.Bool.{Bool, _||_, not}
+use mathlib.Core.Bool.{Bool, false, _||_, _&&_, not}
 use mathlib.Core.List.{List}
 use Prim.Native.Nat.{ℕ}
-use native.Mathlib.Omega.{arith}
 use Rattle.wire.specs.declared.check.Checked.{Checked}
+use Rattle.wire.specs.declared.check.Checked.the-variants.{Held}
 use Rattle.negotiate_flags.specs.declared.NegotiateFlags.{NegotiateFlags}
 use Rattle.wire.specs.declared.refusal.Refusal.{Refusal}
 use Rattle.wire.specs.Check.{checked}
@@ -12,66 +12,53 @@ use Rattle.negotiate_flags.specs.Flags.{negotiate128}
 use Rattle.wire.proofs.Laws.{chain}
 use Rattle.challenge.specs.declared.Challenge.{Challenge}
 use Rattle.challenge.specs.declared.Reading.{Reading}
-use Rattle.challenge.specs.declared.Reading.the-variants.{Taken}
+use Rattle.challenge.specs.declared.Reading.the-variants.{Taken, Refused as Unread}
 use Rattle.challenge.specs.declared.ServerNames.{ServerNames}
-use Rattle.challenge.specs.declared.ServerNamesReading.{ServerNamesReading}
-use Rattle.challenge.specs.declared.ServerNamesReading.the-variants.{Taken as NamesTaken, Refused as NamesRefused}
 use Rattle.challenge.specs.declared.Timestamp.{Timestamp}
-use Rattle.challenge.specs.declared.TimestampReading.{TimestampReading}
-use Rattle.challenge.specs.declared.TimestampReading.the-variants.{Taken as TimeTaken, Refused as TimeRefused}
-use Rattle.challenge.specs.Challenge.{readingOf, infoOf, timestampIn, timestampOf, serverNamesIn, serverNamesOf}
-use Rattle.challenge.proofs.Laws.{with-taken, reading-stops}
+use Rattle.challenge.specs.Challenge.{readingOf, timestampIn, serverNamesIn, readingRefusal}
 use Rattle.respond.specs.declared.decision.Settings.{Settings}
 use Rattle.respond.specs.declared.decision.Decision.{Decision}
 use Rattle.respond.specs.declared.decision.Decided.{Decided}
 use Rattle.respond.specs.declared.decision.Decided.the-variants.{Taken as Answerable, Refused}
-use Rattle.respond.specs.Decision.{strengthHolds, serverNamesHold, onDecided, decidedRefusal}
-use Rattle.respond.proofs.Domains.{reading-is}
+use Rattle.respond.specs.Decision.{strengthHolds, serverNamesHold, decisionOn, onDecided, decidedRefusal}
+use Rattle.respond.proofs.Domains.{on-taken}
 
 pub strength-is : (settings : Settings) (flags : NegotiateFlags) (b : Bool) (r : Checked) → b ≡ negotiate128 flags →
     r ≡ checked (not (settings .«demand_128») || b) → r ≡ strengthHolds settings flags
 strength-is settings flags b r e h = h ∙ simp e
 
--- what is read a second time from a challenge that was taken
-module _ (s : List ℕ) (r : Reading) (c : Challenge) (t : r ≡ Taken c) (e : r ≡ readingOf s) where
-  names-of : serverNamesOf s ≡ NamesTaken (serverNamesIn (infoOf s c))
-  unfolding serverNamesOf
-  names-of = simp (← e, t)
-
-  time-of : timestampOf s ≡ TimeTaken (timestampIn (infoOf s c))
-  unfolding timestampOf
-  time-of = simp (← e, t)
-
-  module _ (n : ServerNamesReading) (k : n ≡ serverNamesOf s) where
-    pub names-known : (x : ServerNames) → n ≡ NamesTaken x → x ≡ serverNamesIn (infoOf s c)
-    names-known x h = let z : NamesTaken x ≡ NamesTaken (serverNamesIn (infoOf s c)) = sym h ∙ k ∙ names-of in cc
-
-    pub names-there : (d : Refusal) → n ≡ NamesRefused d → ⊥
-    names-there d h =
-        let z : NamesRefused d ≡ NamesTaken (serverNamesIn (infoOf s c)) = sym h ∙ k ∙ names-of in
-        let y : _≡_ {A = ℕ} 0 1 = cc in
-        omega arith
-
-  module _ (n : TimestampReading) (k : n ≡ timestampOf s) where
-    pub time-known : (x : Timestamp) → n ≡ TimeTaken x → x ≡ timestampIn (infoOf s c)
-    time-known x h = let z : TimeTaken x ≡ TimeTaken (timestampIn (infoOf s c)) = sym h ∙ k ∙ time-of in cc
-
-    pub time-there : (d : Refusal) → n ≡ TimeRefused d → ⊥
-    time-there d h =
-        let z : TimeRefused d ≡ TimeTaken (timestampIn (infoOf s c)) = sym h ∙ k ∙ time-of in
-        let y : _≡_ {A = ℕ} 0 1 = cc in
-        omega arith
+-- names that are not wanted
+pub unwanted : (settings : Settings) (x : ServerNames) →
+    (settings .ntlmv2 && (settings .integrity || settings .confidentiality)) ≡ false → Held ≡ serverNamesHold settings x
+unwanted settings x h = simp h
 
 pub of-names : (settings : Settings) (x y : ServerNames) (k : Checked) → x ≡ y → k ≡ serverNamesHold settings x → k ≡ serverNamesHold settings y
 of-names settings x y k e h = rw (← e) h
 
-pub decided-is : (w : NegotiateFlags) (t u : Timestamp) → t ≡ u →
-    Answerable (record { flags = w; timestamp = t }) ≡ Answerable (record { flags = w; timestamp = u })
-decided-is w t u e = rw e
+-- the pairs that were handed out are TargetInfo's
+pub of-list : (settings : Settings) (l m : List ℕ) (k : Checked) → l ≡ m → k ≡ serverNamesHold settings (serverNamesIn l) →
+    k ≡ serverNamesHold settings (serverNamesIn m)
+of-list settings l m k e h = rw (← e) h
 
-pub ruleset decision = (chain, with-taken, reading-stops, reading-is, names-known, time-known, of-names, decided-is)
+pub decided-is : (w : NegotiateFlags) (t : Timestamp) (l m : List ℕ) → l ≡ m → t ≡ timestampIn l →
+    Answerable (record { flags = w; timestamp = t }) ≡ Answerable (record { flags = w; timestamp = timestampIn m })
+decided-is w t l m e h = rw (h, e)
 
-pub ruleset twice = (reading-is, names-there, time-there)
+pub ruleset decision = (chain, on-taken, of-list, decided-is)
+
+-- the reading of a challenge that was taken, and of one that was not
+pub taken-as : (s : List ℕ) (r : Reading) (c : Challenge) → r ≡ readingOf s → r ≡ Taken c → readingOf s ≡ Taken c
+taken-as s r c e h = sym e ∙ h
+
+pub undecided : (settings : Settings) (s : List ℕ) (r : Reading) (e d : Refusal) → r ≡ readingOf s → r ≡ Unread e → d ≡ readingRefusal r →
+    Refused d ≡ decisionOn settings s
+unfolding decisionOn
+undecided settings s r e d p h q = simp (← p, h, q)
+
+-- what follows the decision on a challenge that was not taken
+pub unread-stops : {A : Type 0} (settings : Settings) (s : List ℕ) (f : Refusal → A) (r : Reading) (e d : Refusal) (x : Decision → A) (y : A) →
+    r ≡ readingOf s → r ≡ Unread e → d ≡ readingRefusal r → y ≡ f d → y ≡ onDecided f (decisionOn settings s) x
+unread-stops settings s f r e d x y p h q z = z ∙ simp (← undecided settings s r e d p h q)
 
 pub refusal-is : (v w : Decided) (e : Refusal) → v ≡ w → e ≡ decidedRefusal w → e ≡ decidedRefusal v
 refusal-is v w e p q = rw p q

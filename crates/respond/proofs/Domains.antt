@@ -10,44 +10,29 @@ use mir.Val.{Fits}
 use mir.Syntax.{w64}
 use borrow.Author.Tests.{leb-true}
 use borrow.Rule.Slice.Shared.{byByte}
-use Rattle.wire.specs.declared.check.Verdict.{Verdict}
-use Rattle.wire.specs.declared.check.Verdict.the-variants.{Clear, Refused as Not}
 use Rattle.field.specs.declared.Field.{Field}
 use Rattle.wire.specs.declared.refusal.Refusal.{Refusal}
 use Rattle.av_id.specs.AvId.{isNbDomainName, sameId}
-use Rattle.wire.specs.Check.{onClear}
 use Rattle.field.specs.Field.{PartAt, fieldBytes, fieldStart}
 use Rattle.wire.proofs.Laws.{branches}
 use Rattle.av_pairs.specs.declared.AvPair.{AvPair}
 use Rattle.av_pairs.specs.declared.Found.{Found}
 use Rattle.av_pairs.specs.declared.Found.the-variants.{At, Nothing}
-use Rattle.av_pairs.specs.declared.Search.{Search}
-use Rattle.av_pairs.specs.declared.Search.the-variants.{Done, Refused as Unsearched}
-use Rattle.av_pairs.specs.AvPairs.{pairsOf, checkPairs, firstBy, firstPair, findPair}
-use Rattle.av_pairs.proofs.Searches.{was-done, found-in}
+use Rattle.av_pairs.specs.AvPairs.{pairsOf, firstBy, firstPair}
+use Rattle.av_pairs.proofs.Searches.{found-in}
 use Rattle.challenge.specs.declared.Answer.{Answer}
 use Rattle.challenge.specs.declared.Challenge.{Challenge}
 use Rattle.challenge.specs.declared.Reading.{Reading}
 use Rattle.challenge.specs.declared.Reading.the-variants.{Taken, Refused}
-use Rattle.challenge.specs.Challenge.{fieldsOf, readingOf, readChallenge, onTaken, infoOf}
-use Rattle.challenge.proofs.Laws.{with-taken}
-use Rattle.respond.specs.Domain.{Part, ownPart, valuePart, onFound, domainPart, domainToSend, lent, Within, foundBy, ValueInside}
+use Rattle.challenge.specs.Challenge.{readingOf, readChallenge, onTaken, infoOf}
+use Rattle.respond.specs.Domain.{Part, ownPart, valuePart, onFound, domainPart, domainToSend, lent, Within, ValueInside}
 
--- ---- a search for pair 2
+-- ---- the search for pair 2
 
-module _ (l : List ℕ) (r : Search) (e : r ≡ findPair (record { id = 2 }) l) where
-  pub done-inside : (f : Found) → r ≡ Done f → ValueInside f (length l)
-  unfolding firstPair
-  done-inside f h = go f (was-done (record { id = 2 }) l r e f h .1) where
-    go : (f : Found) → f ≡ firstPair (record { id = 2 }) l → ValueInside f (length l)
-    go (At p) k = found-in (sameId (record { id = 2 })) l p (sym k) .gave .inside
-    go Nothing k = tt
-
-  pub done-found : (f : Found) → r ≡ Done f → f ≡ foundBy (findPair (record { id = 2 }) l)
-  done-found f h = rw (← e, h)
-
-  pub not-done : (d : Refusal) → r ≡ Unsearched d → Nothing ≡ foundBy (findPair (record { id = 2 }) l)
-  not-done d h = rw (← e, h)
+pub found-inside : (l : List ℕ) (f : Found) → f ≡ firstPair (record { id = 2 }) l → ValueInside f (length l)
+unfolding firstPair
+found-inside l (At p) k = found-in (sameId (record { id = 2 })) l p (sym k) .gave .inside
+found-inside l Nothing k = tt
 
 -- a pair that was found ends within its list
 pub value-end : (f : Found) (p : AvPair) (n : ℕ) → ValueInside f n → f ≡ At p → p .at + p .len ≤ n
@@ -62,22 +47,10 @@ pub reading-is : (s : List ℕ) (a : Answer) → a ≡ readChallenge s → a .re
 unfolding readChallenge
 reading-is s a e = rw e
 
--- a taken challenge's pairs passed checks 10 to 13
-pairs-clear : (s : List ℕ) (c : Challenge) → readingOf s ≡ Taken c → checkPairs (infoOf s c) ≡ Clear
-unfolding readingOf
-pairs-clear s c h = go (fieldsOf s) h where
-  inner : (b : Challenge) (v : Verdict) → checkPairs (infoOf s b) ≡ v → onClear Refused v (Taken b) ≡ Taken c → checkPairs (infoOf s c) ≡ Clear
-  inner b Clear e h = let same : b ≡ c = cc in rw same at e
-  inner b (Not d) e h = absurd (let z : _≡_ {A = ℕ} 0 1 = cc in omega arith)
-
-  go : (k : Reading) → onTaken Refused k (λ b. onClear Refused (checkPairs (infoOf s b)) (Taken b)) ≡ Taken c → checkPairs (infoOf s c) ≡ Clear
-  go (Taken b) h = inner b (checkPairs (infoOf s b)) refl h
-  go (Refused d) h = absurd (let z : _≡_ {A = ℕ} 0 1 = cc in omega arith)
-
-pub first-is : (s l : List ℕ) (r : Reading) (c : Challenge) (f : Found) → r ≡ readingOf s → r ≡ Taken c → l ≡ infoOf s c →
-    f ≡ foundBy (findPair (record { id = 2 }) l) → f ≡ firstBy isNbDomainName (pairsOf (infoOf s c))
-unfolding findPair firstPair
-first-is s l r c f e h k q = q ∙ simp (k, pairs-clear s c (sym e ∙ h))
+pub first-is : (s l : List ℕ) (c : Challenge) (f : Found) → l ≡ infoOf s c →
+    f ≡ firstPair (record { id = 2 }) l → f ≡ firstBy isNbDomainName (pairsOf (infoOf s c))
+unfolding firstPair
+first-is s l c f k q = q ∙ simp k
 
 pub untaken : {A : Type 0} (f : Refusal → A) (k r : Reading) (e : Refusal) (x : Challenge → A) (y : A) →
     r ≡ k → r ≡ Refused e → y ≡ f e → y ≡ onTaken f k x
@@ -89,7 +62,11 @@ found-at k f p x z y e h q = simp (← e, h) q
 pub found-none : {A : Type 0} (k f : Found) (x : AvPair → A) (z y : A) → f ≡ k → f ≡ Nothing → y ≡ z → y ≡ onFound k x z
 found-none k f x z y e h q = simp (← e, h) q
 
-pub ruleset ways = (branches, with-taken, untaken, found-at, found-none, reading-is, first-is)
+-- a challenge that is known to be taken
+pub on-taken : {A : Type 0} (f : Refusal → A) (k : Reading) (c : Challenge) (x : Challenge → A) (y : A) → k ≡ Taken c → y ≡ x c → y ≡ onTaken f k x
+on-taken f k c x y h q = simp h q
+
+pub ruleset ways = (branches, on-taken, untaken, found-at, found-none, reading-is, first-is)
 
 -- ---- what is handed out
 
@@ -114,7 +91,7 @@ part-within s f = go (leb (f .offset + f .len) (length s)) refl where
   go false e = omega arith
 
 -- the value of a pair that was found in a challenge that was taken
-module _ (own s : List ℕ) (r : Reading) (c : Challenge) (f : Found) (p : AvPair) (t : r ≡ Taken c) (h : f ≡ At p)
+module _ (own s : List ℕ) (c : Challenge) (f : Found) (p : AvPair) (t : readingOf s ≡ Taken c) (h : f ≡ At p)
     (e : valuePart s c p ≡ domainPart own s) where
   pub value-content : (l : List ℕ) → l ≡ infoOf s c → take (p .at + p .len - p .at) (drop (p .at) l) ≡ domainToSend own s
   value-content l k =

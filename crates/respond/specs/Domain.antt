@@ -10,8 +10,6 @@ use Rattle.negotiate_flags.specs.Flags.{unicode}
 use Rattle.av_pairs.specs.declared.AvPair.{AvPair}
 use Rattle.av_pairs.specs.declared.Found.{Found}
 use Rattle.av_pairs.specs.declared.Found.the-variants.{At, Nothing}
-use Rattle.av_pairs.specs.declared.Search.{Search}
-use Rattle.av_pairs.specs.declared.Search.the-variants.{Done, Refused as Unsearched}
 use Rattle.av_pairs.specs.AvPairs.{pairsOf, firstBy}
 use Rattle.challenge.specs.declared.Challenge.{Challenge}
 use Rattle.challenge.specs.Challenge.{readingOf, onTaken, infoOf}
@@ -61,11 +59,6 @@ lent part own challenge = cond (part .ofChallenge) challenge own
 -- a part ends within the n bytes that it is a part of
 abbrev pub Within : Part → ℕ → Type 0
 Within part n = part .start + length (part .bytes) ≤ n
-
--- what a search found; in a list that is refused, nothing
-abbrev pub foundBy : Search → Found
-foundBy (Done f) = f
-foundBy (Unsearched e) = Nothing
 
 -- a pair's value ends within the n bytes of its list
 abbrev pub ValueInside : Found → ℕ → Type 0

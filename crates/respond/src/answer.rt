@@ -6,10 +6,12 @@ ghost use Rattle.respond.specs.Answer.{micDue, timeToSend, micToSend, ke
 use crate::decision::Decided;
 use crate::decision::Decision;
 use crate::decision::Settings;
-use crate::decision::decide;
-use crate::domain::domain_to_send;
+use crate::decision::decide_on;
+use crate::domain::domain_of;
 use authenticate_writing::write;
+use challenge::Reading;
 use challenge::Timestamp;
+use challenge::read;
 use negotiate_flags::NegotiateFlags;
 use place::written::Written;
 use wire::number::fill;
@@ -154,11 +156,15 @@ pub fn respond<'a>(
     ensures answer { λ r. ⌜ r ≡ respondAnswer (length (now (out .entry))) (now (challenge .entry)) settings clock (now (version .entry)) (now (mic .entry)) (now (lm .entry)) (now (nt .entry)) (now (domain .entry)) (now (user .entry)) (now (workstation .entry)) (now (key .entry)) ⌝ }
     ensures content { λ _. ⌜ now (out .exit) ≡ respondOut (now (out .entry)) (now (challenge .entry)) settings (now (version .entry)) (now (mic .entry)) (now (lm .entry)) (now (nt .entry)) (now (domain .entry)) (now (user .entry)) (now (workstation .entry)) (now (key .entry)) ⌝ }
 {
-    let decided = decide(settings, challenge);
+    let reading = read(challenge).reading;
+    let Reading::Taken(c) = reading else {
+        return Answered::Refused(reading.refusal());
+    };
+    let decided = decide_on(settings, challenge, c);
     let Decided::Taken(d) = decided else {
         return Answered::Refused(decided.refusal());
     };
-    let domain = domain_to_send(domain, challenge);
+    let domain = domain_of(domain, challenge, c);
     send(
         out,
         settings,

@@ -1,14 +1,15 @@
 // The decision on a challenge: what the settings want of it, and what of it decides the answer.
 ghost use mathlib.Core.Path.{_≡_};
+ghost use Rattle.challenge.specs.declared.Reading.the-variants.{Taken as Read};
+ghost use Rattle.challenge.specs.Challenge.{readingOf, serverNamesIn};
 ghost use Rattle.respond.specs.Decision.{defaults, strengthHolds, serverNamesHold, decisionOn, decidedRefusal};
+use challenge::Challenge;
 use challenge::Reading;
 use challenge::ServerNames;
-use challenge::ServerNamesReading;
 use challenge::Timestamp;
-use challenge::TimestampReading;
 use challenge::read;
-use challenge::read_server_names;
-use challenge::read_timestamp;
+use challenge::server_names_in;
+use challenge::timestamp_in;
 use negotiate_flags::NegotiateFlags;
 use wire::check::Checked;
 use wire::check::check;
@@ -62,7 +63,36 @@ impl Settings {
     }
 }
 
-// Reading, then checks 20 and 21. What is read a second time from a challenge that was taken is never refused.
+// Check 21 for the pairs of a challenge, which are looked at only where the names are wanted.
+fn names_hold(settings: Settings, list: &[u8]) -> Checked
+    ensures { λ r. ⌜ r ≡ serverNamesHold settings (serverNamesIn (now (list .entry))) ⌝ }
+{
+    if settings.ntlmv2 & (settings.integrity | settings.confidentiality) {
+        return settings.server_names_hold(server_names_in(list));
+    }
+    Checked::Held
+}
+
+// Checks 20 and 21 on a challenge that was taken as `c`.
+pub(crate) fn decide_on(settings: Settings, challenge: &[u8], c: Challenge) -> Decided
+    requires { ⌜ readingOf (now challenge) ≡ Read c ⌝ }
+    ensures { λ r. ⌜ r ≡ decisionOn settings (now (challenge .entry)) ⌝ }
+{
+    let flags = c.flags;
+    let Checked::Held = settings.strength_holds(flags) else {
+        return Decided::Refused(Refusal::No128Bit);
+    };
+    let list = c.fields.target_info.bytes(challenge);
+    let Checked::Held = names_hold(settings, list) else {
+        return Decided::Refused(Refusal::NoServerNames);
+    };
+    Decided::Taken(Decision {
+        flags: flags,
+        timestamp: timestamp_in(list),
+    })
+}
+
+// Reading, then checks 20 and 21.
 pub fn decide(settings: Settings, challenge: &[u8]) -> Decided
     ensures { λ r. ⌜ r ≡ decisionOn settings (now (challenge .entry)) ⌝ }
 {
@@ -70,23 +100,7 @@ pub fn decide(settings: Settings, challenge: &[u8]) -> Decided
     let Reading::Taken(c) = reading else {
         return Decided::Refused(reading.refusal());
     };
-    let flags = c.flags;
-    let Checked::Held = settings.strength_holds(flags) else {
-        return Decided::Refused(Refusal::No128Bit);
-    };
-    let ServerNamesReading::Taken(names) = read_server_names(challenge) else {
-        return Decided::Refused(Refusal::NoServerNames);
-    };
-    let Checked::Held = settings.server_names_hold(names) else {
-        return Decided::Refused(Refusal::NoServerNames);
-    };
-    let TimestampReading::Taken(timestamp) = read_timestamp(challenge) else {
-        return Decided::Refused(Refusal::NoServerNames);
-    };
-    Decided::Taken(Decision {
-        flags: flags,
-        timestamp: timestamp,
-    })
+    decide_on(settings, challenge, c)
 }
 
 impl Decided {

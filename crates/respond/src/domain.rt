@@ -2,30 +2,50 @@
 ghost use mathlib.Core.Path.{_≡_};
 ghost use lib.ListN.{length};
 ghost use Rattle.field.specs.Field.{PartAt};
-ghost use Rattle.av_pairs.specs.AvPairs.{findPair};
-ghost use Rattle.respond.specs.Domain.{domainPart, domainToSend, lent, Within, foundBy, ValueInside};
+ghost use Rattle.av_pairs.specs.AvPairs.{firstPair};
+ghost use Rattle.challenge.specs.declared.Reading.the-variants.{Taken};
+ghost use Rattle.challenge.specs.Challenge.{readingOf};
+ghost use Rattle.respond.specs.Domain.{domainPart, domainToSend, lent, Within, ValueInside};
 use av_id::AvId;
 use av_pairs::Found;
-use av_pairs::Search;
-use av_pairs::find_pair;
+use av_pairs::first_pair;
+use challenge::Challenge;
 use challenge::Reading;
 use challenge::read;
 
-// The first pair 2 of a list.
+// The first pair 2 of a list, whose value ends within it.
 fn first_domain(list: &[u8]) -> Found
     ensures inside { λ r. ⌜ ValueInside r (length (now (list .entry))) ⌝ }
-    ensures { λ r. ⌜ r ≡ foundBy (findPair (record { id = 2 }) (now (list .entry))) ⌝ }
+    ensures { λ r. ⌜ r ≡ firstPair (record { id = 2 }) (now (list .entry)) ⌝ }
 {
-    let search = find_pair(
+    first_pair(
         list,
         AvId {
             id: AvId::NB_DOMAIN_NAME,
         },
-    );
-    let Search::Done(found) = search else {
-        return Found::Nothing;
-    };
-    found
+    )
+}
+
+// The domain to send, for a challenge that was taken as `c`.
+pub(crate) fn domain_of<'a>(own: &'a [u8], challenge: &'a [u8], c: Challenge) -> &'a [u8]
+    requires { ⌜ readingOf (now challenge) ≡ Taken c ⌝ }
+    ensures content { λ r. ⌜ now r ≡ domainToSend (now (own .entry)) (now (challenge .entry)) ⌝ }
+    ensures place { λ r. ⌜ PartAt (r .ptr) (lent (domainPart (now (own .entry)) (now (challenge .entry))) (own .entry .ptr) (challenge .entry .ptr)) (domainPart (now (own .entry)) (now (challenge .entry)) .start) ⌝ }
+    ensures within { λ r. ⌜ Within (domainPart (now (own .entry)) (now (challenge .entry))) (lent (domainPart (now (own .entry)) (now (challenge .entry))) (length (now (own .entry))) (length (now (challenge .entry)))) ⌝ }
+{
+    if own.len() != 0 {
+        return own;
+    }
+    if c.flags.unicode() {
+        let list = c.fields.target_info.bytes(challenge);
+        let Found::At(p) = first_domain(list) else {
+            return own;
+        };
+        let at = p.at;
+        let end = at + p.len as usize;
+        return &list[at..end];
+    }
+    own
 }
 
 // The domain to send: the settings' own, or where that is empty and UNICODE is set the value of the challenge's first pair 2.
@@ -41,14 +61,5 @@ pub fn domain_to_send<'a>(own: &'a [u8], challenge: &'a [u8]) -> &'a [u8]
     let Reading::Taken(c) = reading else {
         return own;
     };
-    if c.flags.unicode() {
-        let list = c.fields.target_info.bytes(challenge);
-        let Found::At(p) = first_domain(list) else {
-            return own;
-        };
-        let at = p.at;
-        let end = at + p.len as usize;
-        return &list[at..end];
-    }
-    own
+    domain_of(own, challenge, c)
 }

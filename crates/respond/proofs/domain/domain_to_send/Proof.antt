@@ -1,6 +1,7 @@
--- `domain_to_send` hands out the domain as a part of the one that it came from.
+-- `domain_to_send` reads a challenge where the settings have no domain.
 use borrow.Author.Needs.{needs}
-use Rattle.respond.proofs.Domains.{own, value, value-end, end-fits}
+use Rattle.respond.proofs.Decisions.{taken-as}
+use Rattle.respond.proofs.Domains.{own, reading-is}
 use Rattle.respond.proofs.domain.domain_to_send.Statement.{statement}
 use Rattle.respond.proofs.domain.domain_to_send.Tie as tie
 use Rattle.respond.specs.Domain.{domainPart}
@@ -10,11 +11,5 @@ unfolding domainPart
 domain-to-send-spec =
     tie.close
     (tie.spec
-    (λ c. search own depth 9 fits 20000)
-    (λ c κs. search needs) (λ c. search needs) (λ c. search needs)
-    (λ c. search own depth 9 fits 20000)
-    (λ c κs. search needs) (λ c κs. search needs) (λ c κs. search needs) (λ c. search needs) (λ c. search needs)
-    (λ c. (search own depth 9 fits 20000, (search own depth 9 fits 20000, search own depth 9 fits 20000)))
-    (λ c. search needs) (λ c. search end-fits) (λ c. search needs) (λ c. search needs) (λ c. search value-end)
-    (λ c. (search value depth 9 fits 20000, (search value depth 9 fits 20000, search value depth 9 fits 20000)))
-    (λ c. search own depth 9 fits 20000))
+    (λ c. search own depth 9 fits 20000) (λ c κs. search needs) (λ c. search needs) (λ c. search needs)
+    (λ c. search own depth 9 fits 20000) (λ c κs. search (taken-as, reading-is)) (λ c. search needs))

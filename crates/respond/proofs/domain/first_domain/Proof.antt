@@ -1,6 +1,6 @@
 -- `first_domain` is the first pair 2 of a list, which ends within it.
 use borrow.Author.Needs.{needs}
-use Rattle.respond.proofs.Domains.{done-inside, done-found, not-done}
+use Rattle.respond.proofs.Domains.{found-inside}
 use Rattle.respond.proofs.domain.first_domain.Statement.{statement}
 use Rattle.respond.proofs.domain.first_domain.Tie as tie
 
@@ -8,5 +8,4 @@ pub first-domain-spec : {M : Type 1} → statement M
 first-domain-spec =
     tie.close
     (tie.spec
-    (λ c κs. search needs) (λ c. search needs) (λ c. search needs) (λ c. search not-done)
-    (λ c. search (done-inside, done-found)))
+    (λ c κs. search needs) (λ c. (search found-inside, search needs)))
