@@ -24,3 +24,4 @@ pub mod Walk
 pub mod WriteBack
 pub mod Answered
 pub mod AnswerKept
+pub mod CallKept

@@ -2,6 +2,7 @@
 -- writes."
 use Prim.Native.Nat.{ℕ}
 use mathlib.Core.Path.{_≡_}
+use mathlib.Core.Logic.{_⊎_}
 use mathlib.Core.List.{List}
 use lib.ListN.{length, drop}
 use Rattle.wire.specs.declared.refusal.Refusal.{Refusal}
@@ -15,6 +16,8 @@ use Rattle.respond.specs.declared.answer.Answered.the-variants.{Sent, Refused a
 use Rattle.respond.specs.declared.decision.Settings.{Settings}
 use Rattle.respond.specs.Answer.{respondAnswer, respondOut}
 use Rattle.word.specs.Call.{lineAnswer, lineAfter}
+use Rattle.c_number.specs.Handed.{Handed, callNumber, callOut, besideNumber, besideOut, besideBytes}
+use Rattle.c_respond.specs.Respond.{respondedNumbers, respondedOut}
 use Rattle.nl_auth_flags.specs.declared.NlAuthFlags.{NlAuthFlags}
 use Rattle.nl_auth_flags.specs.Flags.{known}
 use Rattle.nl_auth_writing.specs.Writing.{requestAnswer, requestOut, responseAnswer, responseOut}
@@ -54,3 +57,20 @@ RespondKept =
     (out s version mic lm nt domain user workstation key : List ℕ) (settings : Settings) (clock : ℕ) → length version ≡ 8 → length mic ≡ 16 →
     KeptAnswer (respondAnswer (length out) s settings clock version mic lm nt domain user workstation key) out
     (respondOut out s settings version mic lm nt domain user workstation key)
+
+-- the C interface: a call that hands out numbers is answered 0, or leaves its arrays as they were
+abbrev pub CallKept : Type 0
+CallKept = (n : ℕ) (h : Handed) (out : List ℕ) → (callNumber n h (length out) ≡ 0) ⊎ (callOut n h out ≡ out)
+
+abbrev pub BesideKept : Type 0
+BesideKept =
+    (n m : ℕ) (h : Handed) (bytes out beside : List ℕ) →
+    (besideNumber n m h (length out) (length beside) ≡ 0)
+    ⊎ ((besideOut n m h out (length beside) ≡ out) × (besideBytes n m h bytes (length out) beside ≡ beside))
+
+-- and an answer that is refused leaves its numbers; the message's output is that of `RespondKept`, or as it was
+abbrev pub RespondedKept : Type 0
+RespondedKept =
+    (numbers sent out : List ℕ) →
+    ((e : Refusal) → respondedNumbers (Unanswered e) numbers ≡ numbers)
+    × ((respondedOut sent (length numbers) out ≡ sent) ⊎ (respondedOut sent (length numbers) out ≡ out))
