@@ -1,19 +1,23 @@
 -- Laws of numbers in a lent array, and of answers that are known.
 use Prim.Native.Nat.{ℕ, _+_, _-_, _≤_, _<_}
-use mathlib.Core.Path.{_≡_}
+use mathlib.Core.Path.{_≡_, sym, _∙_}
+use mathlib.Core.Bool.{Bool, true, false}
 use mathlib.Core.List.{List}
 use native.Mathlib.Nat.{zero-add}
 use native.Mathlib.Omega.{arith}
+use lib.Dec.{leb}
 use borrow.Rule.Slice.PartMut.{putMid}
 use lib.ListN.{length, take, drop, set, getD, length-take}
 use lib.Seq.{take-all}
 use Rattle.wire.proofs.Filled.{Filled, one, all}
 use Rattle.wire.specs.declared.refusal.Refusal.{Refusal}
+use Rattle.wire.specs.declared.refusal.Refusal.the-variants.{NoRoom}
 use Rattle.wire.specs.declared.check.Verdict.{Verdict}
-use Rattle.wire.specs.declared.check.Verdict.the-variants.{Refused as Not}
+use Rattle.wire.specs.declared.check.Verdict.the-variants.{Clear, Refused as Not}
+use Rattle.wire.specs.Check.{checked, after}
 use Rattle.place.specs.declared.written.Written.{Written}
 use Rattle.place.specs.declared.written.Written.the-variants.{Refused}
-use Rattle.place.specs.Written.{atFront}
+use Rattle.place.specs.Written.{answered, atFront}
 use Rattle.word.specs.Call.{lineAnswer, lineAfter}
 use Rattle.c_number.specs.Number.{refusalNumber, verdictNumber, writtenNumber}
 
@@ -48,6 +52,18 @@ verdict-refused v e r p q = rw p q
 
 pub writing-refused : (v : Written) (e : Refusal) (r : ℕ) → v ≡ Refused e → r ≡ refusalNumber e → r ≡ writtenNumber v
 writing-refused v e r p q = rw p q
+
+-- a line's writing is refused by 33 alone, and so its number is known
+pub line-refused : (v : Written) (e : Refusal) (r : ℕ) → v ≡ Refused e → ((d : Refusal) → v ≡ Refused d → d ≡ NoRoom) →
+    r ≡ refusalNumber NoRoom → r ≡ writtenNumber v
+line-refused v e r p h q = rw (p, h e p) q
+
+pub no-room : (v : Written) (line out : List ℕ) → v ≡ lineAnswer line out → (e : Refusal) → v ≡ Refused e → e ≡ NoRoom
+unfolding lineAnswer
+no-room v line out p e q = go (leb (length line) (length out)) (sym p ∙ q) where
+  go : (b : Bool) → answered (after (checked b) (Not NoRoom) Clear) line ≡ Refused e → e ≡ NoRoom
+  go true h = absurd (let z : _≡_ {A = ℕ} 0 1 = cc in omega arith)
+  go false h = cc
 
 -- numbers that are known to be others
 pub of-front : (out xs ys zs : List ℕ) → ys ≡ atFront xs out → xs ≡ zs → ys ≡ atFront zs out

@@ -2,6 +2,9 @@
 ghost use mathlib.Core.Path.{_≡_};
 ghost use Prim.Native.Nat.{_≤_, _<_};
 ghost use lib.ListN.{length, take};
+ghost use Rattle.wire.specs.declared.refusal.Refusal.{Refusal};
+ghost use Rattle.wire.specs.declared.refusal.Refusal.the-variants.{NoRoom};
+ghost use Rattle.place.specs.declared.written.Written.the-variants.{Refused};
 ghost use Rattle.place.specs.Written.{atFront};
 ghost use Rattle.word.specs.Call.{lineAnswer, lineAfter};
 ghost use Rattle.c_number.specs.Number.{refusalNumber, verdictNumber, writtenNumber, bit};
@@ -42,6 +45,17 @@ pub fn written_number(written: Written) -> u64
     match written {
         Written::Length(n) => n as u64,
         Written::Refused(e) => refusal_number(e),
+    }
+}
+
+// The number of a line's writing, which is refused 33 or not at all.
+pub fn line_number(written: Written) -> u64
+    requires { ⌜ ((e : Refusal) → written ≡ Refused e → e ≡ NoRoom) ⌝ }
+    ensures { λ r. ⌜ r ≡ writtenNumber written ⌝ }
+{
+    match written {
+        Written::Length(n) => n as u64,
+        Written::Refused(_) => refusal_number(Refusal::NoRoom),
     }
 }
 

@@ -12,12 +12,14 @@ use c_number::refusal_number;
 use challenge::Timestamp;
 use place::written::room_holds;
 use respond::answer::Answered;
-use respond::by_default;
 use respond::decision::Decided;
 use respond::decision::Settings;
 use wire::check::Checked;
 use wire::number::has;
 use wire::refusal::Refusal;
+
+// The bits of the default settings: NTLMv2 alone.
+const DEFAULTS: u32 = 0x2;
 
 // The settings of the header's bits.
 fn settings_of(bits: u32) -> Settings
@@ -131,12 +133,10 @@ pub fn respond_for_bench<'a>(
     ensures content { λ _. ⌜ now (out .exit) ≡ respondedOut (respondOut (now (out .entry)) (now (challenge .entry)) defaults (now (version .entry)) (now (mic .entry)) (now (lm .entry)) (now (nt .entry)) (now (domain .entry)) (now (user .entry)) (now (workstation .entry)) (now (key .entry))) (length (now (numbers .entry))) (now (out .entry)) ⌝ }
     ensures beside { λ _. ⌜ now (numbers .exit) ≡ respondedNumbers (respondAnswer (length (now (out .entry))) (now (challenge .entry)) defaults clock (now (version .entry)) (now (mic .entry)) (now (lm .entry)) (now (nt .entry)) (now (domain .entry)) (now (user .entry)) (now (workstation .entry)) (now (key .entry))) (now (numbers .entry)) ⌝ }
 {
-    let Checked::Held = room_holds(2, numbers.len()) else {
-        return refusal_number(Refusal::NoRoom);
-    };
-    let answered = by_default::respond_for_bench(
+    respond(
         out,
         challenge,
+        DEFAULTS,
         clock,
         version,
         mic,
@@ -146,8 +146,8 @@ pub fn respond_for_bench<'a>(
         user,
         workstation,
         key,
-    );
-    give_answer(numbers, answered)
+        numbers,
+    )
 }
 
 // With the defaults, for old servers.
@@ -169,12 +169,10 @@ pub fn respond_to_old_server<'a>(
     ensures content { λ _. ⌜ now (out .exit) ≡ respondedOut (respondOut (now (out .entry)) (now (challenge .entry)) defaults (now (version .entry)) (now (mic .entry)) (now (lm .entry)) (now (nt .entry)) (now (domain .entry)) (now (user .entry)) (now (workstation .entry)) (now (key .entry))) (length (now (numbers .entry))) (now (out .entry)) ⌝ }
     ensures beside { λ _. ⌜ now (numbers .exit) ≡ respondedNumbers (respondAnswer (length (now (out .entry))) (now (challenge .entry)) defaults clock (now (version .entry)) (now (mic .entry)) (now (lm .entry)) (now (nt .entry)) (now (domain .entry)) (now (user .entry)) (now (workstation .entry)) (now (key .entry))) (now (numbers .entry)) ⌝ }
 {
-    let Checked::Held = room_holds(2, numbers.len()) else {
-        return refusal_number(Refusal::NoRoom);
-    };
-    let answered = by_default::respond_to_old_server(
+    respond(
         out,
         challenge,
+        DEFAULTS,
         clock,
         version,
         mic,
@@ -184,8 +182,8 @@ pub fn respond_to_old_server<'a>(
         user,
         workstation,
         key,
-    );
-    give_answer(numbers, answered)
+        numbers,
+    )
 }
 
 // With the defaults, for the relay.
@@ -207,12 +205,10 @@ pub fn respond_for_relay<'a>(
     ensures content { λ _. ⌜ now (out .exit) ≡ respondedOut (respondOut (now (out .entry)) (now (challenge .entry)) defaults (now (version .entry)) (now (mic .entry)) (now (lm .entry)) (now (nt .entry)) (now (domain .entry)) (now (user .entry)) (now (workstation .entry)) (now (key .entry))) (length (now (numbers .entry))) (now (out .entry)) ⌝ }
     ensures beside { λ _. ⌜ now (numbers .exit) ≡ respondedNumbers (respondAnswer (length (now (out .entry))) (now (challenge .entry)) defaults clock (now (version .entry)) (now (mic .entry)) (now (lm .entry)) (now (nt .entry)) (now (domain .entry)) (now (user .entry)) (now (workstation .entry)) (now (key .entry))) (now (numbers .entry)) ⌝ }
 {
-    let Checked::Held = room_holds(2, numbers.len()) else {
-        return refusal_number(Refusal::NoRoom);
-    };
-    let answered = by_default::respond_for_relay(
+    respond(
         out,
         challenge,
+        DEFAULTS,
         clock,
         version,
         mic,
@@ -222,6 +218,6 @@ pub fn respond_for_relay<'a>(
         user,
         workstation,
         key,
-    );
-    give_answer(numbers, answered)
+        numbers,
+    )
 }

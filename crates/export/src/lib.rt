@@ -22,6 +22,7 @@ ghost use Rattle.c_pairs.specs.Pairs.{countHanded, searchHanded, askedHanded};
 ghost use Rattle.c_respond.specs.Respond.{settingsOf, decidedHanded, respondedNumber, respondedNumbers, respondedOut};
 use authenticate_writing::write;
 use c_number::copy;
+use c_number::line_number;
 use c_number::verdict_number;
 use c_number::written_number;
 use field::Field;
@@ -256,7 +257,7 @@ pub extern "C" fn dialtable_authenticate_line(msg: &[u8], out: &mut [u8]) -> u64
     ensures answer { λ r. ⌜ r ≡ writtenNumber (lineAnswer (authenticateLine (now (msg .entry))) (now (out .entry))) ⌝ }
     ensures content { λ _. ⌜ now (out .exit) ≡ lineAfter (authenticateLine (now (msg .entry))) (now (out .entry)) ⌝ }
 {
-    written_number(line::authenticate_line(msg, out))
+    line_number(line::authenticate_line(msg, out))
 }
 
 #[no_mangle]
@@ -264,7 +265,7 @@ pub extern "C" fn dialtable_challenge_line(msg: &[u8], out: &mut [u8]) -> u64
     ensures answer { λ r. ⌜ r ≡ writtenNumber (lineAnswer (challengeLine (now (msg .entry))) (now (out .entry))) ⌝ }
     ensures content { λ _. ⌜ now (out .exit) ≡ lineAfter (challengeLine (now (msg .entry))) (now (out .entry)) ⌝ }
 {
-    written_number(line::challenge_line(msg, out))
+    line_number(line::challenge_line(msg, out))
 }
 
 #[no_mangle]
@@ -272,7 +273,7 @@ pub extern "C" fn dialtable_nl_auth_line(msg: &[u8], out: &mut [u8]) -> u64
     ensures answer { λ r. ⌜ r ≡ writtenNumber (lineAnswer (nlAuthLine (now (msg .entry))) (now (out .entry))) ⌝ }
     ensures content { λ _. ⌜ now (out .exit) ≡ lineAfter (nlAuthLine (now (msg .entry))) (now (out .entry)) ⌝ }
 {
-    written_number(line::nl_auth_line(msg, out))
+    line_number(line::nl_auth_line(msg, out))
 }
 
 #[no_mangle]
@@ -280,7 +281,7 @@ pub extern "C" fn dialtable_ntlm_line(msg: &[u8], out: &mut [u8]) -> u64
     ensures answer { λ r. ⌜ r ≡ writtenNumber (lineAnswer (ntlmLine (now (msg .entry))) (now (out .entry))) ⌝ }
     ensures content { λ _. ⌜ now (out .exit) ≡ lineAfter (ntlmLine (now (msg .entry))) (now (out .entry)) ⌝ }
 {
-    written_number(line::ntlm_line(msg, out))
+    line_number(line::ntlm_line(msg, out))
 }
 
 #[no_mangle]
@@ -288,7 +289,7 @@ pub extern "C" fn dialtable_ntlm_program_line(msg: &[u8], out: &mut [u8]) -> u64
     ensures answer { λ r. ⌜ r ≡ writtenNumber (lineAnswer (shownLine (ntlmLine (now (msg .entry))) (now (out .entry))) (now (out .entry))) ⌝ }
     ensures content { λ _. ⌜ now (out .exit) ≡ lineAfter (shownLine (ntlmLine (now (msg .entry))) (now (out .entry))) (now (out .entry)) ⌝ }
 {
-    written_number(line::ntlm_program_line(msg, out))
+    line_number(line::ntlm_program_line(msg, out))
 }
 
 #[no_mangle]
@@ -296,7 +297,7 @@ pub extern "C" fn dialtable_nl_auth_program_line(msg: &[u8], out: &mut [u8]) -> 
     ensures answer { λ r. ⌜ r ≡ writtenNumber (lineAnswer (shownLine (nlAuthLine (now (msg .entry))) (now (out .entry))) (now (out .entry))) ⌝ }
     ensures content { λ _. ⌜ now (out .exit) ≡ lineAfter (shownLine (nlAuthLine (now (msg .entry))) (now (out .entry))) (now (out .entry)) ⌝ }
 {
-    written_number(line::nl_auth_program_line(msg, out))
+    line_number(line::nl_auth_program_line(msg, out))
 }
 
 #[no_mangle]

@@ -8,5 +8,6 @@ pub mic-present-spec : {M : Type 1} → statement M
 mic-present-spec =
     tie.close
     (tie.spec
-    (λ c κs. search needs) (λ c κs. search needs) (λ c κs. search needs) (λ c κs. search needs) (λ c κs. search needs)
-    (λ c κs. search needs) (λ c. mic-by (c .before .before .before .before .before .before .before .before .before .before .before .before .args .n) (c .before .before .before .before .before .before .before .before .before .before .before .before .args .f) _ _ _ _ _ _ (c .before .before .before .before .before .before .before .before .before .before .before .begins .ensures) (c .before .before .before .before .before .before .before .before .before .before .begins2 .ensures) (c .before .before .before .before .before .before .before .before .before .begins3 .ensures) (c .before .before .before .before .before .before .before .before .begins4 .ensures) (c .before .before .before .before .before .before .before .begins5 .ensures) (c .before .before .before .before .before .before .begins6 .ensures)))
+    (λ c κs. search needs) (λ c.
+    let d = c .before .before .before .before .before .before in
+    mic-by (d .before .args .n) (d .before .args .f) (d .lowest .result) (d .lowest .ensures)))
