@@ -1,5 +1,5 @@
 -- CHALLENGE_MESSAGE (MS-NLMP 2.2.1.2), read as document 01 sets it out.
-use Prim.Native.Nat.{ℕ, _≤_}
+use Prim.Native.Nat.{ℕ}
 use mathlib.Core.Bool.{Bool}
 use mathlib.Core.List.{List, [], _∷_}
 use lib.ListN.{length, take, drop, replicate}
@@ -132,8 +132,3 @@ serverNamesOf s = onTaken NamesRefused (readingOf s) (λ c. NamesTaken (serverNa
 abbrev pub readingRefusal : Reading → Refusal
 readingRefusal (Taken c) = TooLong
 readingRefusal (Refused e) = e
-
--- a taken message holds the bytes of ServerChallenge
-abbrev pub Long : Reading → ℕ → Type 0
-Long (Taken c) n = 32 ≤ n
-Long (Refused e) n = Unit

@@ -2,7 +2,7 @@
 ghost use mathlib.Core.Path.{_≡_};
 ghost use Prim.Native.Nat.{_≤_};
 ghost use lib.ListN.{length};
-ghost use Rattle.challenge.specs.Challenge.{fieldsAt, checkEnds, checkBegins, checkNames, checkFields, fieldsOf, readingOf, serverChallenge, readChallenge, readingRefusal, Long, timestampIn, timestampOf, serverNamesIn, serverNamesOf};
+ghost use Rattle.challenge.specs.Challenge.{fieldsAt, checkEnds, checkBegins, checkNames, checkFields, fieldsOf, readingOf, serverChallenge, readChallenge, readingRefusal, timestampIn, timestampOf, serverNamesIn, serverNamesOf};
 use av_id::AvId;
 use av_pairs::Found;
 use av_pairs::check_pairs;
@@ -167,7 +167,7 @@ fn reading_of(msg: &[u8]) -> Reading
 
 // The eight bytes at 24 of a message that was taken, zeros otherwise.
 fn server_challenge(msg: &[u8], reading: Reading) -> [u8; 8]
-    requires { ⌜ Long reading (length (now msg)) ⌝ }
+    requires { ⌜ reading ≡ readingOf (now msg) ⌝ }
     ensures { λ r. ⌜ r ≡ serverChallenge reading (now (msg .entry)) ⌝ }
 {
     let mut bytes = [0u8; 8];

@@ -8,6 +8,7 @@ use lib.ListN.{length, replicate}
 use borrow.Author.Tests.{leb-true}
 use Rattle.wire.specs.declared.refusal.Refusal.{Refusal}
 use Rattle.wire.specs.declared.refusal.Refusal.the-variants.{NoCharset, WrongKey, TooLongToWrite, NoRoom}
+use Rattle.wire.proofs.Laws.{held-true}
 use Rattle.negotiate_flags.specs.Flags.{unicode, charsetHolds}
 use Rattle.place.specs.declared.written.Written.{Written}
 use Rattle.place.specs.declared.written.Written.the-variants.{Length, Refused as Unwritten}
@@ -23,7 +24,7 @@ use Rattle.respond.specs.Decision.{decisionOn, onDecided}
 use Rattle.respond.specs.Domain.{domainToSend}
 use Rattle.demands.specs.Kept.{Kept, KeptAnswer, AuthenticateKept, RespondKept}
 use Rattle.demands.proofs.Answered.{sent-written}
-use Rattle.demands.proofs.Bools.{after-held, held-true}
+use Rattle.demands.proofs.Bools.{after-held}
 use Rattle.demands.proofs.Kept.{by-verdict, clear-both}
 
 pub authenticate-kept : AuthenticateKept

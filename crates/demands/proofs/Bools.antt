@@ -21,10 +21,6 @@ pub failed-false : (b : Bool) → checked b ≡ Failed → b ≡ false
 failed-false true h = cc
 failed-false false h = refl
 
-pub held-true : (b : Bool) → checked b ≡ Held → b ≡ true
-held-true true h = refl
-held-true false h = cc
-
 pub or-left : (a b : Bool) → (a || b) ≡ false → a ≡ false
 or-left true b h = h
 or-left false b h = refl

@@ -1,17 +1,26 @@
 -- A refused call of the C interface leaves its arrays as they were.
+use Prim.Native.Nat.{ℕ}
 use mathlib.Core.Path.{_≡_, refl}
 use mathlib.Core.Logic.{_⊎_, inl, inr}
 use mathlib.Core.Bool.{Bool, true, false, _&&_}
+use mathlib.Core.List.{List}
 use lib.Dec.{leb}
-use lib.ListN.{length}
+use lib.ListN.{length, drop}
+use lib.Seq.{drop-append-seam}
+use borrow.Author.Tests.{lt-leb}
 use Rattle.wire.specs.declared.refusal.Refusal.{Refusal}
 use Rattle.wire.specs.declared.refusal.Refusal.the-variants.{NoRoom}
 use Rattle.wire.specs.Check.{checked, after}
+use Rattle.place.specs.Written.{atFront}
+use Rattle.respond.specs.declared.answer.Answered.{Answered}
 use Rattle.respond.specs.declared.answer.Answered.the-variants.{Refused}
+use Rattle.respond.specs.Answer.{respondAnswer, respondOut}
 use Rattle.c_number.specs.Number.{refusalNumber}
 use Rattle.c_number.specs.Handed.{Handed, numbers, refused, handedNumber, handedOut, handedBytes, callNumber, callOut, besideNumber, besideOut, besideBytes}
 use Rattle.c_respond.specs.Respond.{answeredOut, respondedNumbers, respondedOut}
-use Rattle.demands.specs.Kept.{CallKept, BesideKept, RespondedKept}
+use Rattle.demands.specs.Kept.{CallKept, BesideKept, CallFront, KeptAnswer, RespondedKept}
+use Rattle.demands.proofs.AnswerKept.{respond-kept}
+use Rattle.demands.proofs.Bools.{true-not-false}
 
 pub call-kept : CallKept
 unfolding callNumber callOut
@@ -32,13 +41,36 @@ beside-kept n m h bytes out beside = go (leb n (length out) && leb m (length bes
   go true (refused e) = inr (refl, refl)
   go false h = inr (refl, refl)
 
+pub call-front : CallFront
+unfolding callOut
+call-front n xs out = go (leb n (length out)) where
+  go : (t : Bool) → drop (length xs) (after (checked t) out (atFront xs out)) ≡ drop (length xs) out
+  go true = drop-append-seam xs (drop (length xs) out)
+  go false = refl
+
 pub responded-kept : RespondedKept
 unfolding respondedNumbers respondedOut
-responded-kept xs sent out = (λ e. numbers-kept (leb 2 (length xs)) e, out-kept (leb 2 (length xs))) where
-  numbers-kept : (t : Bool) (e : Refusal) → after (checked t) xs (answeredOut (Refused e) xs) ≡ xs
-  numbers-kept true e = refl
-  numbers-kept false e = refl
+responded-kept xs out s v mic lm nt domain user workstation key settings clock v8 m16 =
+    record {
+      short = λ l. by-room (leb 2 (length xs)) (lt-leb 2 (length xs) l) a sent;
+      refused = λ e h. by-answer (leb 2 (length xs)) a sent e h (kept .refused e h);
+    }
+  where
+    a : Answered
+    a = respondAnswer (length out) s settings clock v mic lm nt domain user workstation key
 
-  out-kept : (t : Bool) → (after (checked t) out sent ≡ sent) ⊎ (after (checked t) out sent ≡ out)
-  out-kept true = inl refl
-  out-kept false = inr refl
+    sent : List ℕ
+    sent = respondOut out s settings v mic lm nt domain user workstation key
+
+    kept : KeptAnswer a out sent
+    kept = respond-kept out s v mic lm nt domain user workstation key settings clock v8 m16
+
+    by-room : (t : Bool) → t ≡ false → (b : Answered) (l : List ℕ) →
+        (after (checked t) xs (answeredOut b xs) ≡ xs) × (after (checked t) out l ≡ out)
+    by-room true p b l = absurd (true-not-false p)
+    by-room false p b l = (refl, refl)
+
+    by-answer : (t : Bool) (b : Answered) (l : List ℕ) (e : Refusal) → b ≡ Refused e → l ≡ out →
+        (after (checked t) xs (answeredOut b xs) ≡ xs) × (after (checked t) out l ≡ out)
+    by-answer true b l e h k = (rw h refl, k)
+    by-answer false b l e h k = (refl, refl)

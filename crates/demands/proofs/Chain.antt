@@ -14,6 +14,7 @@ use Rattle.wire.specs.declared.check.Checked.{Checked}
 use Rattle.wire.specs.declared.check.Checked.the-variants.{Held, Failed}
 use Rattle.wire.specs.declared.check.Verdict.{Verdict}
 use Rattle.wire.specs.declared.check.Verdict.the-variants.{Clear, Refused as Not}
+use Rattle.wire.proofs.Laws.{held-true}
 use Rattle.field.specs.declared.Field.{Field}
 use Rattle.head.specs.declared.Head.{Head}
 use Rattle.head.specs.declared.Head.the-variants.{Flags, Refused as Stopped}
@@ -28,7 +29,7 @@ use Rattle.head.proofs.Stands.{stands, stand}
 use Rattle.demands.specs.Order.{First}
 use Rattle.demands.specs.Message.{Kind, Fails}
 use Rattle.demands.proofs.Order.{Free, first, next-field, next-check}
-use Rattle.demands.proofs.Bools.{true-not-false, both-ways, failed-false, held-true}
+use Rattle.demands.proofs.Bools.{true-not-false, both-ways, failed-false}
 
 abbrev pub layoutOf : Kind → Layout
 layoutOf k = record { fixed = k .fixed; kind = k .number; flags = k .flags }

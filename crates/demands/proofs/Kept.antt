@@ -14,6 +14,7 @@ use Rattle.wire.specs.declared.check.Verdict.the-variants.{Clear, Refused as No
 use Rattle.wire.specs.declared.refusal.Refusal.{Refusal}
 use Rattle.wire.specs.declared.refusal.Refusal.the-variants.{NoStrings, TooLongToWrite, NoRoom}
 use Rattle.wire.specs.Check.{checked, after, onClear}
+use Rattle.wire.proofs.Laws.{held-true}
 use Rattle.place.specs.declared.written.Written.the-variants.{Length, Refused}
 use Rattle.place.specs.Written.{atFront, answered, outAfter, sizeHolds, roomHolds}
 use Rattle.nl_auth_flags.specs.declared.NlAuthFlags.{NlAuthFlags}
@@ -21,7 +22,7 @@ use Rattle.nl_auth_flags.specs.Flags.{known, stringsHold}
 use Rattle.nl_auth_writing.specs.Writing.{requestBytes, responseBytes, checkZeros, checkRequest, requestAnswer, requestOut, responseAnswer, responseOut}
 use Rattle.word.specs.Call.{lineHolds, lineAnswer, lineAfter}
 use Rattle.demands.specs.Kept.{Kept, NlRequestKept, NlResponseKept, LineKept}
-use Rattle.demands.proofs.Bools.{held-true, after-held}
+use Rattle.demands.proofs.Bools.{after-held}
 
 -- what is written at the front of an output that has room for it
 module _ (bytes out : List ℕ) (room : length bytes ≤ length out) where

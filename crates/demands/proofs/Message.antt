@@ -9,11 +9,12 @@ use lib.Dec.{leb, ltb, eqb}
 use lib.ListN.{length}
 use borrow.Author.Tests.{leb-true, leb-false, ltb-true, lt-ltb, eqb-true, eqb-false}
 use Rattle.wire.specs.declared.check.Checked.the-variants.{Held, Failed}
+use Rattle.wire.proofs.Laws.{held-true}
 use Rattle.field.specs.declared.Field.{Field}
 use Rattle.field.specs.Field.{headAt, isEmpty, noField, fieldAt, endsInside, beginsAfter, evenName, share}
 use Rattle.wire.proofs.Bools.{and-left, and-right, and-both}
 use Rattle.demands.specs.Message.{Kind, lenOf, offsetOf, Set, Counts, Nonempty, Covers, Fails}
-use Rattle.demands.proofs.Bools.{true-not-false, both-ways, failed-false, held-true}
+use Rattle.demands.proofs.Bools.{true-not-false, both-ways, failed-false}
 
 -- f is what the reader makes of the head of field i
 pub record Stands (k : Kind) (s : List ℕ) (i : ℕ) (f : Field) : Type 0 where

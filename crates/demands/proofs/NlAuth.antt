@@ -10,6 +10,7 @@ use lib.ListN.{length, take, drop, getD, length-drop}
 use lib.Seq.{getD-drop}
 use borrow.Author.Tests.{leb-true, leb-false, ltb-true, ltb-false, eqb-true, eqb-false, eq-eqb, ne-eqb}
 use Rattle.wire.specs.declared.check.Checked.the-variants.{Held, Failed}
+use Rattle.wire.proofs.Laws.{held-true}
 use Rattle.field.specs.declared.Field.{Field}
 use Rattle.wire.specs.declared.refusal.Refusal.{Refusal}
 use Rattle.wire.specs.declared.refusal.Refusal.the-variants.{Unterminated}
@@ -30,7 +31,7 @@ use Rattle.demands.specs.OwnBytes.{OwnString, OwnRequest, OwnResponse, N
 use Rattle.demands.specs.TakenExactly.{IsTakenNl, NlRefusedWith, NlAuthIsTaken, NlAuthIsRefused}
 use Rattle.demands.proofs.Order.{Free, first, only-first, next-field, next-check, skip}
 use Rattle.demands.proofs.Chain.{chained}
-use Rattle.demands.proofs.Bools.{both-ways, failed-false, held-true, or-left, or-right, or-either, bit1, bit2, bit4, bit8, bit16}
+use Rattle.demands.proofs.Bools.{both-ways, failed-false, or-left, or-right, or-either, bit1, bit2, bit4, bit8, bit16}
 
 -- ---- one string
 

@@ -11,6 +11,7 @@ use borrow.Author.Tests.{leb-true, leb-false, eqb-true, eqb-false, eq-eqb, ne-eq
 use Rattle.av_id.specs.declared.AvId.{AvId}
 use Rattle.wire.specs.declared.check.Verdict.{Verdict}
 use Rattle.wire.specs.declared.check.Verdict.the-variants.{Clear, Refused as Not}
+use Rattle.wire.proofs.Laws.{held-true}
 use Rattle.av_id.specs.AvId.{isEnd, isText, sizeAllowed, implies}
 use Rattle.wire.specs.Check.{onClear}
 use Rattle.wire.specs.Refusal.{numberOf, fieldOf}
@@ -23,7 +24,7 @@ use Rattle.demands.specs.PairList.{idOf, sizeOf, nextOf, SizeAllowed, Pa
 use Rattle.demands.specs.TakenExactly.{CountRefused, PairsTaken, PairsRefused}
 use Rattle.demands.proofs.Chain.{chained}
 use Rattle.wire.proofs.Bools.{and-left, and-right, and-both}
-use Rattle.demands.proofs.Bools.{true-not-false, both-ways, failed-false, held-true, or-left, or-right, or-either}
+use Rattle.demands.proofs.Bools.{true-not-false, both-ways, failed-false, or-left, or-right, or-either}
 
 -- a test that an id other than the asked one passes
 implied : (a b : Bool) → implies a b ≡ true → a ≡ true → b ≡ true

@@ -11,6 +11,7 @@ use borrow.Author.Tests.{ltb-false, lt-ltb, le-ltb, le-leb, eq-eqb}
 use Rattle.wire.specs.declared.check.Checked.the-variants.{Held}
 use Rattle.wire.specs.declared.check.Verdict.{Verdict}
 use Rattle.wire.specs.declared.check.Verdict.the-variants.{Clear, Refused as Not}
+use Rattle.wire.proofs.Laws.{held-true}
 use Rattle.field.specs.declared.Field.{Field}
 use Rattle.wire.specs.declared.refusal.Refusal.the-variants.{NoRoom, ZeroInString}
 use Rattle.wire.specs.Check.{checked, after}
@@ -30,7 +31,7 @@ use Rattle.nl_auth.specs.NlAuth.{beforeZero, holdsZero, stringAt, stringUnder, 
 use Rattle.nl_auth_writing.specs.Writing.{headBytes, stringBytes, bytesUnder, utf8Bytes, requestBytes, responseBytes, noZero, checkZeros, checkRequest, requestAnswer, requestOut, responseAnswer, responseOut}
 use Rattle.demands.specs.ReadBack.{NlRequestReadsBack, ResponseBack, NlResponseReadsBack}
 use Rattle.demands.proofs.Kept.{request-holds}
-use Rattle.demands.proofs.Bools.{true-not-false, held-true, after-held, bit1, bit2, bit4, bit8, bit16}
+use Rattle.demands.proofs.Bools.{true-not-false, after-held, bit1, bit2, bit4, bit8, bit16}
 
 -- ---- one string
 

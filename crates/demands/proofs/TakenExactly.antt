@@ -11,6 +11,7 @@ use Rattle.wire.specs.declared.check.Checked.{Checked}
 use Rattle.wire.specs.declared.check.Checked.the-variants.{Held, Failed}
 use Rattle.wire.specs.declared.check.Verdict.{Verdict}
 use Rattle.wire.specs.declared.check.Verdict.the-variants.{Clear, Refused as Not}
+use Rattle.wire.proofs.Laws.{held-true}
 use Rattle.field.specs.declared.Field.{Field}
 use Rattle.negotiate_flags.specs.declared.NegotiateFlags.{NegotiateFlags}
 use Rattle.head.specs.declared.Head.{Head}
@@ -33,7 +34,7 @@ use Rattle.demands.proofs.Order.{Free, only-first, skip}
 use Rattle.demands.proofs.Message.{Stands, ends-failed, ends-held, begins-failed, begins-held, even-failed, even-held, share-true, share-false}
 use Rattle.demands.proofs.Message as fields
 use Rattle.demands.proofs.Chain.{JudgedV, JudgedH, Links, over-judged, head-judged, then, beyond}
-use Rattle.demands.proofs.Bools.{true-not-false, failed-false, held-true}
+use Rattle.demands.proofs.Bools.{true-not-false, failed-false}
 
 module _ (s : List ℕ) where
   -- each field of the reader is its head's

@@ -12,6 +12,7 @@ use borrow.Author.Tests.{eqb-true, eqb-false, eq-eqb, leb-true, ltb-true, ltb-fa
 use Rattle.field.specs.declared.Field.{Field}
 use Rattle.wire.specs.declared.check.Checked.the-variants.{Held}
 use Rattle.wire.specs.declared.check.Verdict.the-variants.{Clear}
+use Rattle.wire.proofs.Laws.{held-true}
 use Rattle.negotiate_flags.specs.declared.NegotiateFlags.{NegotiateFlags}
 use Rattle.wire.specs.declared.refusal.Refusal.the-variants.{NoCharset, OddNameToWrite, WrongKey, TooLongToWrite}
 use Rattle.field.specs.Field.{headAt, fieldBytes}
@@ -26,7 +27,7 @@ use Rattle.authenticate.specs.declared.Fields.{Fields}
 use Rattle.authenticate.specs.declared.Reading.{Reading}
 use Rattle.authenticate.specs.declared.Reading.the-variants.{Taken, Refused}
 use Rattle.authenticate.specs.Authenticate.{readAuthenticate}
-use Rattle.demands.proofs.Bools.{true-not-false, held-true, or-either, after-held}
+use Rattle.demands.proofs.Bools.{true-not-false, or-either, after-held}
 use Rattle.demands.proofs.Kept.{clear-both}
 use Rattle.demands.proofs.NlAuth.{above, five}
 use Rattle.demands.specs.OwnBytes.{OwnField}

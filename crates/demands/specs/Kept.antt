@@ -1,6 +1,6 @@
 -- Demand 1: "A refusal gives its number and field and changes no lent byte; a success changes only the bytes of what it
 -- writes."
-use Prim.Native.Nat.{ℕ}
+use Prim.Native.Nat.{ℕ, _<_}
 use mathlib.Core.Path.{_≡_}
 use mathlib.Core.Logic.{_⊎_}
 use mathlib.Core.List.{List}
@@ -16,7 +16,7 @@ use Rattle.respond.specs.declared.answer.Answered.the-variants.{Sent, Refused a
 use Rattle.respond.specs.declared.decision.Settings.{Settings}
 use Rattle.respond.specs.Answer.{respondAnswer, respondOut}
 use Rattle.word.specs.Call.{lineAnswer, lineAfter}
-use Rattle.c_number.specs.Handed.{Handed, callNumber, callOut, besideNumber, besideOut, besideBytes}
+use Rattle.c_number.specs.Handed.{Handed, numbers, callNumber, callOut, besideNumber, besideOut, besideBytes}
 use Rattle.c_respond.specs.Respond.{respondedNumbers, respondedOut}
 use Rattle.nl_auth_flags.specs.declared.NlAuthFlags.{NlAuthFlags}
 use Rattle.nl_auth_flags.specs.Flags.{known}
@@ -68,9 +68,17 @@ BesideKept =
     (besideNumber n m h (length out) (length beside) ≡ 0)
     ⊎ ((besideOut n m h out (length beside) ≡ out) × (besideBytes n m h bytes (length out) beside ≡ beside))
 
--- and an answer that is refused leaves its numbers; the message's output is that of `RespondKept`, or as it was
+-- what it hands out stands at the front, and nothing after that changes
+abbrev pub CallFront : Type 0
+CallFront = (n : ℕ) (xs out : List ℕ) → drop (length xs) (callOut n (numbers xs) out) ≡ drop (length xs) out
+
+-- an answer from C: where its array is too short, or where it is refused, array and output are as they were
+pub record KeptFromC (answer : Answered) (sent xs out : List ℕ) : Type 0 where
+  pub short : length xs < 2 → (respondedNumbers answer xs ≡ xs) × (respondedOut sent (length xs) out ≡ out)
+  pub refused : (e : Refusal) → answer ≡ Unanswered e → (respondedNumbers answer xs ≡ xs) × (respondedOut sent (length xs) out ≡ out)
+
 abbrev pub RespondedKept : Type 0
 RespondedKept =
-    (numbers sent out : List ℕ) →
-    ((e : Refusal) → respondedNumbers (Unanswered e) numbers ≡ numbers)
-    × ((respondedOut sent (length numbers) out ≡ sent) ⊎ (respondedOut sent (length numbers) out ≡ out))
+    (xs out s version mic lm nt domain user workstation key : List ℕ) (settings : Settings) (clock : ℕ) → length version ≡ 8 → length mic ≡ 16 →
+    KeptFromC (respondAnswer (length out) s settings clock version mic lm nt domain user workstation key)
+    (respondOut out s settings version mic lm nt domain user workstation key) xs out
