@@ -1,11 +1,11 @@
 -- Laws of what is written: its bytes, its length and its checks.
 use Prim.Native.Nat.{ℕ, _+_, _≤_}
 use mathlib.Core.Path.{_≡_, refl, sym, _∙_}
-use mathlib.Core.Bool.{Bool, true, false, _||_, _&&_, cond}
+use mathlib.Core.Bool.{Bool, true, false, _||_, _&&_}
 use mathlib.Core.List.{List}
 use native.Mathlib.Omega.{arith}
 use lib.Dec.{leb, eqb}
-use lib.ListN.{length, replicate, length-append}
+use lib.ListN.{length, length-append}
 use borrow.Author.Tests.{leb-true}
 use Rattle.wire.specs.declared.check.Checked.{Checked}
 use Rattle.wire.specs.declared.check.Checked.the-variants.{Held, Failed}
@@ -15,14 +15,16 @@ use Rattle.field.specs.declared.Field.{Field}
 use Rattle.negotiate_flags.specs.declared.NegotiateFlags.{NegotiateFlags}
 use Rattle.wire.specs.declared.refusal.Refusal.the-variants.{NoCharset, TooLongToWrite, WrongKey, NoRoom}
 use Rattle.wire.specs.Check.{checked, after, onClear}
-use Rattle.negotiate_flags.specs.Flags.{unicode, keyExch, version, charsetHolds}
+use Rattle.negotiate_flags.specs.Flags.{unicode, keyExch, charsetHolds}
 use Rattle.wire.proofs.Laws.{chain, groups}
 use Rattle.place.specs.Place.{Wrote}
 use Rattle.place.specs.Written.{counted}
-use Rattle.place.proofs.Numbers.{length-le16, length-le32}
+use Rattle.place.proofs.Numbers.{length-le32}
 use Rattle.place.proofs.Writings.{measured, counted-on}
+use Rattle.field_writing.specs.Writing.{fieldOf}
+use Rattle.field_writing.proofs.Laws.{length-head, length-version}
 use Rattle.authenticate.specs.declared.Fields.{Fields}
-use Rattle.authenticate_writing.specs.Writing.{fieldOf, fieldsTo, headBytes, headsBytes, versionBytes, afterHeads, fixedBytes, payloadBytes, authenticateBytes, checkNamesToWrite, keyHolds, sizeToWrite, checkToWrite}
+use Rattle.authenticate_writing.specs.Writing.{fieldsTo, headsBytes, afterHeads, fixedBytes, payloadBytes, authenticateBytes, checkNamesToWrite, keyHolds, sizeToWrite, checkToWrite}
 
 -- ---- the fixed part
 
@@ -35,16 +37,6 @@ pub laid-out : (lm nt domain user workstation key : ℕ) (a b c d e f : Field) �
 unfolding fieldsTo
 laid-out lm nt domain user workstation key a b c d e f pa pb pc pd pe pf = rw (pa, pb, pc, pd, pe, pf)
 
--- Version by whether VERSION was told to be set
-module _ (flags : NegotiateFlags) (v : List ℕ) (b : Bool) (q : b ≡ version flags) (l k : List ℕ) (i p : ℕ) where
-  pub version-set : b ≡ true → Wrote l k i p v → Wrote l k i p (versionBytes flags v)
-  unfolding versionBytes
-  version-set h w = rw (← q, h) w
-
-  pub version-clear : b ≡ false → Wrote l k i p (replicate 8 0) → Wrote l k i p (versionBytes flags v)
-  unfolding versionBytes
-  version-clear h w = rw (← q, h) w
-
 -- a fixed part with the fields that were laid out
 pub of-fixed : (flags : NegotiateFlags) (v mic : List ℕ) (f g : Fields) (l k : List ℕ) (i p : ℕ) →
     f ≡ g → Wrote l k i p (fixedBytes flags v mic f) → Wrote l k i p (fixedBytes flags v mic g)
@@ -52,20 +44,9 @@ of-fixed flags v mic f g l k i p e w = rw (← e) w
 
 -- ---- lengths
 
-length-head : (f : Field) → length (headBytes f) ≡ 8
-unfolding headBytes
-length-head f = simp (length-append, length-le16, length-le32)
-
 length-heads : (f : Fields) → length (headsBytes f) ≡ 48
 unfolding headsBytes
 length-heads f = simp (length-append, length-head)
-
-length-version : (flags : NegotiateFlags) (v : List ℕ) → length v ≡ 8 → length (versionBytes flags v) ≡ 8
-unfolding versionBytes
-length-version flags v e = go (version flags) where
-  go : (b : Bool) → length (cond b v (replicate 8 0)) ≡ 8
-  go true = e
-  go false = refl
 
 pub length-fixed : (flags : NegotiateFlags) (v mic : List ℕ) (f : Fields) → length v ≡ 8 → length mic ≡ 16 →
     length (fixedBytes flags v mic f) ≡ 88

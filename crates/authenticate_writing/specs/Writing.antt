@@ -1,27 +1,24 @@
 -- AUTHENTICATE_MESSAGE (MS-NLMP 2.2.1.3), written as document 01 lays it out, into a lent output.
 use Prim.Native.Nat.{ℕ, _+_, _%_}
-use mathlib.Core.Bool.{Bool, _||_, _&&_, not, cond}
+use mathlib.Core.Bool.{Bool, _||_, _&&_, not}
 use mathlib.Core.List.{List, [], _∷_, _++_}
 use lib.Dec.{eqb}
-use lib.ListN.{length, replicate}
+use lib.ListN.{length}
 use Rattle.wire.specs.declared.check.Checked.{Checked}
 use Rattle.wire.specs.declared.check.Verdict.{Verdict}
 use Rattle.wire.specs.declared.check.Verdict.the-variants.{Clear, Refused as Not}
-use Rattle.field.specs.declared.Field.{Field}
 use Rattle.negotiate_flags.specs.declared.NegotiateFlags.{NegotiateFlags}
 use Rattle.wire.specs.declared.refusal.Refusal.the-variants.{NoCharset, TooLongToWrite, OddNameToWrite, WrongKey, NoRoom}
 use Rattle.wire.specs.Check.{checked, after, overAll, onClear}
-use Rattle.negotiate_flags.specs.Flags.{unicode, keyExch, version, charsetHolds}
+use Rattle.negotiate_flags.specs.Flags.{unicode, keyExch, charsetHolds}
 use Rattle.head.specs.Head.{signature}
 use Rattle.place.specs.declared.written.Written.{Written}
-use Rattle.place.specs.Place.{le16, le32}
+use Rattle.place.specs.Place.{le32}
 use Rattle.place.specs.Written.{sizeHolds, roomHolds, answered, outAfter}
+use Rattle.field_writing.specs.Writing.{fieldOf, headBytes, versionBytes}
 use Rattle.authenticate.specs.declared.Fields.{Fields}
 
 -- ---- the fixed part: always 88 bytes
-
-abbrev pub fieldOf : ℕ → ℕ → Field
-fieldOf offset len = record { offset = offset; len = len }
 
 -- where fields of these lengths stand: from 88 on, domain, user, workstation, LM response, NT response, key, with no
 -- padding; an empty one's offset is where it would stand
@@ -36,10 +33,6 @@ fieldsTo lm nt domain user workstation key =
       key = fieldOf (88 + domain + user + workstation + lm + nt) key;
     }
 
--- a head: Len, MaxLen (equal to Len), offset
-unfoldable pub headBytes : Field → List ℕ
-headBytes f = le16 (f .len) ++ (le16 (f .len) ++ le32 (f .offset))
-
 -- the heads in field order
 unfoldable pub headsBytes : Fields → List ℕ
 headsBytes f =
@@ -49,10 +42,6 @@ headsBytes f =
     headBytes (f .user) ++ (
     headBytes (f .workstation) ++
     headBytes (f .key)))))
-
--- Version: the caller's with VERSION, else zeros
-unfoldable pub versionBytes : NegotiateFlags → List ℕ → List ℕ
-versionBytes flags v = cond (version flags) v (replicate 8 0)
 
 -- flags at 60, Version at 64, MIC at 72
 unfoldable pub afterHeads : NegotiateFlags → List ℕ → List ℕ → List ℕ

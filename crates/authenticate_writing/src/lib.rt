@@ -5,9 +5,13 @@ ghost use Prim.Native.Nat.{_+_, _≤_};
 ghost use lib.ListN.{length};
 ghost use Rattle.place.specs.Place.{Wrote};
 ghost use Rattle.place.specs.Written.{counted};
-ghost use Rattle.authenticate_writing.specs.Writing.{fieldOf, fieldsTo, headBytes, headsBytes, versionBytes, afterHeads, fixedBytes, payloadBytes, authenticateBytes, evenToWrite, checkNamesToWrite, keyHolds, sizeToWrite, checkToWrite, writeAnswer, writeOut};
+ghost use Rattle.field_writing.specs.Writing.{headBytes};
+ghost use Rattle.authenticate_writing.specs.Writing.{fieldsTo, headsBytes, afterHeads, fixedBytes, payloadBytes, authenticateBytes, evenToWrite, checkNamesToWrite, keyHolds, sizeToWrite, checkToWrite, writeAnswer, writeOut};
 use authenticate::Fields;
-use field::Field;
+use field_writing::field_to;
+use field_writing::put_at;
+use field_writing::put_head;
+use field_writing::put_version;
 use negotiate_flags::NegotiateFlags;
 use place::Place;
 use place::written::Written;
@@ -101,16 +105,6 @@ fn check_to_write(
     Verdict::Clear
 }
 
-fn field_to(offset: usize, len: usize) -> Field
-    requires { ⌜ (offset ≤ 65535) × (len ≤ 65535) ⌝ }
-    ensures { λ r. ⌜ r ≡ fieldOf offset len ⌝ }
-{
-    Field {
-        offset: offset as u32,
-        len: len as u16,
-    }
-}
-
 // Where fields of these lengths stand, in the order of the payload.
 fn fields_to(
     lm: usize,
@@ -138,17 +132,6 @@ fn fields_to(
     }
 }
 
-// A field's head: MaxLen equals Len.
-fn put_head(place: Place, out: &mut [u8], f: Field) -> Place
-    requires { ⌜ place .at + 8 ≤ length (now out) ⌝ }
-    ensures next { λ r. ⌜ r .at ≡ place .at + 8 ⌝ }
-    ensures { λ r. ⌜ Wrote (now (out .entry)) (now (out .exit)) (place .at) (r .at) (headBytes f) ⌝ }
-{
-    let max_len = place.put_u16(out, f.len);
-    let offset = max_len.put_u16(out, f.len);
-    offset.put_u32(out, f.offset)
-}
-
 // The heads of fields 3 to 6.
 fn put_later_heads(place: Place, out: &mut [u8], f: Fields) -> Place
     requires { ⌜ place .at + 32 ≤ length (now out) ⌝ }
@@ -170,18 +153,6 @@ fn put_heads(place: Place, out: &mut [u8], f: Fields) -> Place
     let place = put_head(place, out, f.lm);
     let place = put_head(place, out, f.nt);
     put_later_heads(place, out, f)
-}
-
-// The caller's Version with VERSION, else zeros.
-fn put_version(place: Place, out: &mut [u8], flags: NegotiateFlags, version: &[u8; 8]) -> Place
-    requires { ⌜ place .at + 8 ≤ length (now out) ⌝ }
-    ensures next { λ r. ⌜ r .at ≡ place .at + 8 ⌝ }
-    ensures { λ r. ⌜ Wrote (now (out .entry)) (now (out .exit)) (place .at) (r .at) (versionBytes flags (now (version .entry))) ⌝ }
-{
-    if flags.version() {
-        return place.put_bytes(out, version);
-    }
-    place.put_bytes(out, &[0u8; 8])
 }
 
 // Flags, Version and MIC.
@@ -217,25 +188,6 @@ fn put_fixed(
     let place = place.put_u32(out, 3);
     let place = put_heads(place, out, f);
     put_after_heads(place, out, flags, version, mic)
-}
-
-// A field's bytes, from the start of the lent part on.
-fn put_field(out: &mut [u8], bytes: &[u8]) -> Place
-    requires { ⌜ length (now bytes) ≤ length (now out) ⌝ }
-    ensures next { λ r. ⌜ r .at ≡ length (now (bytes .entry)) ⌝ }
-    ensures { λ r. ⌜ Wrote (now (out .entry)) (now (out .exit)) 0 (r .at) (now (bytes .entry)) ⌝ }
-{
-    Place { at: 0 }.put_bytes(out, bytes)
-}
-
-// A field at its place: its writer is lent the output from there on.
-fn put_at(place: Place, out: &mut [u8], bytes: &[u8]) -> Place
-    requires { ⌜ place .at + length (now bytes) ≤ length (now out) ⌝ }
-    ensures { λ r. ⌜ Wrote (now (out .entry)) (now (out .exit)) (place .at) (r .at) (now (bytes .entry)) ⌝ }
-{
-    let at = place.at;
-    let end = put_field(&mut out[at..], bytes);
-    Place { at: at + end.at }
 }
 
 // The secrets: LM response, NT response, key.

@@ -16,12 +16,15 @@ use Rattle.challenge.specs.declared.Timestamp.{Timestamp}
 use Rattle.challenge.specs.declared.Timestamp.the-variants.{Time, Nothing}
 use Rattle.challenge.specs.declared.TimestampReading.{TimestampReading}
 use Rattle.challenge.specs.declared.TimestampReading.the-variants.{Taken as TimeTaken, Refused as TimeRefused}
+use Rattle.negotiate.specs.declared.Negotiate.{Negotiate}
+use Rattle.negotiate.specs.declared.Reading.{Reading as NegoReading}
+use Rattle.negotiate.specs.declared.Reading.the-variants.{Taken as NegoTaken, Refused as NegoRefused}
 use Rattle.nl_auth.specs.declared.NlAuth.{NlAuth}
 use Rattle.nl_auth.specs.declared.Reading.{Reading as NlReading}
 use Rattle.nl_auth.specs.declared.Reading.the-variants.{Taken as NlTaken, Refused as NlRefused}
 use Rattle.place.specs.Written.{atFront}
 use Rattle.c_number.specs.Handed.{numbers, refused}
-use Rattle.c_reading.specs.Numbers.{authenticateNumbers, challengeNumbers, timestampNumbers, serverNamesNumbers, nlAuthNumbers, authHanded, chalHanded, timeHanded, namesHanded, nlHanded}
+use Rattle.c_reading.specs.Numbers.{negotiateNumbers, authenticateNumbers, challengeNumbers, timestampNumbers, serverNamesNumbers, nlAuthNumbers, negoHanded, authHanded, chalHanded, timeHanded, namesHanded, nlHanded}
 
 pub timed : (w : Timestamp) (t : ℕ) → w ≡ Time t → (1 ∷ t ∷ []) ≡ timestampNumbers w
 unfolding timestampNumbers
@@ -73,3 +76,10 @@ module _ (w v : ChalAnswer) (e : w ≡ v) where
 
   pub chal-refused : (d : Refusal) → w .reading ≡ ChalRefused d → refused d ≡ chalHanded (v .reading)
   chal-refused d h = simp (← e, h)
+
+module _ (w v : NegoReading) (e : w ≡ v) where
+  pub nego-taken : (x : Negotiate) (xs : List ℕ) → xs ≡ negotiateNumbers x → w ≡ NegoTaken x → numbers xs ≡ negoHanded v
+  nego-taken x xs p h = simp (← e, h, p)
+
+  pub nego-refused : (d : Refusal) → w ≡ NegoRefused d → refused d ≡ negoHanded v
+  nego-refused d h = simp (← e, h)

@@ -14,11 +14,23 @@ use Rattle.challenge.specs.declared.ServerNamesReading.the-variants.{Taken as N
 use Rattle.challenge.specs.declared.ServerNames.{ServerNames}
 use Rattle.challenge.specs.declared.Timestamp.{Timestamp}
 use Rattle.challenge.specs.declared.Timestamp.the-variants.{Time, Nothing}
+use Rattle.negotiate.specs.declared.Negotiate.{Negotiate}
+use Rattle.negotiate.specs.declared.Reading.{Reading as NegoReading}
+use Rattle.negotiate.specs.declared.Reading.the-variants.{Taken as NegoTaken, Refused as NegoRefused}
 use Rattle.nl_auth.specs.declared.NlAuth.{NlAuth}
 use Rattle.nl_auth.specs.declared.Reading.{Reading as NlReading}
 use Rattle.nl_auth.specs.declared.Reading.the-variants.{Taken as NlTaken, Refused as NlRefused}
 use Rattle.c_number.specs.Number.{bit}
 use Rattle.c_number.specs.Handed.{Handed, numbers, refused}
+
+-- flags, and the offset and length of fields 1 and 2
+unfoldable pub negotiateNumbers : Negotiate → List ℕ
+negotiateNumbers m =
+    m .flags .bits ∷
+    m .fields .domain .offset ∷
+    m .fields .domain .len ∷
+    m .fields .workstation .offset ∷
+    m .fields .workstation .len ∷ []
 
 -- flags, whether a MIC is there, and the offset and length of fields 1 to 6
 unfoldable pub authenticateNumbers : Authenticate → List ℕ
@@ -73,6 +85,10 @@ nlAuthNumbers m =
     m .strings .«utf8_computer» .len ∷ []
 
 -- ---- what each reading hands out
+
+abbrev pub negoHanded : NegoReading → Handed
+negoHanded (NegoTaken m) = numbers (negotiateNumbers m)
+negoHanded (NegoRefused e) = refused e
 
 abbrev pub authHanded : Reading → Handed
 authHanded (Taken a) = numbers (authenticateNumbers a)

@@ -3,9 +3,10 @@ ghost use mathlib.Core.Path.{_≡_};
 ghost use Prim.Native.Nat.{_≤_};
 ghost use lib.ListN.{length};
 ghost use Rattle.place.specs.Written.{atFront};
-ghost use Rattle.c_reading.specs.Numbers.{authenticateNumbers, challengeNumbers, timestampNumbers, serverNamesNumbers, nlAuthNumbers, authHanded, chalHanded, timeHanded, namesHanded, nlHanded};
+ghost use Rattle.c_reading.specs.Numbers.{negotiateNumbers, authenticateNumbers, challengeNumbers, timestampNumbers, serverNamesNumbers, nlAuthNumbers, negoHanded, authHanded, chalHanded, timeHanded, namesHanded, nlHanded};
 ghost use Rattle.authenticate.specs.Authenticate.{readAuthenticate};
 ghost use Rattle.challenge.specs.Challenge.{readChallenge, timestampOf, serverNamesOf};
+ghost use Rattle.negotiate.specs.Negotiate.{readNegotiate};
 ghost use Rattle.nl_auth.specs.NlAuth.{readNlAuth};
 ghost use Rattle.c_number.specs.Handed.{callNumber, callOut, besideNumber, besideOut, besideBytes};
 use authenticate::Authenticate;
@@ -23,11 +24,26 @@ use challenge::ServerNames;
 use challenge::ServerNamesReading;
 use challenge::Timestamp;
 use challenge::TimestampReading;
+use negotiate::Negotiate;
+use negotiate::Reading as NegotiateReading;
 use nl_auth::NlAuth;
 use nl_auth::Reading as NlAuthReading;
 use place::written::room_holds;
 use wire::check::Checked;
 use wire::refusal::Refusal;
+
+fn negotiate_numbers(m: Negotiate) -> [u64; 5]
+    ensures { λ r. ⌜ r ≡ negotiateNumbers m ⌝ }
+{
+    let f = m.fields;
+    [
+        m.flags.bits as u64,
+        offset_of(f.domain),
+        len_of(f.domain),
+        offset_of(f.workstation),
+        len_of(f.workstation),
+    ]
+}
 
 fn authenticate_numbers(a: Authenticate) -> [u64; 14]
     ensures { λ r. ⌜ r ≡ authenticateNumbers a ⌝ }
@@ -97,6 +113,20 @@ fn nl_auth_numbers(m: NlAuth) -> [u64; 12]
         offset_of(s.utf8_computer),
         len_of(s.utf8_computer),
     ]
+}
+
+// Reads NEGOTIATE.
+pub fn read_negotiate(msg: &[u8], numbers: &mut [u64]) -> u64
+    ensures answer { λ r. ⌜ r ≡ callNumber 5 (negoHanded (readNegotiate (now (msg .entry)))) (length (now (numbers .entry))) ⌝ }
+    ensures content { λ _. ⌜ now (numbers .exit) ≡ callOut 5 (negoHanded (readNegotiate (now (msg .entry)))) (now (numbers .entry)) ⌝ }
+{
+    let Checked::Held = room_holds(5, numbers.len()) else {
+        return refusal_number(Refusal::NoRoom);
+    };
+    match negotiate::read(msg) {
+        NegotiateReading::Taken(m) => give(numbers, &negotiate_numbers(m)),
+        NegotiateReading::Refused(e) => refusal_number(e),
+    }
 }
 
 // What was found of a message that was taken; both arrays have room.

@@ -7,17 +7,15 @@ use mathlib.Core.List.{List}
 use native.Mathlib.Omega.{arith}
 use lib.ListN.{length}
 use borrow.Author.Tests.{eqb-true, eqb-false, eq-eqb}
-use Rattle.wire.specs.declared.check.Checked.{Checked}
-use Rattle.wire.specs.declared.check.Checked.the-variants.{Held, Failed}
 use Rattle.wire.specs.declared.check.Verdict.{Verdict}
 use Rattle.wire.specs.declared.check.Verdict.the-variants.{Clear, Refused as Not}
 use Rattle.field.specs.declared.Field.{Field}
 use Rattle.negotiate_flags.specs.declared.NegotiateFlags.{NegotiateFlags}
 use Rattle.head.specs.declared.Head.{Head}
 use Rattle.head.specs.declared.Head.the-variants.{Flags, Refused as Stopped}
-use Rattle.wire.specs.declared.refusal.Refusal.the-variants.{PastEnd, InFixedPart, OddName}
+use Rattle.wire.specs.declared.refusal.Refusal.the-variants.{OddName}
 use Rattle.wire.specs.Check.{onClear}
-use Rattle.field.specs.Field.{isEmpty, fieldAt, endsInside, beginsAfter, evenName, fieldBytes}
+use Rattle.field.specs.Field.{isEmpty, fieldAt, evenName, fieldBytes}
 use Rattle.negotiate_flags.specs.Flags.{unicode, requestTarget, targetInfo}
 use Rattle.head.specs.Head.{flagsAt, readHead, onFlags}
 use Rattle.wire.specs.Refusal.{numberOf, fieldOf}
@@ -32,9 +30,10 @@ use Rattle.demands.specs.Message.{challenge, Fails}
 use Rattle.demands.specs.PairList.{Holds, FirstFault}
 use Rattle.demands.specs.TakenExactly.{IsTakenChallenge, ChallengeRefusedWith, InfoBytes, ChallengeIsTaken, ChallengeIsRefused}
 use Rattle.demands.proofs.Order.{Free, only-first, next-check, skip}
-use Rattle.demands.proofs.Message.{Stands, ends-failed, ends-held, begins-failed, begins-held, even-failed, even-held}
+use Rattle.demands.proofs.Message.{Stands, even-failed, even-held}
+use Rattle.demands.proofs.Fields.{AllStand, Link, ends-judged, begins-judged}
 use Rattle.demands.proofs.Message as fields
-use Rattle.demands.proofs.Chain.{JudgedV, JudgedH, Links, over-judged, head-judged, then, beyond}
+use Rattle.demands.proofs.Chain.{JudgedV, JudgedH, over-judged, head-judged, then, beyond}
 use Rattle.demands.proofs.OwnBytes.{own-field}
 use Rattle.demands.proofs.PairList.{JudgedC, count-judged, holds-or-fault, one-first}
 
@@ -55,34 +54,14 @@ module _ (s : List ℕ) where
   unfolding fieldsAt
   two P h = (h 1 _ target-name, h 2 _ target-info)
 
-  abbrev Link : ℕ → (Field → Checked) → ℕ → Field → Type 0
-  Link n ok i f = (ok f ≡ Failed → Fails challenge s n i) × (ok f ≡ Held → Fails challenge s n i → ⊥)
+  all : AllStand challenge s 1 (allFields (fieldsAt s (flagsAt s 20)))
+  all = let x = two (Stands challenge s) (λ i f w. w) in (refl, x .0, (refl, x .1, tt))
 
-  all-links : (n : ℕ) (ok : Field → Checked) → ((i : ℕ) (f : Field) → Stands challenge s i f → Link n ok i f) →
-      Links challenge s n ok 1 (allFields (fieldsAt s (flagsAt s 20)))
-  all-links n ok l = let x = two (Link n ok) l in (refl, x .0 .0, x .0 .1, (refl, x .1 .0, x .1 .1, tt))
-
-  -- checks 6, 7 and 8; check 9 has no row for a kind with no secrets
-  ends-judged : Free (Fails challenge s) 6 0 → JudgedV challenge s 7 (checkEnds (length s) (fieldsAt s (flagsAt s 20)))
-  unfolding checkEnds
-  ends-judged free =
-      over-judged challenge s 6 7 (endsInside (length s)) PastEnd refl (λ j. (refl, refl)) (allFields (fieldsAt s (flagsAt s 20))) 1
-      (all-links 6 (endsInside (length s)) (λ i f w. (ends-failed challenge s i f w, ends-held challenge s i f w)))
-      (skip (Fails challenge s) 6 1 free (λ j l h. omega (arith, h .0 .first)))
-      (λ j l h. omega (arith, h .0 .last))
-
-  begins-judged : Free (Fails challenge s) 7 0 → JudgedV challenge s 8 (checkBegins (fieldsAt s (flagsAt s 20)))
-  unfolding checkBegins
-  begins-judged free =
-      over-judged challenge s 7 8 (beginsAfter 48) InFixedPart refl (λ j. (refl, refl)) (allFields (fieldsAt s (flagsAt s 20))) 1
-      (all-links 7 (beginsAfter 48) (λ i f w. (begins-failed challenge s i f w, begins-held challenge s i f w)))
-      (skip (Fails challenge s) 7 1 free (λ j l h. omega (arith, h .0 .first)))
-      (λ j l h. omega (arith, h .0 .last))
-
+  -- check 8; check 9 has no row for a kind with no secrets
   names-judged : Free (Fails challenge s) 8 0 → JudgedV challenge s 9 (checkNames (unicode (flagsAt s 20)) (fieldsAt s (flagsAt s 20)))
   unfolding checkNames
   names-judged free =
-      let x = two (λ i f. challenge .Name i → Link 8 (evenName (unicode (flagsAt s 20))) i f)
+      let x = two (λ i f. challenge .Name i → Link challenge s 8 (evenName (unicode (flagsAt s 20))) i f)
       (λ i f w n. (even-failed challenge s i f w _ (eqb-true _ 1) n, even-held challenge s i f w _ (eq-eqb _ 1))) in
       over-judged challenge s 8 9 (evenName (unicode (flagsAt s 20))) OddName refl (λ j. (refl, refl)) (names (fieldsAt s (flagsAt s 20))) 1
       (refl, x .0 refl .0, x .0 refl .1, tt)
@@ -90,12 +69,12 @@ module _ (s : List ℕ) where
       (λ j l h. omega (arith, h .1))
 
   fields-judged : Free (Fails challenge s) 6 0 → JudgedV challenge s 9 (checkFields (length s) (unicode (flagsAt s 20)) (fieldsAt s (flagsAt s 20)))
-  unfolding checkFields
+  unfolding checkFields checkEnds checkBegins
   fields-judged free =
       let f = fieldsAt s (flagsAt s 20) in
       let u = unicode (flagsAt s 20) in
-      then challenge s 7 9 (checkEnds (length s) f) (onClear Not (checkBegins f) (checkNames u f)) (ends-judged free) (λ c7.
-      then challenge s 8 9 (checkBegins f) (checkNames u f) (begins-judged c7) names-judged)
+      then challenge s 7 9 (checkEnds (length s) f) (onClear Not (checkBegins f) (checkNames u f)) (ends-judged challenge s (allFields f) all refl free) (λ c7.
+      then challenge s 8 9 (checkBegins f) (checkNames u f) (begins-judged challenge s (allFields f) all refl c7) names-judged)
 
   -- checks 1 to 8
   abbrev pub JudgedF : Reading → Type 0

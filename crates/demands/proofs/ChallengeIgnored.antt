@@ -1,11 +1,13 @@
 -- MaxLen and ignored bytes of a CHALLENGE message change nothing.
-use Prim.Native.Nat.{ℕ, _+_, _≤_, _<_}
-use mathlib.Core.Path.{_≡_, refl, sym, ap, _∙_, subst}
-use mathlib.Core.Logic.{inl, inr}
+use Prim.Native.Nat.{ℕ, _+_, _-_, _*_, _≤_, _<_}
+use mathlib.Core.Path.{_≡_, refl, ap, _∙_}
+use mathlib.Core.Logic.{_⊎_, inl, inr, ⊎-elim}
+use mathlib.Core.Bool.{Bool, true, false}
 use mathlib.Core.List.{List}
 use native.Mathlib.Omega.{arith}
+use lib.Dec.{ltb, eqb}
 use lib.ListN.{length}
-use borrow.Author.Tests.{eqb-true}
+use borrow.Author.Tests.{eqb-true, eqb-false, ltb-true, ltb-false}
 use Rattle.negotiate_flags.specs.declared.NegotiateFlags.{NegotiateFlags}
 use Rattle.head.specs.declared.Head.{Head}
 use Rattle.head.specs.declared.Head.the-variants.{Flags, Refused as Stopped}
@@ -19,74 +21,49 @@ use Rattle.challenge.specs.declared.Reading.the-variants.{Taken, Refused}
 use Rattle.challenge.specs.declared.ServerNamesReading.the-variants.{Taken as NamesTaken, Refused as NamesRefused}
 use Rattle.challenge.specs.declared.TimestampReading.the-variants.{Taken as TimeTaken, Refused as TimeRefused}
 use Rattle.challenge.specs.Challenge.{layout, fieldsAt, checkFields, fieldsOf, onTaken, infoOf, readingOf, serverChallenge, readChallenge, timestampIn, timestampOf, serverNamesIn, serverNamesOf}
-use Rattle.demands.specs.Message.{challenge, lenOf, Nonempty, Counts, Covers, Fails, Ignored, max-len, uncounted-head, empty-offset, unused, uncovered, DifferInIgnored}
+use Rattle.demands.specs.Message.{challenge, Fails, Ignored, DifferInIgnored}
 use Rattle.demands.specs.Ignored.{SameBytes, ChallengeIgnored}
 use Rattle.demands.proofs.Alike.{same-part}
 use Rattle.demands.proofs.Chain.{JudgedH, head-judged}
+use Rattle.demands.proofs.Apart.{Apart, lies, seen as apart-seen}
 use Rattle.demands.proofs.Unchanged.{Seen}
 use Rattle.demands.proofs.Unchanged as same
 use Rattle.demands.proofs.Challenge.{two, JudgedF, fields-of-judged}
 use Rattle.demands.proofs.ChallengeOwn.{taken-as}
 
--- what the reader looks at is not ignored
-module _ (s : List ℕ) where
-  early : (p : ℕ) → p < 12 → Ignored challenge s p → ⊥
-  early p l (max-len i a b (inl e)) = omega arith
-  early p l (max-len i a b (inr e)) = omega arith
-  early p l (uncounted-head i a b c x y) = omega arith
-  early p l (empty-offset i a b e c d) = omega arith
-  early p l (unused u) = omega (arith, u .0)
-  early p l (uncovered a c m) = omega arith
+apart : Apart challenge
+apart =
+    record {
+      flags = (omega arith, omega arith);
+      heads = λ i a b. (omega arith, omega arith);
+      from-flags = λ i a b. by-flags i (eqb i 1) refl a b;
+      from-heads = λ i j a b c d. by i j (ltb i j) (ltb j i) refl refl a c;
+      unused = λ p u. (omega (arith, u .0), omega (arith, u .1), inr (omega (arith, u .0)), λ i a b. by-unused p u i (eqb i 1) refl a b);
+    }
+  where
+    by-flags : (i : ℕ) (x : Bool) → eqb i 1 ≡ x → 1 ≤ i → i ≤ 2 → (24 ≤ 28 * i - 16) ⊎ (28 * i - 16 + 8 ≤ 20)
+    by-flags i true p a b = inr (omega (arith, eqb-true i 1 p))
+    by-flags i false p a b = inl (omega (arith, eqb-false i 1 p))
 
-  at-flags : (p : ℕ) → 20 ≤ p → p < 24 → Ignored challenge s p → ⊥
-  at-flags p l r (max-len i a b (inl e)) = omega arith
-  at-flags p l r (max-len i a b (inr e)) = omega arith
-  at-flags p l r (uncounted-head i a b c x y) = omega arith
-  at-flags p l r (empty-offset i a b e c d) = omega arith
-  at-flags p l r (unused u) = omega (arith, u .0)
-  at-flags p l r (uncovered a c m) = omega arith
+    by : (i j : ℕ) (x y : Bool) → ltb i j ≡ x → ltb j i ≡ y → 1 ≤ i → 1 ≤ j →
+        (i ≡ j) ⊎ ((28 * i - 16 + 8 ≤ 28 * j - 16) ⊎ (28 * j - 16 + 8 ≤ 28 * i - 16))
+    by i j true y p q a c = inr (inl (omega (arith, ltb-true i j p)))
+    by i j false true p q a c = inr (inr (omega (arith, ltb-true j i q)))
+    by i j false false p q a c = inl (omega (arith, ltb-false i j p, ltb-false j i q))
 
-  -- ServerChallenge
-  at-server : (p : ℕ) → 24 ≤ p → p < 32 → Ignored challenge s p → ⊥
-  at-server p l r (max-len i a b (inl e)) = omega arith
-  at-server p l r (max-len i a b (inr e)) = omega arith
-  at-server p l r (uncounted-head i a b c x y) = omega arith
-  at-server p l r (empty-offset i a b e c d) = omega arith
-  at-server p l r (unused u) = omega (arith, u .0)
-  at-server p l r (uncovered a c m) = omega arith
+    by-unused : (p : ℕ) → (32 ≤ p) × (p < 40) → (i : ℕ) (x : Bool) → eqb i 1 ≡ x → 1 ≤ i → i ≤ 2 → (p < 28 * i - 16) ⊎ (28 * i - 16 + 8 ≤ p)
+    by-unused p u i true q a b = inr (omega (arith, eqb-true i 1 q, u .0))
+    by-unused p u i false q a b = inl (omega (arith, eqb-false i 1 q, u .1))
 
-  at-len : (k p : ℕ) → 1 ≤ k → k ≤ 2 → Counts challenge s k → challenge .head k ≤ p → p < challenge .head k + 2 → Ignored challenge s p → ⊥
-  at-len k p f t counts l r (max-len i a b (inl e)) = omega arith
-  at-len k p f t counts l r (max-len i a b (inr e)) = omega arith
-  at-len k p f t counts l r (uncounted-head i a b c x y) =
-      let same : i ≡ k = omega arith in
-      c (subst (λ (z : ℕ). Counts challenge s z) (sym same) counts)
-  at-len k p f t counts l r (empty-offset i a b e c d) = omega arith
-  at-len k p f t counts l r (unused u) = omega (arith, u .0, u .1)
-  at-len k p f t counts l r (uncovered a c m) = omega arith
+pub seen : (s : List ℕ) → Seen challenge s
+seen s = apart-seen challenge apart s
 
-  at-offset : (k p : ℕ) → Nonempty challenge s k → challenge .head k + 4 ≤ p → p < challenge .head k + 8 → Ignored challenge s p → ⊥
-  at-offset k p ne l r (max-len i a b (inl e)) = omega (arith, ne .first, ne .last)
-  at-offset k p ne l r (max-len i a b (inr e)) = omega (arith, ne .first, ne .last)
-  at-offset k p ne l r (uncounted-head i a b c x y) =
-      let same : i ≡ k = omega (arith, ne .first, ne .last) in
-      c (subst (λ (z : ℕ). Counts challenge s z) (sym same) (ne .counts))
-  at-offset k p ne l r (empty-offset i a b e c d) =
-      let same : i ≡ k = omega (arith, ne .first, ne .last) in
-      omega (arith, ne .some, subst (λ (x : ℕ). lenOf challenge s x ≡ 0) same e)
-  at-offset k p ne l r (unused u) = omega (arith, ne .first, ne .last, u .0, u .1)
-  at-offset k p ne l r (uncovered a c m) = omega (arith, ne .first, ne .last)
-
-  at-field : (k p : ℕ) → Nonempty challenge s k → 48 ≤ p → Covers challenge s k p → Ignored challenge s p → ⊥
-  at-field k p ne l v (max-len i a b (inl e)) = omega arith
-  at-field k p ne l v (max-len i a b (inr e)) = omega arith
-  at-field k p ne l v (uncounted-head i a b c x y) = omega arith
-  at-field k p ne l v (empty-offset i a b e c d) = omega arith
-  at-field k p ne l v (unused u) = omega (arith, u .1)
-  at-field k p ne l v (uncovered a c m) = c k ne v
-
-  pub seen : Seen challenge s
-  seen = record { early = early; at-flags = at-flags; at-len = at-len; at-offset = at-offset; at-field = at-field }
+-- ServerChallenge is looked at too
+at-server : (s : List ℕ) (p : ℕ) → 24 ≤ p → p < 32 → Ignored challenge s p → ⊥
+at-server s p l r g =
+    ⊎-elim (λ u. omega (arith, u .0))
+    (⊎-elim (λ h. omega (arith, h .first, h .last, h .from, h .to)) (λ o. omega (arith, o .0)))
+    (lies challenge s p g)
 
 module _ (a b : List ℕ) (d : DifferInIgnored challenge a b) where
   fields-same : fieldsAt a (flagsAt a 20) ≡ fieldsAt b (flagsAt a 20)

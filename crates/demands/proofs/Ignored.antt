@@ -1,12 +1,13 @@
 -- MaxLen and ignored bytes change nothing.
-use Prim.Native.Nat.{ℕ, _+_, _≤_, _<_}
-use mathlib.Core.Path.{_≡_, refl, sym, ap, _∙_, subst}
-use mathlib.Core.Logic.{inl, inr}
+use Prim.Native.Nat.{ℕ, _+_, _*_, _≤_, _<_}
+use mathlib.Core.Path.{_≡_, refl, ap, _∙_}
+use mathlib.Core.Logic.{_⊎_, inl, inr, ⊎-elim}
 use mathlib.Core.Bool.{Bool, true, false, cond}
 use mathlib.Core.List.{List}
 use native.Mathlib.Omega.{arith}
+use lib.Dec.{ltb}
 use lib.ListN.{length, take, drop, replicate}
-use borrow.Author.Tests.{eqb-true}
+use borrow.Author.Tests.{eqb-true, ltb-true, ltb-false}
 use Rattle.negotiate_flags.specs.declared.NegotiateFlags.{NegotiateFlags}
 use Rattle.head.specs.declared.Head.{Head}
 use Rattle.head.specs.declared.Head.the-variants.{Flags, Refused as Stopped}
@@ -17,74 +18,39 @@ use Rattle.head.specs.Head.{flagsAt, readHead, onFlags}
 use Rattle.authenticate.specs.declared.Reading.{Reading}
 use Rattle.authenticate.specs.declared.Reading.the-variants.{Taken, Refused}
 use Rattle.authenticate.specs.Authenticate.{layout, fieldsAt, checkFields, micPresent, micBytes, readingOf, readAuthenticate}
-use Rattle.demands.specs.Message.{authenticate, lenOf, Nonempty, Counts, Covers, MicThere, Fails, Ignored, max-len, uncounted-head, empty-offset, unused, uncovered, DifferInIgnored}
+use Rattle.demands.specs.Message.{authenticate, MicThere, Fails, Ignored, DifferInIgnored}
 use Rattle.demands.specs.Ignored.{SameBytes, AuthenticateIgnored}
 use Rattle.demands.proofs.Alike.{same-part}
 use Rattle.demands.proofs.Chain.{JudgedH, head-judged}
+use Rattle.demands.proofs.Apart.{Apart, lies, seen as apart-seen}
 use Rattle.demands.proofs.Unchanged.{Seen}
 use Rattle.demands.proofs.Unchanged as same
 use Rattle.demands.proofs.TakenExactly.{six}
 use Rattle.demands.proofs.Mic.{mic-there}
 use Rattle.demands.proofs.OwnBytes.{taken-answer, none-fails}
 
--- what is looked at is not ignored
-module _ (s : List ℕ) where
-  early : (p : ℕ) → p < 12 → Ignored authenticate s p → ⊥
-  early p l (max-len i a b (inl e)) = omega arith
-  early p l (max-len i a b (inr e)) = omega arith
-  early p l (uncounted-head i a b c x y) = omega arith
-  early p l (empty-offset i a b e c d) = omega arith
-  early p l (unused u) = absurd u
-  early p l (uncovered a c m) = omega arith
+apart : Apart authenticate
+apart =
+    record {
+      flags = (omega arith, omega arith);
+      heads = λ i a b. (omega arith, omega arith);
+      from-flags = λ i a b. inr (omega arith);
+      from-heads = λ i j a b c d. by i j (ltb i j) (ltb j i) refl refl;
+      unused = λ p u. absurd u;
+    }
+  where
+    by : (i j : ℕ) (x y : Bool) → ltb i j ≡ x → ltb j i ≡ y → (i ≡ j) ⊎ ((4 + 8 * i + 8 ≤ 4 + 8 * j) ⊎ (4 + 8 * j + 8 ≤ 4 + 8 * i))
+    by i j true y p q = inr (inl (omega (arith, ltb-true i j p)))
+    by i j false true p q = inr (inr (omega (arith, ltb-true j i q)))
+    by i j false false p q = inl (omega (arith, ltb-false i j p, ltb-false j i q))
 
-  at-flags : (p : ℕ) → 60 ≤ p → p < 64 → Ignored authenticate s p → ⊥
-  at-flags p l r (max-len i a b (inl e)) = omega arith
-  at-flags p l r (max-len i a b (inr e)) = omega arith
-  at-flags p l r (uncounted-head i a b c x y) = omega arith
-  at-flags p l r (empty-offset i a b e c d) = omega arith
-  at-flags p l r (unused u) = absurd u
-  at-flags p l r (uncovered a c m) = omega arith
+pub seen : (s : List ℕ) → Seen authenticate s
+seen s = apart-seen authenticate apart s
 
-  at-len : (k p : ℕ) → 1 ≤ k → k ≤ 6 → Counts authenticate s k → authenticate .head k ≤ p → p < authenticate .head k + 2 → Ignored authenticate s p → ⊥
-  at-len k p f t counts l r (max-len i a b (inl e)) = omega arith
-  at-len k p f t counts l r (max-len i a b (inr e)) = omega arith
-  at-len k p f t counts l r (uncounted-head i a b c x y) =
-      let same : i ≡ k = omega arith in
-      c (subst (λ (z : ℕ). Counts authenticate s z) (sym same) counts)
-  at-len k p f t counts l r (empty-offset i a b e c d) = omega arith
-  at-len k p f t counts l r (unused u) = absurd u
-  at-len k p f t counts l r (uncovered a c m) = omega arith
-
-  at-offset : (k p : ℕ) → Nonempty authenticate s k → authenticate .head k + 4 ≤ p → p < authenticate .head k + 8 → Ignored authenticate s p → ⊥
-  at-offset k p ne l r (max-len i a b (inl e)) = omega (arith, ne .first, ne .last)
-  at-offset k p ne l r (max-len i a b (inr e)) = omega (arith, ne .first, ne .last)
-  at-offset k p ne l r (uncounted-head i a b c x y) =
-      let same : i ≡ k = omega arith in
-      c (subst (λ (z : ℕ). Counts authenticate s z) (sym same) (ne .counts))
-  at-offset k p ne l r (empty-offset i a b e c d) =
-      let same : i ≡ k = omega arith in
-      omega (arith, ne .some, subst (λ (x : ℕ). lenOf authenticate s x ≡ 0) same e)
-  at-offset k p ne l r (unused u) = absurd u
-  at-offset k p ne l r (uncovered a c m) = omega (arith, ne .first, ne .last)
-
-  at-field : (k p : ℕ) → Nonempty authenticate s k → 64 ≤ p → Covers authenticate s k p → Ignored authenticate s p → ⊥
-  at-field k p ne l v (max-len i a b (inl e)) = omega arith
-  at-field k p ne l v (max-len i a b (inr e)) = omega arith
-  at-field k p ne l v (uncounted-head i a b c x y) = omega arith
-  at-field k p ne l v (empty-offset i a b e c d) = omega arith
-  at-field k p ne l v (unused u) = absurd u
-  at-field k p ne l v (uncovered a c m) = c k ne v
-
-  at-mic : (p : ℕ) → MicThere authenticate s → 72 ≤ p → p < 88 → Ignored authenticate s p → ⊥
-  at-mic p there l r (max-len i a b (inl e)) = omega arith
-  at-mic p there l r (max-len i a b (inr e)) = omega arith
-  at-mic p there l r (uncounted-head i a b c x y) = omega arith
-  at-mic p there l r (empty-offset i a b e c d) = omega arith
-  at-mic p there l r (unused u) = absurd u
-  at-mic p there l r (uncovered a c m) = m there l r
-
-  pub seen : Seen authenticate s
-  seen = record { early = early; at-flags = at-flags; at-len = at-len; at-offset = at-offset; at-field = at-field }
+-- a MIC that is there is looked at too
+at-mic : (s : List ℕ) (p : ℕ) → MicThere authenticate s → 72 ≤ p → p < 88 → Ignored authenticate s p → ⊥
+at-mic s p there l r g =
+    ⊎-elim (λ u. absurd u) (⊎-elim (λ h. omega (arith, h .last, h .to)) (λ o. o .2 there l r)) (lies authenticate s p g)
 
 module _ (a b : List ℕ) (d : DifferInIgnored authenticate a b) where
   fields-same : fieldsAt a (flagsAt a 60) ≡ fieldsAt b (flagsAt a 60)

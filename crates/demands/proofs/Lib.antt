@@ -2,6 +2,7 @@ pub mod Bools
 pub mod Order
 pub mod Message
 pub mod Chain
+pub mod Fields
 pub mod PairList
 pub mod Challenge
 pub mod Found
@@ -16,11 +17,15 @@ pub mod Mic
 pub mod OwnBytes
 pub mod Alike
 pub mod Unchanged
+pub mod Apart
+pub mod Negotiate
+pub mod NegotiateBack
 pub mod Ignored
 pub mod Bench
 pub mod LineIgnored
 pub mod Secret
 pub mod Walk
+pub mod Sent
 pub mod WriteBack
 pub mod Answered
 pub mod AnswerKept

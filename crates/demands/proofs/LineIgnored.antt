@@ -1,10 +1,9 @@
 -- MaxLen and ignored bytes change no log line.
 use Prim.Native.Nat.{ℕ}
 use mathlib.Core.Path.{_≡_, refl, ap, _∙_}
-use mathlib.Core.Bool.{Bool, true, false, cond}
 use mathlib.Core.List.{List}
 use native.Mathlib.Omega.{arith}
-use Rattle.authenticate.specs.declared.Authenticate.{Authenticate}
+use Rattle.authenticate.specs.declared.Authenticate.{Authenticate as Message}
 use Rattle.authenticate.specs.declared.Answer.{Answer}
 use Rattle.authenticate.specs.declared.Reading.{Reading}
 use Rattle.authenticate.specs.declared.Reading.the-variants.{Taken, Refused}
@@ -13,23 +12,31 @@ use Rattle.challenge.specs.declared.Answer.{Answer as ChallengeAnswer}
 use Rattle.challenge.specs.declared.Reading.{Reading as ChallengeReading}
 use Rattle.challenge.specs.declared.Reading.the-variants.{Taken as ChallengeTaken, Refused as ChallengeRefused}
 use Rattle.challenge.specs.Challenge.{readChallenge}
+use Rattle.head.specs.declared.Kind.{Kind as ReadAs}
+use Rattle.head.specs.declared.Kind.the-variants.{Negotiate, Challenge, Authenticate}
+use Rattle.head.specs.Head.{kindOf}
+use Rattle.negotiate.specs.declared.Reading.{Reading as NegotiateReading}
+use Rattle.negotiate.specs.declared.Reading.the-variants.{Taken as NegotiateTaken, Refused as NegotiateRefused}
+use Rattle.negotiate.specs.Negotiate.{readNegotiate}
 use Rattle.nl_auth.specs.declared.Reading.{Reading as NlReading}
 use Rattle.nl_auth.specs.declared.Reading.the-variants.{Taken as NlTaken, Refused as NlRefused}
 use Rattle.nl_auth.specs.NlAuth.{readNlAuth}
+use Rattle.line_nego.specs.Nego.{negoNames, negoText}
 use Rattle.line_auth.specs.Auth.{authNames, authText}
-use Rattle.line.specs.Line.{authLine, authenticateLine, chalLine, challengeLine, isChallenge, ntlmLine, nlLine, nlAuthLine}
+use Rattle.line.specs.Line.{negoLine, negotiateLine, authLine, authenticateLine, chalLine, challengeLine, lineAs, ntlmLine, nlLine, nlAuthLine}
 use Rattle.line_chal.specs.Chal.{chalText}
 use Rattle.line_nl.specs.Nl.{nlOem, nlUtf8, nlText}
-use Rattle.demands.specs.Ignored.{SameFields, SameChallenge, SameNlAuth, AuthenticateLineIgnored, ChallengeLineIgnored, NtlmLineIgnored, NlAuthLineIgnored}
-use Rattle.demands.specs.Message.{Kind, authenticate, challenge, DifferInIgnored}
+use Rattle.demands.specs.Ignored.{SameFields, SameNegotiate, SameChallenge, SameNlAuth, AuthenticateLineIgnored, NegotiateLineIgnored, ChallengeLineIgnored, NtlmLineIgnored, NlAuthLineIgnored}
+use Rattle.demands.specs.Message.{Kind, negotiate, authenticate, challenge, DifferInIgnored}
 use Rattle.demands.proofs.Alike.{same32}
+use Rattle.demands.proofs.Negotiate.{negotiate-ignored, negotiate-seen}
 use Rattle.demands.proofs.ChallengeIgnored.{challenge-ignored, seen as challenge-seen}
 use Rattle.demands.proofs.Ignored.{authenticate-ignored, seen as authenticate-seen}
 use Rattle.demands.proofs.Unchanged.{Seen, looked}
 use Rattle.demands.proofs.NlIgnored.{nl-auth-ignored}
 
 -- an AUTHENTICATE line goes by the reading and the names' bytes
-pub auth-line-same : (s t : List ℕ) (r : Reading) → ((a : Authenticate) → r ≡ Taken a → SameFields s t (a .fields)) → authLine s r ≡ authLine t r
+pub auth-line-same : (s t : List ℕ) (r : Reading) → ((a : Message) → r ≡ Taken a → SameFields s t (a .fields)) → authLine s r ≡ authLine t r
 unfolding authText authNames
 auth-line-same s t (Taken a) same =
     let f = same a refl in
@@ -64,15 +71,29 @@ challenge-line-ignored s t d =
     let w = challenge-ignored s t d in
     challenge-line-same s t (readChallenge s .reading) w refl ∙ ap (λ (x : ChallengeAnswer). chalLine t (x .reading)) (w .answer)
 
--- the type, by which the NTLM program chooses, is no ignored byte of either kind
-kind-same : (k : Kind) (s t : List ℕ) → Seen k s → DifferInIgnored k s t → isChallenge s ≡ isChallenge t
+negotiate-line-same : (s t : List ℕ) (r : NegotiateReading) → SameNegotiate s t → readNegotiate s ≡ r → negoLine s r ≡ negoLine t r
+unfolding negoText negoNames
+negotiate-line-same s t (NegotiateTaken m) w e = simp (w .domain m e, w .workstation m e)
+negotiate-line-same s t (NegotiateRefused x) w e = refl
+
+pub negotiate-line-ignored : NegotiateLineIgnored
+unfolding negotiateLine
+negotiate-line-ignored s t d =
+    let w = negotiate-ignored s t d in
+    negotiate-line-same s t (readNegotiate s) w refl ∙ ap (λ (r : NegotiateReading). negoLine t r) (w .answer)
+
+-- the type, by which the NTLM program chooses, is no ignored byte of any kind
+kind-same : (k : Kind) (s t : List ℕ) → Seen k s → DifferInIgnored k s t → kindOf s ≡ kindOf t
+unfolding kindOf
 kind-same k s t seen d = simp (d .length-same, same32 s t 8 (λ p l r. looked k s t seen d p (seen .early p (omega arith))))
 
 pub ntlm-line-ignored : NtlmLineIgnored
 unfolding ntlmLine
-ntlm-line-ignored s t d = go (isChallenge s) refl where
-  go : (b : Bool) → isChallenge s ≡ b → cond (isChallenge s) (challengeLine s) (authenticateLine s) ≡ cond (isChallenge t) (challengeLine t) (authenticateLine t)
-  go true e =
+ntlm-line-ignored s t d = go (kindOf s) refl where
+  go : (k : ReadAs) → kindOf s ≡ k → lineAs (kindOf s) s ≡ lineAs (kindOf t) t
+  go Negotiate e =
+      rw (← (kind-same negotiate s t (negotiate-seen s) (d .as-negotiate e)), e) (negotiate-line-ignored s t (d .as-negotiate e))
+  go Challenge e =
       rw (← (kind-same challenge s t (challenge-seen s) (d .as-challenge e)), e) (challenge-line-ignored s t (d .as-challenge e))
-  go false e =
+  go Authenticate e =
       rw (← (kind-same authenticate s t (authenticate-seen s) (d .as-authenticate e)), e) (authenticate-line-ignored s t (d .as-authenticate e))

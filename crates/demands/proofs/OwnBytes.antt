@@ -1,8 +1,8 @@
 -- Each field handed out is that field's own bytes.
-use Prim.Native.Nat.{ℕ, _+_, _≤_, _<_}
+use Prim.Native.Nat.{ℕ, zero, suc, _+_, _≤_, _<_}
 use mathlib.Core.Path.{_≡_, refl, sym, ap, _∙_, subst}
 use mathlib.Core.Bool.{Bool, true, false, cond}
-use mathlib.Core.List.{List}
+use mathlib.Core.List.{List, [], _∷_}
 use native.Mathlib.Omega.{arith}
 use lib.ListN.{length, take, drop, replicate}
 use Rattle.field.specs.declared.Field.{Field}
@@ -102,3 +102,14 @@ authenticate-own s a h =
 pub authenticate-refused-mic : AuthenticateRefusedMic
 unfolding readAuthenticate
 authenticate-refused-mic s e h = ap (λ (r : Reading). micBytes r s) h
+
+-- a field that holds these bytes hands them out, also where they are none
+pub own-same : (k : Kind) (M : List ℕ) (i : ℕ) (g : Field) (x : List ℕ) → OwnField k M i g → (0 < lenOf k M i → Nonempty k M i) →
+    lenOf k M i ≡ length x → take (length x) (drop (offsetOf k M i) M) ≡ x → fieldBytes M g ≡ x
+own-same k M i g x o full l e = go (length x) refl where
+  go : (n : ℕ) → length x ≡ n → fieldBytes M g ≡ x
+  go zero p = o .none (λ ne. omega (arith, ne .some)) .2 ∙ sym (empty x p) where
+    empty : (y : List ℕ) → length y ≡ 0 → y ≡ []
+    empty [] q = refl
+    empty (y ∷ ys) q = absurd (omega arith)
+  go (suc n) p = o .bytes (full (omega arith)) ∙ ap (λ (n : ℕ). take n (drop (offsetOf k M i) M)) l ∙ e

@@ -16,9 +16,9 @@ use Rattle.field.specs.declared.Field.{Field}
 use Rattle.negotiate_flags.specs.declared.NegotiateFlags.{NegotiateFlags}
 use Rattle.head.specs.declared.Head.{Head}
 use Rattle.head.specs.declared.Head.the-variants.{Flags, Refused as Stopped}
-use Rattle.wire.specs.declared.refusal.Refusal.the-variants.{PastEnd, InFixedPart, OddName, NameOverSecret}
+use Rattle.wire.specs.declared.refusal.Refusal.the-variants.{OddName, NameOverSecret}
 use Rattle.wire.specs.Check.{onClear}
-use Rattle.field.specs.Field.{fieldAt, endsInside, beginsAfter, evenName, share}
+use Rattle.field.specs.Field.{fieldAt, evenName, share}
 use Rattle.negotiate_flags.specs.Flags.{unicode, keyExch}
 use Rattle.head.specs.Head.{flagsAt, readHead, onFlags}
 use Rattle.wire.specs.Refusal.{numberOf, fieldOf}
@@ -31,7 +31,8 @@ use Rattle.demands.specs.Order.{First}
 use Rattle.demands.specs.Message.{authenticate, Nonempty, Covers, Fails}
 use Rattle.demands.specs.TakenExactly.{IsTaken, RefusedWith, AuthenticateTaken, AuthenticateRefused}
 use Rattle.demands.proofs.Order.{Free, only-first, skip}
-use Rattle.demands.proofs.Message.{Stands, ends-failed, ends-held, begins-failed, begins-held, even-failed, even-held, share-true, share-false}
+use Rattle.demands.proofs.Message.{Stands, even-failed, even-held, share-true, share-false}
+use Rattle.demands.proofs.Fields.{AllStand, Link, ends-judged, begins-judged}
 use Rattle.demands.proofs.Message as fields
 use Rattle.demands.proofs.Chain.{JudgedV, JudgedH, Links, over-judged, head-judged, then, beyond}
 use Rattle.demands.proofs.Bools.{true-not-false, failed-false}
@@ -59,56 +60,21 @@ module _ (s : List ℕ) where
     h 6 _ keyed,
   )
 
-  -- a check's test at field i is the table's row n at i
-  abbrev Link : ℕ → (Field → Checked) → ℕ → Field → Type 0
-  Link n ok i f = (ok f ≡ Failed → Fails authenticate s n i) × (ok f ≡ Held → Fails authenticate s n i → ⊥)
+  all : AllStand authenticate s 1 (allFields (fieldsAt s (flagsAt s 60)))
+  all =
+      let x = six (Stands authenticate s) (λ i f w. w) in
+      (refl, x .0, (refl, x .1, (refl, x .2, (refl, x .3, (refl, x .4, (refl, x .5, tt))))))
 
-  all-links : (n : ℕ) (ok : Field → Checked) → ((i : ℕ) (f : Field) → Stands authenticate s i f → Link n ok i f) →
-      Links authenticate s n ok 1 (allFields (fieldsAt s (flagsAt s 60)))
-  all-links n ok l =
-      let x = six (Link n ok) l in (
-        refl,
-        x .0 .0,
-        x .0 .1,
-        (
-          refl,
-          x .1 .0,
-          x .1 .1,
-          (
-            refl,
-            x .2 .0,
-            x .2 .1,
-            (refl, x .3 .0, x .3 .1, (refl, x .4 .0, x .4 .1, (refl, x .5 .0, x .5 .1, tt))),
-          ),
-        ),
-      )
-
-  name-links : (n : ℕ) (ok : Field → Checked) → ((i : ℕ) (f : Field) → Stands authenticate s i f → authenticate .Name i → Link n ok i f) →
+  name-links : (n : ℕ) (ok : Field → Checked) → ((i : ℕ) (f : Field) → Stands authenticate s i f → authenticate .Name i → Link authenticate s n ok i f) →
       Links authenticate s n ok 3 (names (fieldsAt s (flagsAt s 60)))
   name-links n ok l =
-      let x = six (λ i f. authenticate .Name i → Link n ok i f) l in
+      let x = six (λ i f. authenticate .Name i → Link authenticate s n ok i f) l in
       let d = x .2 (omega arith, omega arith) in
       let u = x .3 (omega arith, omega arith) in
       let w = x .4 (omega arith, omega arith) in
       (refl, d .0, d .1, (refl, u .0, u .1, (refl, w .0, w .1, tt)))
 
-  -- checks 6 to 9
-  ends-judged : Free (Fails authenticate s) 6 0 → JudgedV authenticate s 7 (checkEnds (length s) (fieldsAt s (flagsAt s 60)))
-  unfolding checkEnds
-  ends-judged free =
-      over-judged authenticate s 6 7 (endsInside (length s)) PastEnd refl (λ j. (refl, refl)) (allFields (fieldsAt s (flagsAt s 60))) 1
-      (all-links 6 (endsInside (length s)) (λ i f w. (ends-failed authenticate s i f w, ends-held authenticate s i f w)))
-      (skip (Fails authenticate s) 6 1 free (λ j l h. omega (arith, h .0 .first)))
-      (λ j l h. omega (arith, h .0 .last))
-
-  begins-judged : Free (Fails authenticate s) 7 0 → JudgedV authenticate s 8 (checkBegins (fieldsAt s (flagsAt s 60)))
-  unfolding checkBegins
-  begins-judged free =
-      over-judged authenticate s 7 8 (beginsAfter 64) InFixedPart refl (λ j. (refl, refl)) (allFields (fieldsAt s (flagsAt s 60))) 1
-      (all-links 7 (beginsAfter 64) (λ i f w. (begins-failed authenticate s i f w, begins-held authenticate s i f w)))
-      (skip (Fails authenticate s) 7 1 free (λ j l h. omega (arith, h .0 .first)))
-      (λ j l h. omega (arith, h .0 .last))
-
+  -- checks 8 and 9
   names-judged : Free (Fails authenticate s) 8 0 → JudgedV authenticate s 9 (checkNames (unicode (flagsAt s 60)) (fieldsAt s (flagsAt s 60)))
   unfolding checkNames
   names-judged free =
@@ -118,7 +84,7 @@ module _ (s : List ℕ) where
       (skip (Fails authenticate s) 8 3 free (λ j l h. omega (arith, h .1 .0)))
       (λ j l h. omega (arith, h .1 .1))
 
-  shared-link : (i : ℕ) (f : Field) → Stands authenticate s i f → authenticate .Name i → Link 9 (apart (fieldsAt s (flagsAt s 60))) i f
+  shared-link : (i : ℕ) (f : Field) → Stands authenticate s i f → authenticate .Name i → Link authenticate s 9 (apart (fieldsAt s (flagsAt s 60))) i f
   shared-link i f w n = let x = six (λ k g. Stands authenticate s k g) (λ k g v. v) in (failed (x .0) (x .1) (x .5), held (x .0) (x .1) (x .5))
     where
       all : Fields
@@ -163,12 +129,12 @@ module _ (s : List ℕ) where
       (λ j l h. omega (arith, h .1 .1))
 
   fields-judged : Free (Fails authenticate s) 6 0 → JudgedV authenticate s 10 (checkFields (length s) (unicode (flagsAt s 60)) (fieldsAt s (flagsAt s 60)))
-  unfolding checkFields
+  unfolding checkFields checkEnds checkBegins
   fields-judged free =
       let f = fieldsAt s (flagsAt s 60) in
       let u = unicode (flagsAt s 60) in
-      then authenticate s 7 10 (checkEnds (length s) f) (onClear Not (checkBegins f) (onClear Not (checkNames u f) (checkShared f))) (ends-judged free) (λ c7.
-      then authenticate s 8 10 (checkBegins f) (onClear Not (checkNames u f) (checkShared f)) (begins-judged c7) (λ c8.
+      then authenticate s 7 10 (checkEnds (length s) f) (onClear Not (checkBegins f) (onClear Not (checkNames u f) (checkShared f))) (ends-judged authenticate s (allFields f) all refl free) (λ c7.
+      then authenticate s 8 10 (checkBegins f) (onClear Not (checkNames u f) (checkShared f)) (begins-judged authenticate s (allFields f) all refl c7) (λ c8.
       then authenticate s 9 10 (checkNames u f) (checkShared f) (names-judged c8) shared-judged))
 
   -- the whole reading

@@ -1,5 +1,5 @@
 -- What AUTHENTICATE's writer writes, byte by byte.
-use Prim.Native.Nat.{ℕ, zero, suc, _+_, _-_, _/_, _%_, _≤_, _<_}
+use Prim.Native.Nat.{ℕ, _+_, _-_, _/_, _%_, _≤_, _<_}
 use mathlib.Core.Path.{_≡_, refl, sym, ap, _∙_, subst}
 use mathlib.Core.Bool.{Bool, true, false, _||_, _&&_, not, cond}
 use mathlib.Core.Logic.{_⊎_, inl, inr, ⊎-elim}
@@ -18,11 +18,11 @@ use Rattle.wire.specs.declared.refusal.Refusal.the-variants.{NoCharset, OddName
 use Rattle.field.specs.Field.{headAt, fieldBytes}
 use Rattle.negotiate_flags.specs.Flags.{unicode, oem, keyExch, version, charsetHolds}
 use Rattle.head.specs.Head.{signature}
-use Rattle.wire.specs.Number.{u16At, u32At}
+use Rattle.wire.specs.Number.{u32At}
 use Rattle.wire.proofs.Bools.{and-right}
-use Rattle.place.specs.Place.{le16, le32}
+use Rattle.place.specs.Place.{le32}
 use Rattle.place.specs.Written.{sizeHolds}
-use Rattle.place.proofs.Numbers.{length-le16, length-le32, back16, back32}
+use Rattle.place.proofs.Numbers.{length-le32, back32}
 use Rattle.authenticate.specs.declared.Fields.{Fields}
 use Rattle.authenticate.specs.declared.Reading.{Reading}
 use Rattle.authenticate.specs.declared.Reading.the-variants.{Taken, Refused}
@@ -30,15 +30,18 @@ use Rattle.authenticate.specs.Authenticate.{readAuthenticate}
 use Rattle.demands.proofs.Bools.{true-not-false, or-either, after-held}
 use Rattle.demands.proofs.Kept.{clear-both}
 use Rattle.demands.proofs.NlAuth.{above, five}
-use Rattle.demands.specs.OwnBytes.{OwnField}
 use Rattle.demands.specs.Secret.{Secret, secret-field, mic as mic-byte, AsLong, AlikeOutside}
 use Rattle.demands.specs.ReadBack.{AuthenticateBack, AuthenticateReadsBack}
 use Rattle.demands.specs.TakenExactly.{IsTaken}
-use Rattle.demands.proofs.OwnBytes.{authenticate-own}
+use Rattle.demands.proofs.Chain.{by-row}
+use Rattle.demands.proofs.OwnBytes.{authenticate-own, own-same}
+use Rattle.demands.proofs.Sent.{back-at, in-payload}
 use Rattle.demands.proofs.ReadBack.{written-is}
 use Rattle.demands.proofs.TakenExactly.{authenticate-taken}
 use Rattle.demands.specs.Message.{authenticate, lenOf, offsetOf, Nonempty, Set, MicThere, Fails}
-use Rattle.authenticate_writing.specs.Writing.{fieldsTo, headBytes, headsBytes, versionBytes, afterHeads, fixedBytes, payloadBytes, authenticateBytes, evenToWrite, checkNamesToWrite, keyHolds, sizeToWrite, checkToWrite, writeAnswer, writeOut}
+use Rattle.field_writing.specs.Writing.{headBytes, versionBytes}
+use Rattle.field_writing.proofs.Laws.{length-head, length-version}
+use Rattle.authenticate_writing.specs.Writing.{fieldsTo, headsBytes, afterHeads, fixedBytes, payloadBytes, authenticateBytes, evenToWrite, checkNamesToWrite, keyHolds, sizeToWrite, checkToWrite, writeAnswer, writeOut}
 
 append-none : (l : List ℕ) → l ++ [] ≡ l
 append-none [] = refl
@@ -61,39 +64,6 @@ six-cases P a b c d e g k l r = go (eqb k 6) refl where
   go false p = five P a b c d e k l (below (eqb-false k 6 p)) where
     below : (k ≡ 6 → ⊥) → k ≤ 5
     below h = omega (arith, h)
-
--- a table's row by its number
-by-row : {s : List ℕ} (n i : ℕ) → (Fails authenticate s 1 i → ⊥) → (Fails authenticate s 2 i → ⊥) → (Fails authenticate s 3 i → ⊥) → (Fails authenticate s 4 i → ⊥) → (Fails authenticate s 5 i → ⊥) → (Fails authenticate s 6 i → ⊥) → (Fails authenticate s 7 i → ⊥) → (Fails authenticate s 8 i → ⊥) → (Fails authenticate s 9 i → ⊥) → Fails authenticate s n i → ⊥
-by-row {s} n i a b c d e f g h k w = go (eqb n 1) (eqb n 2) (eqb n 3) (eqb n 4) (eqb n 5) (eqb n 6) (eqb n 7) (eqb n 8) (eqb n 9) refl refl refl refl refl refl refl refl refl where
-  go : (x1 x2 x3 x4 x5 x6 x7 x8 x9 : Bool) → eqb n 1 ≡ x1 → eqb n 2 ≡ x2 → eqb n 3 ≡ x3 → eqb n 4 ≡ x4 → eqb n 5 ≡ x5 → eqb n 6 ≡ x6 → eqb n 7 ≡ x7 → eqb n 8 ≡ x8 → eqb n 9 ≡ x9 → ⊥
-  go true x2 x3 x4 x5 x6 x7 x8 x9 p1 p2 p3 p4 p5 p6 p7 p8 p9 = a (subst (λ (z : ℕ). Fails authenticate s z i) (eqb-true n 1 p1) w)
-  go false true x3 x4 x5 x6 x7 x8 x9 p1 p2 p3 p4 p5 p6 p7 p8 p9 = b (subst (λ (z : ℕ). Fails authenticate s z i) (eqb-true n 2 p2) w)
-  go false false true x4 x5 x6 x7 x8 x9 p1 p2 p3 p4 p5 p6 p7 p8 p9 = c (subst (λ (z : ℕ). Fails authenticate s z i) (eqb-true n 3 p3) w)
-  go false false false true x5 x6 x7 x8 x9 p1 p2 p3 p4 p5 p6 p7 p8 p9 = d (subst (λ (z : ℕ). Fails authenticate s z i) (eqb-true n 4 p4) w)
-  go false false false false true x6 x7 x8 x9 p1 p2 p3 p4 p5 p6 p7 p8 p9 = e (subst (λ (z : ℕ). Fails authenticate s z i) (eqb-true n 5 p5) w)
-  go false false false false false true x7 x8 x9 p1 p2 p3 p4 p5 p6 p7 p8 p9 = f (subst (λ (z : ℕ). Fails authenticate s z i) (eqb-true n 6 p6) w)
-  go false false false false false false true x8 x9 p1 p2 p3 p4 p5 p6 p7 p8 p9 = g (subst (λ (z : ℕ). Fails authenticate s z i) (eqb-true n 7 p7) w)
-  go false false false false false false false true x9 p1 p2 p3 p4 p5 p6 p7 p8 p9 = h (subst (λ (z : ℕ). Fails authenticate s z i) (eqb-true n 8 p8) w)
-  go false false false false false false false false true p1 p2 p3 p4 p5 p6 p7 p8 p9 = k (subst (λ (z : ℕ). Fails authenticate s z i) (eqb-true n 9 p9) w)
-  go false false false false false false false false false p1 p2 p3 p4 p5 p6 p7 p8 p9 = simp (p1, p2, p3, p4, p5, p6, p7, p8, p9) at w
-
--- a head reads back
-head-back : (p r : List ℕ) (g : Field) → headAt (p ++ (headBytes g ++ r)) (length p) ≡ g
-unfolding headBytes
-head-back p r g =
-    let l = g .len in
-    let o = g .offset in
-    let one : u16At (p ++ ((le16 l ++ (le16 l ++ le32 o)) ++ r)) (length p) ≡ l =
-    ap (λ (x : List ℕ). u16At (p ++ x) (length p)) (append-assoc (le16 l) (le16 l ++ le32 o) r) ∙ back16 p ((le16 l ++ le32 o) ++ r) l (length p) refl in
-    let two : p ++ ((le16 l ++ (le16 l ++ le32 o)) ++ r) ≡ (p ++ (le16 l ++ le16 l)) ++ (le32 o ++ r) = simp append-assoc in
-    let far : length (p ++ (le16 l ++ le16 l)) ≡ length p + 4 = simp (length-append, length-le16) (omega arith) in
-    let four : u32At (p ++ ((le16 l ++ (le16 l ++ le32 o)) ++ r)) (length p + 4) ≡ o =
-    ap (λ (x : List ℕ). u32At x (length p + 4)) two ∙ back32 (p ++ (le16 l ++ le16 l)) r o (length p + 4) far in
-    λ i. record { offset = four i; len = one i }
-
-head-long : (g : Field) → length (headBytes g) ≡ 8
-unfolding headBytes
-head-long g = simp (length-append, length-le16, length-le32)
 
 module _ (w : NegotiateFlags) (v mic lm nt dom usr wks key : List ℕ) (v8 : length v ≡ 8) (m16 : length mic ≡ 16) where
   f : Fields
@@ -181,65 +151,55 @@ module _ (w : NegotiateFlags) (v mic lm nt dom usr wks key : List ℕ) (v8 : len
 
   l1 : length q1 ≡ 20
   unfolding q1
-  l1 = simp (length-append, head-long, l0)
+  l1 = simp (length-append, length-head, l0)
 
   l2 : length q2 ≡ 28
   unfolding q2
-  l2 = simp (length-append, head-long, l1)
+  l2 = simp (length-append, length-head, l1)
 
   l3 : length q3 ≡ 36
   unfolding q3
-  l3 = simp (length-append, head-long, l2)
+  l3 = simp (length-append, length-head, l2)
 
   l4 : length q4 ≡ 44
   unfolding q4
-  l4 = simp (length-append, head-long, l3)
+  l4 = simp (length-append, length-head, l3)
 
   l5 : length q5 ≡ 52
   unfolding q5
-  l5 = simp (length-append, head-long, l4)
+  l5 = simp (length-append, length-head, l4)
 
   l6 : length q6 ≡ 60
   unfolding q6
-  l6 = simp (length-append, head-long, l5)
-
-  version-long : length (versionBytes w v) ≡ 8
-  unfolding versionBytes
-  version-long = go (version w) where
-    go : (b : Bool) → length (cond b v (replicate 8 0)) ≡ 8
-    go true = v8
-    go false = refl
+  l6 = simp (length-append, length-head, l5)
 
   l8 : length q8 ≡ 72
   unfolding q8
-  l8 = simp (length-append, length-le32, version-long, l6)
+  l8 = simp (length-append, length-le32, length-version w v v8, l6)
 
   l9 : length q9 ≡ 88
   unfolding q9
   l9 = simp (length-append, l8, m16)
 
   -- the heads, the flags and the MIC read back
-  back-at : (p r : List ℕ) (g : Field) (at : ℕ) → M ≡ p ++ (headBytes g ++ r) → length p ≡ at → headAt M at ≡ g
-  back-at p r g at e l = subst (λ (k : ℕ). headAt M k ≡ g) l (ap (λ (x : List ℕ). headAt x (length p)) e ∙ head-back p r g)
-
   lm-head : headAt M 12 ≡ f .lm
   unfolding M q0
-  lm-head = back-at q0 _ (f .lm) 12 at0 l0
+  lm-head = back-at M q0 _ (f .lm) 12 at0 l0
 
   nt-head : headAt M 20 ≡ f .nt
-  nt-head = back-at q1 _ (f .nt) 20 at1 l1
+  nt-head = back-at M q1 _ (f .nt) 20 at1 l1
 
   domain-head : headAt M 28 ≡ f .domain
-  domain-head = back-at q2 _ (f .domain) 28 at2 l2
+  domain-head = back-at M q2 _ (f .domain) 28 at2 l2
 
   user-head : headAt M 36 ≡ f .user
-  user-head = back-at q3 _ (f .user) 36 at3 l3
+  user-head = back-at M q3 _ (f .user) 36 at3 l3
 
   workstation-head : headAt M 44 ≡ f .workstation
-  workstation-head = back-at q4 _ (f .workstation) 44 at4 l4
+  workstation-head = back-at M q4 _ (f .workstation) 44 at4 l4
 
   key-head : headAt M 52 ≡ f .key
-  key-head = back-at q5 tail (f .key) 52 at5 l5
+  key-head = back-at M q5 tail (f .key) 52 at5 l5
 
   flags-back : u32At M 60 ≡ w .bits
   unfolding tail
@@ -321,13 +281,9 @@ module _ (w : NegotiateFlags) (v mic lm nt dom usr wks key : List ℕ) (v8 : len
   whole = long ∙ simp length-append (omega arith)
 
   -- the bytes of the fields
-  in-payload : (p x r : List ℕ) (o n : ℕ) → M ≡ p ++ (x ++ r) → length p ≡ o → length x ≡ n → take n (drop o M) ≡ x
-  in-payload p x r o n e lp lx =
-      ap (λ (l : List ℕ). take n (drop o l)) e ∙ ap (λ (l : List ℕ). take n l) (drop-at p (x ++ r) o lp) ∙ take-at x r n lx
-
   dom-bytes : take (length dom) (drop 88 M) ≡ dom
   unfolding payloadBytes
-  dom-bytes = in-payload q9 dom _ 88 (length dom) at9 l9 refl
+  dom-bytes = in-payload M q9 dom _ 88 (length dom) at9 l9 refl
 
   at-user : M ≡ (q9 ++ dom) ++ (usr ++ (wks ++ (lm ++ (nt ++ key))))
   unfolding payloadBytes
@@ -348,19 +304,19 @@ module _ (w : NegotiateFlags) (v mic lm nt dom usr wks key : List ℕ) (v8 : len
       ∙ ap (λ (x : List ℕ). (((((q9 ++ dom) ++ usr) ++ wks) ++ lm) ++ nt) ++ x) (sym (append-none key))
 
   usr-bytes : take (length usr) (drop (88 + length dom) M) ≡ usr
-  usr-bytes = in-payload (q9 ++ dom) usr _ (88 + length dom) (length usr) at-user (simp (length-append, l9)) refl
+  usr-bytes = in-payload M (q9 ++ dom) usr _ (88 + length dom) (length usr) at-user (simp (length-append, l9)) refl
 
   wks-bytes : take (length wks) (drop (88 + length dom + length usr) M) ≡ wks
-  wks-bytes = in-payload ((q9 ++ dom) ++ usr) wks _ (88 + length dom + length usr) (length wks) at-work (simp (length-append, l9)) refl
+  wks-bytes = in-payload M ((q9 ++ dom) ++ usr) wks _ (88 + length dom + length usr) (length wks) at-work (simp (length-append, l9)) refl
 
   lm-bytes : take (length lm) (drop (88 + length dom + length usr + length wks) M) ≡ lm
-  lm-bytes = in-payload (((q9 ++ dom) ++ usr) ++ wks) lm _ (88 + length dom + length usr + length wks) (length lm) at-lm (simp (length-append, l9)) refl
+  lm-bytes = in-payload M (((q9 ++ dom) ++ usr) ++ wks) lm _ (88 + length dom + length usr + length wks) (length lm) at-lm (simp (length-append, l9)) refl
 
   nt-bytes : take (length nt) (drop (88 + length dom + length usr + length wks + length lm) M) ≡ nt
-  nt-bytes = in-payload ((((q9 ++ dom) ++ usr) ++ wks) ++ lm) nt key (88 + length dom + length usr + length wks + length lm) (length nt) at-nt (simp (length-append, l9)) refl
+  nt-bytes = in-payload M ((((q9 ++ dom) ++ usr) ++ wks) ++ lm) nt key (88 + length dom + length usr + length wks + length lm) (length nt) at-nt (simp (length-append, l9)) refl
 
   key-bytes : take (length key) (drop (88 + length dom + length usr + length wks + length lm + length nt) M) ≡ key
-  key-bytes = in-payload (((((q9 ++ dom) ++ usr) ++ wks) ++ lm) ++ nt) key [] (88 + length dom + length usr + length wks + length lm + length nt) (length key) at-key (simp (length-append, l9)) refl
+  key-bytes = in-payload M (((((q9 ++ dom) ++ usr) ++ wks) ++ lm) ++ nt) key [] (88 + length dom + length usr + length wks + length lm + length nt) (length key) at-key (simp (length-append, l9)) refl
 
   -- the names lie before the secrets
   name-end : (i : ℕ) → authenticate .Name i → offsetOf authenticate M i + lenOf authenticate M i ≤ 88 + length dom + length usr + length wks
@@ -429,22 +385,12 @@ module _ (w : NegotiateFlags) (v mic lm nt dom usr wks key : List ℕ) (v8 : len
 
     none-fails : (n i : ℕ) → Fails authenticate M n i → ⊥
     none-fails n i =
-        by-row n i (λ h. omega (arith, h .1)) (λ h. omega (arith, h .1, whole)) (λ h. h .1 signature-back) (λ h. h .1 type-back) (no-5 i)
+        by-row authenticate M n i (λ h. omega (arith, h .1)) (λ h. omega (arith, h .1, whole)) (λ h. h .1 signature-back) (λ h. h .1 type-back) (no-5 i)
         (λ h. omega (arith, h .1, field-end i (h .0 .first) (h .0 .last)))
         (λ h. omega (arith, h .1, field-start i (h .0 .first) (h .0 .last)))
         (no-8 i) (no-9 i)
 
     -- and so it is taken, with the fields as they were given
-    own-same : (i : ℕ) (g : Field) (x : List ℕ) → OwnField authenticate M i g → (0 < lenOf authenticate M i → Nonempty authenticate M i) →
-        lenOf authenticate M i ≡ length x → take (length x) (drop (offsetOf authenticate M i) M) ≡ x → fieldBytes M g ≡ x
-    own-same i g x o full l e = go (length x) refl where
-      go : (n : ℕ) → length x ≡ n → fieldBytes M g ≡ x
-      go zero p = o .none (λ ne. omega (arith, ne .some)) .2 ∙ sym (empty x p) where
-        empty : (y : List ℕ) → length y ≡ 0 → y ≡ []
-        empty [] q = refl
-        empty (y ∷ ys) q = absurd (omega arith)
-      go (suc n) p = o .bytes (full (omega arith)) ∙ ap (λ (k : ℕ). take k (drop (offsetOf authenticate M i) M)) l ∙ e
-
     there : MicThere authenticate M
     there = record { kind = tt; fields = λ i ne. field-start i (ne .first) (ne .last); message = λ h. omega (arith, whole) }
 
@@ -471,12 +417,12 @@ module _ (w : NegotiateFlags) (v mic lm nt dom usr wks key : List ℕ) (v8 : len
             flags-same = o .flags ∙ flags-back;
             mic-there = o .mic-present .1 there;
             mic-same = o .mic-bytes there ∙ mic-back;
-            lm-same = own-same 1 (a .fields .lm) lm (o .lm) (counted 1 (omega arith) (omega arith)) len1 (at-offset 1 (length lm) _ lm off1 lm-bytes);
-            nt-same = own-same 2 (a .fields .nt) nt (o .nt) (counted 2 (omega arith) (omega arith)) len2 (at-offset 2 (length nt) _ nt off2 nt-bytes);
-            domain-same = own-same 3 (a .fields .domain) dom (o .domain) (counted 3 (omega arith) (omega arith)) len3 (at-offset 3 (length dom) 88 dom off3 dom-bytes);
-            user-same = own-same 4 (a .fields .user) usr (o .user) (counted 4 (omega arith) (omega arith)) len4 (at-offset 4 (length usr) _ usr off4 usr-bytes);
-            workstation-same = own-same 5 (a .fields .workstation) wks (o .workstation) (counted 5 (omega arith) (omega arith)) len5 (at-offset 5 (length wks) _ wks off5 wks-bytes);
-            key-same = own-same 6 (a .fields .key) key (o .key) (key-counts held) len6 (at-offset 6 (length key) _ key off6 key-bytes);
+            lm-same = own-same authenticate M 1 (a .fields .lm) lm (o .lm) (counted 1 (omega arith) (omega arith)) len1 (at-offset 1 (length lm) _ lm off1 lm-bytes);
+            nt-same = own-same authenticate M 2 (a .fields .nt) nt (o .nt) (counted 2 (omega arith) (omega arith)) len2 (at-offset 2 (length nt) _ nt off2 nt-bytes);
+            domain-same = own-same authenticate M 3 (a .fields .domain) dom (o .domain) (counted 3 (omega arith) (omega arith)) len3 (at-offset 3 (length dom) 88 dom off3 dom-bytes);
+            user-same = own-same authenticate M 4 (a .fields .user) usr (o .user) (counted 4 (omega arith) (omega arith)) len4 (at-offset 4 (length usr) _ usr off4 usr-bytes);
+            workstation-same = own-same authenticate M 5 (a .fields .workstation) wks (o .workstation) (counted 5 (omega arith) (omega arith)) len5 (at-offset 5 (length wks) _ wks off5 wks-bytes);
+            key-same = own-same authenticate M 6 (a .fields .key) key (o .key) (key-counts held) len6 (at-offset 6 (length key) _ key off6 key-bytes);
           }
       go (Refused d) e t = absurd t
 

@@ -9,7 +9,7 @@ use lib.ListN.{length, take}
 use lib.Seq.{sets}
 use Rattle.text.specs.Text.{ascii}
 use Rattle.field.specs.Field.{fieldAt, fieldBytes}
-use Rattle.head.specs.Head.{signatureHolds, readHead}
+use Rattle.head.specs.Head.{signatureHolds, readHead, kindOf}
 use Rattle.wire.specs.Number.{standsAt}
 use Rattle.wire.specs.Refusal.{numberOf, fieldOf}
 use Rattle.challenge.specs.Challenge.{readChallenge, readingOf as challengeReadingOf, fieldsOf}
@@ -70,7 +70,7 @@ abbrev prints : List ℕ → String → Bool
 prints line text = eqb (length line) (length (ascii text) + 1) && standsAt line 0 (ascii text ++ (0x0A ∷ []))
 
 abbrev pub holds : Case → Bool
-unfolding readAuthenticate readingOf readHead signatureHolds fieldsAt fieldAt checkFields checkEnds checkBegins checkNames checkShared micPresent countPairs checkPairs pairsOf stepAt pairOf left readNlAuth readRequest readUtf8 readResponse stringUnder stringAt fieldBytes readChallenge challengeReadingOf fieldsOf hexDigit hex decimalSize decimal escape unitText textOf nameText numberWord nameWord stringWord flagsWord setWord startText micWord kindWord timeText timeWord refusedText refusedLine authNames authLengths authEnd authText authenticateLine nlStart nlOem nlUtf8 nlText nlAuthLine chalEnd chalText challengeLine ntlmLine lineAnswer lineAfter shownLine
+unfolding readAuthenticate readingOf readHead signatureHolds fieldsAt fieldAt checkFields checkEnds checkBegins checkNames checkShared micPresent countPairs checkPairs pairsOf stepAt pairOf left readNlAuth readRequest readUtf8 readResponse stringUnder stringAt fieldBytes readChallenge challengeReadingOf fieldsOf hexDigit hex decimalSize decimal escape unitText textOf nameText numberWord nameWord stringWord flagsWord setWord startText micWord kindWord timeText timeWord refusedText refusedLine authNames authLengths authEnd authText authenticateLine nlStart nlOem nlUtf8 nlText nlAuthLine chalEnd chalText challengeLine kindOf ntlmLine lineAnswer lineAfter shownLine
 holds (authenticate s expected) = gives (readAuthenticate s .reading) expected
 holds (pairs s n) = counts (countPairs s) n
 holds (pairsRefused s n) = refuses (countPairs s) n
@@ -78,7 +78,7 @@ holds (ntlm s text) = prints (ntlmLine s) text
 holds (nl s text) = prints (nlAuthLine s) text
 
 abbrev pub allHold : List Case → Bool
-unfolding readAuthenticate readingOf readHead signatureHolds fieldsAt fieldAt checkFields checkEnds checkBegins checkNames checkShared micPresent countPairs checkPairs pairsOf stepAt pairOf left readNlAuth readRequest readUtf8 readResponse stringUnder stringAt fieldBytes readChallenge challengeReadingOf fieldsOf hexDigit hex decimalSize decimal escape unitText textOf nameText numberWord nameWord stringWord flagsWord setWord startText micWord kindWord timeText timeWord refusedText refusedLine authNames authLengths authEnd authText authenticateLine nlStart nlOem nlUtf8 nlText nlAuthLine chalEnd chalText challengeLine ntlmLine lineAnswer lineAfter shownLine
+unfolding readAuthenticate readingOf readHead signatureHolds fieldsAt fieldAt checkFields checkEnds checkBegins checkNames checkShared micPresent countPairs checkPairs pairsOf stepAt pairOf left readNlAuth readRequest readUtf8 readResponse stringUnder stringAt fieldBytes readChallenge challengeReadingOf fieldsOf hexDigit hex decimalSize decimal escape unitText textOf nameText numberWord nameWord stringWord flagsWord setWord startText micWord kindWord timeText timeWord refusedText refusedLine authNames authLengths authEnd authText authenticateLine nlStart nlOem nlUtf8 nlText nlAuthLine chalEnd chalText challengeLine kindOf ntlmLine lineAnswer lineAfter shownLine
 allHold [] = true
 allHold (c ∷ cs) = holds c && allHold cs
 

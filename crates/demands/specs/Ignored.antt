@@ -1,7 +1,6 @@
 -- Demand 2: "MaxLen, and ignored bytes that no counted field covers, change nothing."
 use Prim.Native.Nat.{ℕ, _%_, _≤_, _<_}
 use mathlib.Core.Path.{_≡_}
-use mathlib.Core.Bool.{true, false}
 use mathlib.Core.Logic.{_⊎_}
 use mathlib.Core.List.{List}
 use lib.ListN.{length, getD}
@@ -15,11 +14,16 @@ use Rattle.authenticate.specs.Authenticate.{readAuthenticate}
 use Rattle.challenge.specs.declared.Challenge.{Challenge}
 use Rattle.challenge.specs.declared.Reading.the-variants.{Taken as ChallengeTaken}
 use Rattle.challenge.specs.Challenge.{readChallenge, timestampOf, serverNamesOf}
+use Rattle.head.specs.declared.Kind.the-variants.{Negotiate as AsNegotiate, Challenge as AsChallenge, Authenticate as AsAuthenticate}
+use Rattle.head.specs.Head.{kindOf}
+use Rattle.negotiate.specs.declared.Negotiate.{Negotiate}
+use Rattle.negotiate.specs.declared.Reading.the-variants.{Taken as NegotiateTaken}
+use Rattle.negotiate.specs.Negotiate.{readNegotiate}
 use Rattle.nl_auth.specs.declared.NlAuth.{NlAuth}
 use Rattle.nl_auth.specs.declared.Reading.the-variants.{Taken as NlTaken}
 use Rattle.nl_auth.specs.NlAuth.{readNlAuth}
-use Rattle.line.specs.Line.{authenticateLine, challengeLine, isChallenge, ntlmLine, nlAuthLine}
-use Rattle.demands.specs.Message.{authenticate, challenge, DifferInIgnored}
+use Rattle.line.specs.Line.{negotiateLine, authenticateLine, challengeLine, ntlmLine, nlAuthLine}
+use Rattle.demands.specs.Message.{negotiate, authenticate, challenge, DifferInIgnored}
 use Rattle.demands.specs.NlAuth.{typeOf}
 
 -- a field has the same bytes in both
@@ -54,6 +58,15 @@ pub record SameChallenge (s t : List ℕ) : Type 0 where
 abbrev pub ChallengeIgnored : Type 0
 ChallengeIgnored = (s t : List ℕ) → DifferInIgnored challenge s t → SameChallenge s t
 
+-- NEGOTIATE
+pub record SameNegotiate (s t : List ℕ) : Type 0 where
+  pub answer : readNegotiate s ≡ readNegotiate t
+  pub domain : (m : Negotiate) → readNegotiate s ≡ NegotiateTaken m → SameBytes s t (m .fields .domain)
+  pub workstation : (m : Negotiate) → readNegotiate s ≡ NegotiateTaken m → SameBytes s t (m .fields .workstation)
+
+abbrev pub NegotiateIgnored : Type 0
+NegotiateIgnored = (s t : List ℕ) → DifferInIgnored negotiate s t → SameNegotiate s t
+
 -- NL_AUTH: two messages of one length that are alike but for the flags, where these have the same bits A to E or are a
 -- response's
 pub record NlDifferInIgnored (s t : List ℕ) : Type 0 where
@@ -76,13 +89,17 @@ NlAuthIgnored = (s t : List ℕ) → NlDifferInIgnored s t → SameNlAuth s t
 abbrev pub AuthenticateLineIgnored : Type 0
 AuthenticateLineIgnored = (s t : List ℕ) → DifferInIgnored authenticate s t → authenticateLine s ≡ authenticateLine t
 
+abbrev pub NegotiateLineIgnored : Type 0
+NegotiateLineIgnored = (s t : List ℕ) → DifferInIgnored negotiate s t → negotiateLine s ≡ negotiateLine t
+
 abbrev pub ChallengeLineIgnored : Type 0
 ChallengeLineIgnored = (s t : List ℕ) → DifferInIgnored challenge s t → challengeLine s ≡ challengeLine t
 
 -- the NTLM program's line, by the kind that it reads the message as
 pub record DifferAsRead (s t : List ℕ) : Type 0 where
-  pub as-challenge : isChallenge s ≡ true → DifferInIgnored challenge s t
-  pub as-authenticate : isChallenge s ≡ false → DifferInIgnored authenticate s t
+  pub as-negotiate : kindOf s ≡ AsNegotiate → DifferInIgnored negotiate s t
+  pub as-challenge : kindOf s ≡ AsChallenge → DifferInIgnored challenge s t
+  pub as-authenticate : kindOf s ≡ AsAuthenticate → DifferInIgnored authenticate s t
 
 abbrev pub NtlmLineIgnored : Type 0
 NtlmLineIgnored = (s t : List ℕ) → DifferAsRead s t → ntlmLine s ≡ ntlmLine t

@@ -10,6 +10,7 @@ use Rattle.place.specs.declared.written.Written.{Written}
 use Rattle.place.specs.declared.written.Written.the-variants.{Length, Refused}
 use Rattle.negotiate_flags.specs.declared.NegotiateFlags.{NegotiateFlags}
 use Rattle.authenticate_writing.specs.Writing.{writeAnswer, writeOut}
+use Rattle.negotiate_writing.specs.Writing.{writeAnswer as negotiateAnswer, writeOut as negotiateOut}
 use Rattle.respond.specs.declared.answer.Answer.{Answer}
 use Rattle.respond.specs.declared.answer.Answered.{Answered}
 use Rattle.respond.specs.declared.answer.Answered.the-variants.{Sent, Refused as Unanswered}
@@ -45,6 +46,11 @@ abbrev pub AuthenticateKept : Type 0
 AuthenticateKept =
     (out : List ℕ) (flags : NegotiateFlags) (version mic lm nt domain user workstation key : List ℕ) → length version ≡ 8 → length mic ≡ 16 →
     Kept (writeAnswer (length out) flags version mic lm nt domain user workstation key) out (writeOut out flags version mic lm nt domain user workstation key)
+
+abbrev pub NegotiateKept : Type 0
+NegotiateKept =
+    (out : List ℕ) (flags : NegotiateFlags) (version domain workstation : List ℕ) → length version ≡ 8 →
+    Kept (negotiateAnswer (length out) flags version domain workstation) out (negotiateOut out flags version domain workstation)
 
 -- the same of answering a challenge, with every settings
 pub record KeptAnswer (answer : Answered) (before after : List ℕ) : Type 0 where

@@ -20,12 +20,28 @@ pub record Kind : Type 1 where
   pub head : ℕ → ℕ
   -- when a field counts, given what it is for a flag (by its mask) to be set
   pub Counts : (ℕ → Type 0) → ℕ → Type 0
-  -- which fields are names, and which are secrets
+  -- which fields are names that UNICODE makes 16-bit, and which are secrets
   pub Name : ℕ → Type 0
   pub Secret : ℕ → Type 0
   -- which bytes within the fixed part are ignored, and whether there may be a MIC
   pub Unused : ℕ → Type 0
   pub HasMic : Type 0
+
+-- NEGOTIATE: heads at 16 and 24; both names are OEM bytes whatever the flags say
+abbrev pub negotiate : Kind
+negotiate =
+    record {
+      fixed = 32;
+      number = 1;
+      flags = 12;
+      last = 2;
+      head = λ i. 8 + 8 * i;
+      Counts = λ Set i. (i ≡ 1 → Set 0x1000) × (i ≡ 2 → Set 0x2000);
+      Name = λ i. ⊥;
+      Secret = λ i. ⊥;
+      Unused = λ p. ⊥;
+      HasMic = ⊥;
+    }
 
 -- AUTHENTICATE: heads at 12, 20, 28, 36, 44 and 52
 abbrev pub authenticate : Kind

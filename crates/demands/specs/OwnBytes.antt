@@ -24,11 +24,14 @@ use Rattle.challenge.specs.declared.TimestampReading.the-variants.{Taken as Tim
 use Rattle.challenge.specs.declared.ServerNames.{ServerNames}
 use Rattle.challenge.specs.declared.ServerNamesReading.the-variants.{Taken as NamesTaken}
 use Rattle.challenge.specs.Challenge.{readChallenge, timestampOf, serverNamesOf}
+use Rattle.negotiate.specs.declared.Negotiate.{Negotiate}
+use Rattle.negotiate.specs.declared.Reading.the-variants.{Taken as NegotiateTaken}
+use Rattle.negotiate.specs.Negotiate.{readNegotiate}
 use Rattle.nl_auth.specs.declared.NlAuth.{NlAuth}
 use Rattle.nl_auth.specs.declared.Reading.the-variants.{Taken as NlTaken}
 use Rattle.nl_auth.specs.NlAuth.{readNlAuth}
 use Rattle.demands.specs.NlAuth.{typeOf, maskOf, BitSet, ZeroAt, StartsAt}
-use Rattle.demands.specs.Message.{Kind, authenticate, challenge, lenOf, offsetOf, Nonempty, MicThere}
+use Rattle.demands.specs.Message.{Kind, negotiate, authenticate, challenge, lenOf, offsetOf, Nonempty, MicThere}
 use Rattle.demands.specs.PairList.{sizeOf, FirstWith}
 use Rattle.demands.specs.TakenExactly.{InfoBytes}
 
@@ -60,6 +63,15 @@ AuthenticateOwn = (s : List ℕ) (a : Authenticate) → readAuthenticate s .read
 abbrev pub AuthenticateRefusedMic : Type 0
 AuthenticateRefusedMic =
     (s : List ℕ) (e : Refusal) → readAuthenticate s .reading ≡ Refused e → readAuthenticate s .mic ≡ replicate 16 0
+
+-- what a taken NEGOTIATE message is answered with
+pub record OwnNegotiate (s : List ℕ) (m : Negotiate) : Type 0 where
+  pub flags : m .flags .bits ≡ u32At s 12
+  pub domain : OwnField negotiate s 1 (m .fields .domain)
+  pub workstation : OwnField negotiate s 2 (m .fields .workstation)
+
+abbrev pub NegotiateOwn : Type 0
+NegotiateOwn = (s : List ℕ) (m : Negotiate) → readNegotiate s ≡ NegotiateTaken m → OwnNegotiate s m
 
 -- what a taken CHALLENGE message is answered with
 pub record OwnChallenge (s : List ℕ) (c : Challenge) : Type 0 where

@@ -1,8 +1,10 @@
 -- Demand 2: "An AUTHENTICATE we write reads back with the same flags, six fields and MIC." And NL_AUTH: type, flags A to E and
--- each string under a set bit.
-use Prim.Native.Nat.{ℕ}
+-- each string under a set bit. And, by request 1/12, NEGOTIATE: both names, and the caller's flags with the bits of the names as
+-- the names make them.
+use Prim.Native.Nat.{ℕ, _/_, _%_, _<_}
 use mathlib.Core.Path.{_≡_}
 use mathlib.Core.Bool.{true}
+use mathlib.Core.Logic.{_↔_}
 use mathlib.Core.List.{List}
 use lib.ListN.{length, take}
 use Rattle.field.specs.Field.{fieldBytes}
@@ -12,6 +14,10 @@ use Rattle.authenticate.specs.declared.Authenticate.{Authenticate}
 use Rattle.authenticate.specs.declared.Reading.the-variants.{Taken as AuthenticateTaken}
 use Rattle.authenticate.specs.Authenticate.{readAuthenticate}
 use Rattle.authenticate_writing.specs.Writing.{writeAnswer, writeOut}
+use Rattle.negotiate.specs.declared.Negotiate.{Negotiate}
+use Rattle.negotiate.specs.declared.Reading.the-variants.{Taken as NegotiateTaken}
+use Rattle.negotiate.specs.Negotiate.{readNegotiate}
+use Rattle.negotiate_writing.specs.Writing.{writeAnswer as negotiateAnswer, writeOut as negotiateOut}
 use Rattle.nl_auth_flags.specs.declared.NlAuthFlags.{NlAuthFlags}
 use Rattle.nl_auth.specs.declared.NlAuth.{NlAuth}
 use Rattle.nl_auth.specs.declared.Reading.the-variants.{Taken}
@@ -70,3 +76,22 @@ AuthenticateReadsBack =
     length version ≡ 8 → length mic ≡ 16 →
     writeAnswer (length out) flags version mic lm nt domain user workstation key ≡ Length n →
     AuthenticateBack (take n (writeOut out flags version mic lm nt domain user workstation key)) flags mic lm nt domain user workstation key
+
+-- the message read back from the bytes s: these names; bit 0x1000 set exactly where the domain is nonempty, 0x2000 where the
+-- workstation is, and the caller's flags in the bits below and above the two
+pub record NegotiateBack (s : List ℕ) (flags : NegotiateFlags) (domain workstation : List ℕ) : Type 0 where
+  pub message : Negotiate
+  pub read : readNegotiate s ≡ NegotiateTaken message
+  pub domain-same : fieldBytes s (message .fields .domain) ≡ domain
+  pub workstation-same : fieldBytes s (message .fields .workstation) ≡ workstation
+  pub domain-bit : (message .flags .bits / 0x1000 % 2 ≡ 1) ↔ (0 < length domain)
+  pub workstation-bit : (message .flags .bits / 0x2000 % 2 ≡ 1) ↔ (0 < length workstation)
+  pub bits-below : message .flags .bits % 0x1000 ≡ flags .bits % 0x1000
+  pub bits-above : message .flags .bits / 0x4000 ≡ flags .bits / 0x4000
+
+-- for every call that is not refused
+abbrev pub NegotiateReadsBack : Type 0
+NegotiateReadsBack =
+    (out : List ℕ) (flags : NegotiateFlags) (version domain workstation : List ℕ) (n : ℕ) → length version ≡ 8 →
+    negotiateAnswer (length out) flags version domain workstation ≡ Length n →
+    NegotiateBack (take n (negotiateOut out flags version domain workstation)) flags domain workstation

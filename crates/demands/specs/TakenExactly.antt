@@ -15,12 +15,15 @@ use Rattle.av_pairs.specs.AvPairs.{countPairs}
 use Rattle.challenge.specs.declared.Reading.{Reading as ChallengeReading}
 use Rattle.challenge.specs.declared.Reading.the-variants.{Taken as ChallengeTaken, Refused as ChallengeRefused}
 use Rattle.challenge.specs.Challenge.{readChallenge}
+use Rattle.negotiate.specs.declared.Reading.{Reading as NegotiateReading}
+use Rattle.negotiate.specs.declared.Reading.the-variants.{Taken as NegotiateTaken, Refused as NegotiateRefused}
+use Rattle.negotiate.specs.Negotiate.{readNegotiate}
 use Rattle.nl_auth.specs.declared.Reading.{Reading as NlReading}
 use Rattle.nl_auth.specs.declared.Reading.the-variants.{Taken as NlTaken, Refused as NlRefused}
 use Rattle.nl_auth.specs.NlAuth.{readNlAuth}
 use Rattle.demands.specs.NlAuth.{NlFails}
 use Rattle.demands.specs.Order.{First}
-use Rattle.demands.specs.Message.{Fails, authenticate, challenge, Nonempty, lenOf, offsetOf}
+use Rattle.demands.specs.Message.{Fails, negotiate, authenticate, challenge, Nonempty, lenOf, offsetOf}
 use Rattle.demands.specs.PairList.{Holds, FirstFault}
 
 abbrev pub IsTaken : Reading → Type 0
@@ -38,6 +41,21 @@ AuthenticateTaken = (s : List ℕ) → IsTaken (readAuthenticate s .reading) ↔
 -- and refused with number n and field i if and only if that is the first failure, in document 01's order
 abbrev pub AuthenticateRefused : Type 0
 AuthenticateRefused = (s : List ℕ) (n i : ℕ) → RefusedWith (readAuthenticate s .reading) n i ↔ First (Fails authenticate s) n i
+
+abbrev pub IsTakenNegotiate : NegotiateReading → Type 0
+IsTakenNegotiate (NegotiateTaken m) = Unit
+IsTakenNegotiate (NegotiateRefused e) = ⊥
+
+abbrev pub NegotiateRefusedWith : NegotiateReading → ℕ → ℕ → Type 0
+NegotiateRefusedWith (NegotiateTaken m) n i = ⊥
+NegotiateRefusedWith (NegotiateRefused e) n i = (numberOf e ≡ n) × (fieldOf e ≡ i)
+
+-- the same of NEGOTIATE
+abbrev pub NegotiateIsTaken : Type 0
+NegotiateIsTaken = (s : List ℕ) → IsTakenNegotiate (readNegotiate s) ↔ ((n i : ℕ) → Fails negotiate s n i → ⊥)
+
+abbrev pub NegotiateIsRefused : Type 0
+NegotiateIsRefused = (s : List ℕ) (n i : ℕ) → NegotiateRefusedWith (readNegotiate s) n i ↔ First (Fails negotiate s) n i
 
 abbrev pub CountRefused : Count → ℕ → ℕ → Type 0
 CountRefused (Pairs n) number field = ⊥

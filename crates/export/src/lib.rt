@@ -8,16 +8,18 @@ ghost use Rattle.av_pairs.specs.AvPairs.{checkPairs, countPairs, findPair, askA
 ghost use Rattle.authenticate.specs.Authenticate.{readAuthenticate};
 ghost use Rattle.authenticate_writing.specs.Writing.{writeAnswer, writeOut};
 ghost use Rattle.challenge.specs.Challenge.{readChallenge, timestampOf, serverNamesOf};
+ghost use Rattle.negotiate.specs.Negotiate.{readNegotiate};
+ghost use Rattle.negotiate_writing.specs.Writing.{writeAnswer as negotiateAnswer, writeOut as negotiateOut};
 ghost use Rattle.nl_auth.specs.NlAuth.{readNlAuth};
 ghost use Rattle.nl_auth_flags.specs.Flags.{known};
 ghost use Rattle.nl_auth_writing.specs.Writing.{requestAnswer, requestOut, responseAnswer, responseOut};
-ghost use Rattle.line.specs.Line.{authenticateLine, challengeLine, nlAuthLine, ntlmLine, shownLine};
+ghost use Rattle.line.specs.Line.{negotiateLine, authenticateLine, challengeLine, nlAuthLine, ntlmLine, shownLine};
 ghost use Rattle.respond.specs.Answer.{respondAnswer, respondOut};
 ghost use Rattle.respond.specs.Decision.{defaults, decisionOn};
 ghost use Rattle.respond.specs.Domain.{domainToSend};
 ghost use Rattle.c_number.specs.Number.{verdictNumber, writtenNumber};
 ghost use Rattle.c_number.specs.Handed.{callNumber, callOut, besideNumber, besideOut, besideBytes};
-ghost use Rattle.c_reading.specs.Numbers.{authHanded, chalHanded, timeHanded, namesHanded, nlHanded};
+ghost use Rattle.c_reading.specs.Numbers.{negoHanded, authHanded, chalHanded, timeHanded, namesHanded, nlHanded};
 ghost use Rattle.c_pairs.specs.Pairs.{countHanded, searchHanded, askedHanded};
 ghost use Rattle.c_respond.specs.Respond.{settingsOf, decidedHanded, respondedNumber, respondedNumbers, respondedOut};
 use authenticate_writing::write;
@@ -31,6 +33,14 @@ use nl_auth_flags::NlAuthFlags;
 use nl_auth_writing::write_request;
 use nl_auth_writing::write_response;
 use respond::domain::domain_to_send;
+
+#[no_mangle]
+pub extern "C" fn dialtable_read_negotiate(msg: &[u8], numbers: &mut [u64]) -> u64
+    ensures answer { λ r. ⌜ r ≡ callNumber 5 (negoHanded (readNegotiate (now (msg .entry)))) (length (now (numbers .entry))) ⌝ }
+    ensures content { λ _. ⌜ now (numbers .exit) ≡ callOut 5 (negoHanded (readNegotiate (now (msg .entry)))) (now (numbers .entry)) ⌝ }
+{
+    c_reading::read_negotiate(msg, numbers)
+}
 
 #[no_mangle]
 pub extern "C" fn dialtable_read_authenticate(
@@ -253,6 +263,14 @@ pub extern "C" fn dialtable_respond_for_relay<'a>(
 }
 
 #[no_mangle]
+pub extern "C" fn dialtable_negotiate_line(msg: &[u8], out: &mut [u8]) -> u64
+    ensures answer { λ r. ⌜ r ≡ writtenNumber (lineAnswer (negotiateLine (now (msg .entry))) (now (out .entry))) ⌝ }
+    ensures content { λ _. ⌜ now (out .exit) ≡ lineAfter (negotiateLine (now (msg .entry))) (now (out .entry)) ⌝ }
+{
+    line_number(line::negotiate_line(msg, out))
+}
+
+#[no_mangle]
 pub extern "C" fn dialtable_authenticate_line(msg: &[u8], out: &mut [u8]) -> u64
     ensures answer { λ r. ⌜ r ≡ writtenNumber (lineAnswer (authenticateLine (now (msg .entry))) (now (out .entry))) ⌝ }
     ensures content { λ _. ⌜ now (out .exit) ≡ lineAfter (authenticateLine (now (msg .entry))) (now (out .entry)) ⌝ }
@@ -329,6 +347,21 @@ pub extern "C" fn dialtable_domain_to_send<'a>(
     ensures content { λ _. ⌜ now (out .exit) ≡ lineAfter (domainToSend (now (own .entry)) (now (challenge .entry))) (now (out .entry)) ⌝ }
 {
     written_number(copy(out, domain_to_send(own, challenge)))
+}
+
+#[no_mangle]
+pub extern "C" fn dialtable_write_negotiate(
+    out: &mut [u8],
+    flags: u32,
+    version: &[u8; 8],
+    domain: &[u8],
+    workstation: &[u8],
+) -> u64
+    ensures answer { λ r. ⌜ r ≡ writtenNumber (negotiateAnswer (length (now (out .entry))) (record { bits = flags }) (now (version .entry)) (now (domain .entry)) (now (workstation .entry))) ⌝ }
+    ensures content { λ _. ⌜ now (out .exit) ≡ negotiateOut (now (out .entry)) (record { bits = flags }) (now (version .entry)) (now (domain .entry)) (now (workstation .entry)) ⌝ }
+{
+    let flags = NegotiateFlags { bits: flags };
+    written_number(negotiate_writing::write(out, flags, version, domain, workstation))
 }
 
 #[no_mangle]

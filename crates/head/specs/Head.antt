@@ -1,5 +1,6 @@
 -- The head of an NTLM message: Signature at 0, MessageType at 8, NegotiateFlags where the layout puts them. Checks 1 to 5.
 use Prim.Native.Nat.{ℕ}
+use mathlib.Core.Bool.{Bool, _&&_, cond}
 use mathlib.Core.List.{List, [], _∷_, _++_}
 use lib.Dec.{leb, eqb}
 use lib.ListN.{length}
@@ -8,6 +9,8 @@ use Rattle.wire.specs.declared.check.Checked.{Checked}
 use Rattle.negotiate_flags.specs.declared.NegotiateFlags.{NegotiateFlags}
 use Rattle.head.specs.declared.Head.{Head}
 use Rattle.head.specs.declared.Head.the-variants.{Flags, Refused}
+use Rattle.head.specs.declared.Kind.{Kind}
+use Rattle.head.specs.declared.Kind.the-variants.{Negotiate, Challenge, Authenticate}
 use Rattle.head.specs.declared.Layout.{Layout}
 use Rattle.wire.specs.declared.refusal.Refusal.{Refusal}
 use Rattle.wire.specs.declared.refusal.Refusal.the-variants.{TooLong, TooShort, WrongSignature, WrongType, NoCharset}
@@ -57,3 +60,11 @@ onFlags refuse (Refused e) x = refuse e
 abbrev pub headRefusal : Head → Refusal
 headRefusal (Flags flags) = TooLong
 headRefusal (Refused e) = e
+
+-- whether a message has a type, for which it has 12 bytes, and it is this one
+abbrev pub hasType : ℕ → List ℕ → Bool
+hasType kind s = leb 12 (length s) && eqb (u32At s 8) kind
+
+-- the kind as which the NTLM program reads a message: NEGOTIATE where its type is 1, CHALLENGE where it is 2, else AUTHENTICATE
+unfoldable pub kindOf : List ℕ → Kind
+kindOf s = cond (hasType 1 s) Negotiate (cond (hasType 2 s) Challenge Authenticate)

@@ -2,7 +2,7 @@
 ghost use mathlib.Core.Path.{_≡_};
 ghost use Prim.Native.Nat.{_+_, _≤_};
 ghost use lib.ListN.{length};
-ghost use Rattle.head.specs.Head.{lengthHolds, fixedPartHolds, signatureHolds, typeHolds, flagsAt, readHead, headRefusal};
+ghost use Rattle.head.specs.Head.{lengthHolds, fixedPartHolds, signatureHolds, typeHolds, flagsAt, readHead, headRefusal, hasType, kindOf};
 use negotiate_flags::NegotiateFlags;
 use wire::check::Checked;
 use wire::check::check;
@@ -14,6 +14,13 @@ pub struct Layout {
     pub fixed: usize,
     pub kind: u32,
     pub flags: usize,
+}
+
+// The kinds of NTLM message.
+pub enum Kind {
+    Negotiate,
+    Challenge,
+    Authenticate,
 }
 
 pub enum Head {
@@ -97,4 +104,27 @@ impl Head {
             Head::Flags(_) => Refusal::TooLong,
         }
     }
+}
+
+// Whether a message has a type, and it is this one.
+fn has_type(msg: &[u8], kind: u32) -> bool
+    ensures { λ r. ⌜ r ≡ hasType kind (now (msg .entry)) ⌝ }
+{
+    if msg.len() < 12 {
+        return false;
+    }
+    number::u32_at(msg, 8) == kind
+}
+
+// The kind as which the NTLM program reads a message of any length.
+pub fn kind_of(msg: &[u8]) -> Kind
+    ensures { λ r. ⌜ r ≡ kindOf (now (msg .entry)) ⌝ }
+{
+    if has_type(msg, 1) {
+        return Kind::Negotiate;
+    }
+    if has_type(msg, 2) {
+        return Kind::Challenge;
+    }
+    Kind::Authenticate
 }

@@ -13,11 +13,16 @@ use Rattle.nl_auth.specs.declared.NlAuth.{NlAuth}
 use Rattle.nl_auth.specs.declared.Reading.{Reading as NlReading}
 use Rattle.nl_auth.specs.declared.Reading.the-variants.{Taken as NlTaken, Refused as NlRefused}
 use Rattle.nl_auth.specs.NlAuth.{readNlAuth}
+use Rattle.negotiate.specs.declared.Negotiate.{Negotiate}
+use Rattle.negotiate.specs.declared.Reading.{Reading as NegoReading}
+use Rattle.negotiate.specs.declared.Reading.the-variants.{Taken as NegoTaken, Refused as NegoRefused}
+use Rattle.negotiate.specs.Negotiate.{readNegotiate}
 use Rattle.line_refused.specs.Refused.{refusedLine}
+use Rattle.line_nego.specs.Nego.{negoText}
 use Rattle.line_auth.specs.Auth.{authText}
 use Rattle.line_nl.specs.declared.Given.{Given}
 use Rattle.line_nl.specs.Nl.{givenBy, nlText}
-use Rattle.line.specs.Line.{authenticateLine, nlAuthLine}
+use Rattle.line.specs.Line.{negotiateLine, authenticateLine, nlAuthLine}
 
 -- AUTHENTICATE's
 module _ (s : List ℕ) (d : Answer) (g : d ≡ readAuthenticate s) where
@@ -38,3 +43,13 @@ module _ (s : List ℕ) (d : NlReading) (g : d ≡ readNlAuth s) where
   pub nl-refused : (e : Refusal) → d ≡ NlRefused e → refusedLine e ≡ nlAuthLine s
   unfolding nlAuthLine
   nl-refused e h = simp (← g, h)
+
+-- NEGOTIATE's
+module _ (s : List ℕ) (d : NegoReading) (g : d ≡ readNegotiate s) where
+  pub nego-taken : (m : Negotiate) → d ≡ NegoTaken m → negoText s m ≡ negotiateLine s
+  unfolding negotiateLine
+  nego-taken m h = simp (← g, h)
+
+  pub nego-refused : (e : Refusal) → d ≡ NegoRefused e → refusedLine e ≡ negotiateLine s
+  unfolding negotiateLine
+  nego-refused e h = simp (← g, h)

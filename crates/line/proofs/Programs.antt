@@ -1,40 +1,41 @@
--- Laws of the choice between CHALLENGE and AUTHENTICATE, and of what a program prints.
-use Prim.Native.Nat.{ℕ, _+_, _≤_, _<_}
+-- Laws of the choice of a kind, and of what a program prints.
+use Prim.Native.Nat.{ℕ, _+_, _≤_}
 use mathlib.Core.Path.{_≡_, refl, sym, ap, _∙_}
 use mathlib.Core.Bool.{Bool, true, false}
 use mathlib.Core.List.{List}
 use native.Mathlib.Omega.{arith}
-use lib.Dec.{leb, eqb}
+use lib.Dec.{leb}
 use lib.ListN.{length, take, drop, length-append, length-take}
-use borrow.Author.Tests.{le-leb, lt-leb}
 use Rattle.wire.specs.declared.refusal.Refusal.{Refusal}
 use Rattle.wire.specs.declared.refusal.Refusal.the-variants.{NoRoom}
 use Rattle.wire.specs.declared.check.Verdict.the-variants.{Clear, Refused as Not}
 use Rattle.wire.specs.Check.{checked, after}
-use Rattle.wire.specs.Number.{u32At}
+use Rattle.head.specs.declared.Kind.{Kind}
+use Rattle.head.specs.declared.Kind.the-variants.{Negotiate, Challenge, Authenticate}
+use Rattle.head.specs.Head.{kindOf}
 use Rattle.place.specs.declared.written.Written.{Written}
 use Rattle.place.specs.declared.written.Written.the-variants.{Length, Refused}
 use Rattle.place.specs.Written.{answered}
 use Rattle.line_refused.specs.Refused.{refusedLine}
-use Rattle.line.specs.Line.{authenticateLine, challengeLine, isChallenge, ntlmLine, shownLine}
+use Rattle.line.specs.Line.{negotiateLine, challengeLine, authenticateLine, ntlmLine, shownLine}
 use Rattle.word.specs.Call.{lineAnswer, lineAfter}
 
--- ---- CHALLENGE or AUTHENTICATE
+-- ---- the kind that was chosen
 
-module _ (s : List ℕ) where
-  pub too-short : length s < 12 → false ≡ isChallenge s
-  too-short h = simp (lt-leb 12 (length s) h)
-
-  pub by-type : (t : ℕ) → 12 ≤ length s → t ≡ u32At s 8 → eqb t 2 ≡ isChallenge s
-  by-type t h e = simp (le-leb 12 (length s) h, e)
-
-  pub chosen-challenge : (b : Bool) → b ≡ isChallenge s → b ≡ true → challengeLine s ≡ ntlmLine s
+module _ (s : List ℕ) (k : Kind) (e : k ≡ kindOf s) where
+  pub as-negotiate : k ≡ Negotiate → negotiateLine s ≡ ntlmLine s
   unfolding ntlmLine
-  chosen-challenge b p h = simp (← p, h)
+  as-negotiate h = simp (← e, h)
 
-  pub chosen-authenticate : (b : Bool) → b ≡ isChallenge s → b ≡ false → authenticateLine s ≡ ntlmLine s
+  pub as-challenge : k ≡ Challenge → challengeLine s ≡ ntlmLine s
   unfolding ntlmLine
-  chosen-authenticate b p h = simp (← p, h)
+  as-challenge h = simp (← e, h)
+
+  pub as-authenticate : k ≡ Authenticate → authenticateLine s ≡ ntlmLine s
+  unfolding ntlmLine
+  as-authenticate h = simp (← e, h)
+
+pub ruleset chosen = (as-negotiate, as-challenge, as-authenticate)
 
 -- ---- what a program prints
 

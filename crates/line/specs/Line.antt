@@ -1,14 +1,17 @@
 -- The log line of a message of each kind, and what the programs print.
 use Prim.Native.Nat.{ℕ}
-use mathlib.Core.Bool.{Bool, _&&_, cond}
 use mathlib.Core.List.{List}
-use lib.Dec.{leb, eqb}
 use lib.ListN.{length}
 use Rattle.wire.specs.declared.refusal.Refusal.the-variants.{NoRoom}
 use Rattle.wire.specs.Check.{after}
-use Rattle.wire.specs.Number.{u32At}
 use Rattle.negotiate_flags.specs.Flags.{unicode}
 use Rattle.place.specs.Written.{roomHolds}
+use Rattle.head.specs.declared.Kind.{Kind}
+use Rattle.head.specs.declared.Kind.the-variants.{Negotiate, Challenge, Authenticate}
+use Rattle.head.specs.Head.{kindOf}
+use Rattle.negotiate.specs.declared.Reading.{Reading as NegoReading}
+use Rattle.negotiate.specs.declared.Reading.the-variants.{Taken as NegoTaken, Refused as NegoRefused}
+use Rattle.negotiate.specs.Negotiate.{readNegotiate}
 use Rattle.authenticate.specs.declared.Reading.{Reading}
 use Rattle.authenticate.specs.declared.Reading.the-variants.{Taken, Refused}
 use Rattle.authenticate.specs.Authenticate.{readAuthenticate}
@@ -20,6 +23,7 @@ use Rattle.challenge.specs.declared.Reading.{Reading as ChalReading}
 use Rattle.challenge.specs.declared.Reading.the-variants.{Taken as ChalTaken, Refused as ChalRefused}
 use Rattle.challenge.specs.Challenge.{infoOf, timestampIn, readChallenge}
 use Rattle.line_refused.specs.Refused.{refusedLine}
+use Rattle.line_nego.specs.Nego.{negoText}
 use Rattle.line_auth.specs.Auth.{authText}
 use Rattle.line_nl.specs.Nl.{givenBy, nlText}
 use Rattle.line_chal.specs.Chal.{chalText}
@@ -49,13 +53,25 @@ chalLine s (ChalRefused e) = refusedLine e
 unfoldable pub challengeLine : List ℕ → List ℕ
 challengeLine s = chalLine s (readChallenge s .reading)
 
--- ---- the NTLM program: CHALLENGE where 12 bytes are there and the type is 2, else AUTHENTICATE
+-- the line of a message read as NEGOTIATE
+abbrev pub negoLine : List ℕ → NegoReading → List ℕ
+negoLine s (NegoTaken m) = negoText s m
+negoLine s (NegoRefused e) = refusedLine e
 
-abbrev pub isChallenge : List ℕ → Bool
-isChallenge s = leb 12 (length s) && eqb (u32At s 8) 2
+unfoldable pub negotiateLine : List ℕ → List ℕ
+negotiateLine s = negoLine s (readNegotiate s)
 
+-- ---- the programs
+
+-- the line of a message read as a kind
+abbrev pub lineAs : Kind → List ℕ → List ℕ
+lineAs Negotiate s = negotiateLine s
+lineAs Challenge s = challengeLine s
+lineAs Authenticate s = authenticateLine s
+
+-- the NTLM program goes by the type
 unfoldable pub ntlmLine : List ℕ → List ℕ
-ntlmLine s = cond (isChallenge s) (challengeLine s) (authenticateLine s)
+ntlmLine s = lineAs (kindOf s) s
 
 -- what a program prints for a line: the line, or that of 33 where the line has no room
 unfoldable pub shownLine : List ℕ → List ℕ → List ℕ

@@ -2,7 +2,7 @@
 ghost use mathlib.Core.Path.{_≡_};
 ghost use Rattle.challenge.specs.declared.Reading.the-variants.{Taken};
 ghost use Rattle.challenge.specs.Challenge.{fieldsOf};
-ghost use Rattle.line.specs.Line.{authenticateLine, nlAuthLine, challengeLine, isChallenge, ntlmLine, shownLine};
+ghost use Rattle.line.specs.Line.{negotiateLine, authenticateLine, nlAuthLine, challengeLine, ntlmLine, shownLine};
 ghost use Rattle.word.specs.Call.{lineAnswer, lineAfter};
 use authenticate::Reading;
 use av_pairs::Count;
@@ -10,9 +10,11 @@ use av_pairs::count_pairs;
 use challenge::Challenge;
 use challenge::Reading as ChallengeReading;
 use challenge::timestamp_in;
+use head::Kind;
+use head::kind_of;
+use negotiate::Reading as NegotiateReading;
 use nl_auth::Reading as NlAuthReading;
 use place::written::Written;
-use wire::number::u32_at;
 use wire::refusal::Refusal;
 
 // The line of a message read as AUTHENTICATE, at the start of the output: its length, or 33 with the output as it was.
@@ -65,25 +67,27 @@ pub fn challenge_line(msg: &[u8], out: &mut [u8]) -> Written
     }
 }
 
-// Whether the NTLM program reads a message as CHALLENGE.
-fn is_challenge(msg: &[u8]) -> bool
-    ensures { λ r. ⌜ r ≡ isChallenge (now (msg .entry)) ⌝ }
+// The line of a message read as NEGOTIATE, at the start of the output: its length, or 33 with the output as it was.
+pub fn negotiate_line(msg: &[u8], out: &mut [u8]) -> Written
+    ensures answer { λ r. ⌜ r ≡ lineAnswer (negotiateLine (now (msg .entry))) (now (out .entry)) ⌝ }
+    ensures content { λ _. ⌜ now (out .exit) ≡ lineAfter (negotiateLine (now (msg .entry))) (now (out .entry)) ⌝ }
 {
-    if msg.len() < 12 {
-        return false;
+    match negotiate::read(msg) {
+        NegotiateReading::Taken(m) => line_nego::write(out, msg, m),
+        NegotiateReading::Refused(e) => line_refused::write(out, e),
     }
-    u32_at(msg, 8) == 2
 }
 
-// The line of a message read as CHALLENGE where its type says so, and else as AUTHENTICATE.
+// The line of a message read as the kind that its type says, and as AUTHENTICATE where it says no other.
 pub fn ntlm_line(msg: &[u8], out: &mut [u8]) -> Written
     ensures answer { λ r. ⌜ r ≡ lineAnswer (ntlmLine (now (msg .entry))) (now (out .entry)) ⌝ }
     ensures content { λ _. ⌜ now (out .exit) ≡ lineAfter (ntlmLine (now (msg .entry))) (now (out .entry)) ⌝ }
 {
-    if is_challenge(msg) {
-        return challenge_line(msg, out);
+    match kind_of(msg) {
+        Kind::Negotiate => negotiate_line(msg, out),
+        Kind::Challenge => challenge_line(msg, out),
+        Kind::Authenticate => authenticate_line(msg, out),
     }
-    authenticate_line(msg, out)
 }
 
 // What the NTLM program prints: the message's line, or that of 33 where the line has no room.

@@ -2,7 +2,7 @@
 ghost use mathlib.Core.Path.{_≡_};
 ghost use Prim.Native.Nat.{_+_, _≤_, _<_};
 ghost use lib.ListN.{length, take, drop};
-ghost use Rattle.wire.specs.Number.{u16At, u32At, u64At, has};
+ghost use Rattle.wire.specs.Number.{u16At, u32At, u64At, has, without, withBit};
 
 fn wide16(x: u8) -> u16
     ensures { λ r. ⌜ (r ≡ x) × (r < 256) ⌝ }
@@ -43,12 +43,42 @@ pub fn u64_at(s: &[u8], at: usize) -> u64
     wide64(u32_at(s, at)) + 4294967296 * wide64(u32_at(s, at + 4))
 }
 
+// The number itself, for a caller that has to know its bound.
+pub fn bounded(x: u32) -> u32
+    ensures { λ r. ⌜ (r ≡ x) × (r ≤ 4294967295) ⌝ }
+{
+    x
+}
+
 // Whether the bit of a mask of one bit is set.
 pub fn has(bits: u32, mask: u32) -> bool
     requires { ⌜ 0 < mask ⌝ }
     ensures { λ r. ⌜ r ≡ has bits mask ⌝ }
 {
     bits / mask % 2 == 1
+}
+
+// A number without the bit of a mask.
+fn without(bits: u32, mask: u32) -> u32
+    requires { ⌜ 0 < mask ⌝ }
+    ensures { λ r. ⌜ r ≡ without bits mask ⌝ }
+{
+    if has(bits, mask) {
+        return bits - mask;
+    }
+    bits
+}
+
+// A number with the bit of a mask set, or cleared. For a mask of one bit the sum always has room.
+pub fn with_bit(bits: u32, mask: u32, on: bool) -> u32
+    requires { ⌜ (0 < mask) × (without bits mask + mask ≤ 4294967295) ⌝ }
+    ensures { λ r. ⌜ r ≡ withBit bits mask on ⌝ }
+{
+    let rest = without(bits, mask);
+    if on {
+        return rest + mask;
+    }
+    rest
 }
 
 // Fills `dst` with the bytes of `src` from `at` on.

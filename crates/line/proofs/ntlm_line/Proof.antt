@@ -1,7 +1,7 @@
--- `ntlm_line` chooses as the NTLM program does.
+-- `ntlm_line` writes the line of the kind that it chose.
 use borrow.Author.Needs.{needs}
 use Rattle.word.proofs.Calls.{same-line}
-use Rattle.line.proofs.Programs.{chosen-challenge, chosen-authenticate}
+use Rattle.line.proofs.Programs.{chosen}
 use Rattle.line.proofs.ntlm_line.Statement.{statement}
 use Rattle.line.proofs.ntlm_line.Tie as tie
 
@@ -9,6 +9,8 @@ pub ntlm-line-spec : {M : Type 1} → statement M
 ntlm-line-spec =
     tie.close
     (tie.spec
-    (λ c κs. search needs) (λ c κs. search needs) (λ c. search needs)
-    (λ c. (search (same-line, chosen-challenge), search (same-line, chosen-challenge))) (λ c κs. search needs)
-    (λ c. search needs) (λ c. (search (same-line, chosen-authenticate), search (same-line, chosen-authenticate))))
+    (λ c κs. search needs) (λ c. search needs) (λ c κs. search needs) (λ c. search needs) (λ c κs. search needs)
+    (λ c. search needs) (λ c κs. search needs) (λ c. search needs)
+    (λ c. (search (same-line, chosen), search (same-line, chosen))) (λ c. search needs)
+    (λ c. (search (same-line, chosen), search (same-line, chosen))) (λ c. search needs)
+    (λ c. (search (same-line, chosen), search (same-line, chosen))))

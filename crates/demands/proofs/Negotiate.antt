@@ -1,0 +1,177 @@
+-- NEGOTIATE is taken exactly when every check holds, and refused by the first that fails; its names are its own; MaxLen and
+-- ignored bytes change nothing.
+use Prim.Native.Nat.{ℕ, _+_, _*_, _≤_}
+use mathlib.Core.Path.{_≡_, refl, sym, ap, _∙_, subst}
+use mathlib.Core.Logic.{_⊎_, inl, inr, _↔_}
+use mathlib.Core.Bool.{Bool, true, false}
+use mathlib.Core.List.{List}
+use native.Mathlib.Omega.{arith}
+use lib.Dec.{ltb}
+use lib.ListN.{length}
+use borrow.Author.Tests.{eqb-true, eqb-false, ltb-true, ltb-false}
+use Rattle.wire.specs.declared.check.Verdict.{Verdict}
+use Rattle.wire.specs.declared.check.Verdict.the-variants.{Clear, Refused as Not}
+use Rattle.wire.specs.Check.{onClear}
+use Rattle.wire.specs.Refusal.{numberOf, fieldOf}
+use Rattle.field.specs.declared.Field.{Field}
+use Rattle.field.specs.Field.{fieldAt}
+use Rattle.negotiate_flags.specs.declared.NegotiateFlags.{NegotiateFlags}
+use Rattle.negotiate_flags.specs.Flags.{oemDomainSupplied, oemWorkstationSupplied}
+use Rattle.head.specs.declared.Head.{Head}
+use Rattle.head.specs.declared.Head.the-variants.{Flags, Refused as Stopped}
+use Rattle.head.specs.Head.{flagsAt, readHead, onFlags}
+use Rattle.negotiate.specs.declared.Negotiate.{Negotiate}
+use Rattle.negotiate.specs.declared.Reading.{Reading}
+use Rattle.negotiate.specs.declared.Reading.the-variants.{Taken, Refused}
+use Rattle.negotiate.specs.Negotiate.{layout, fieldsAt, allFields, checkEnds, checkBegins, checkFields, readNegotiate}
+use Rattle.demands.specs.Order.{First}
+use Rattle.demands.specs.Message.{negotiate, Fails, DifferInIgnored}
+use Rattle.demands.specs.TakenExactly.{IsTakenNegotiate, NegotiateRefusedWith, NegotiateIsTaken, NegotiateIsRefused}
+use Rattle.demands.specs.OwnBytes.{OwnField, NegotiateOwn}
+use Rattle.demands.specs.Ignored.{SameBytes, NegotiateIgnored}
+use Rattle.demands.proofs.Order.{Free, only-first, next-check}
+use Rattle.demands.proofs.Message.{Stands}
+use Rattle.demands.proofs.Message as fields
+use Rattle.demands.proofs.Fields.{AllStand, ends-judged, begins-judged}
+use Rattle.demands.proofs.Chain.{JudgedV, JudgedH, head-judged, then, beyond}
+use Rattle.demands.proofs.OwnBytes.{own-field}
+use Rattle.demands.proofs.Apart.{Apart, seen}
+use Rattle.demands.proofs.Unchanged as same
+
+module _ (s : List ℕ) where
+  -- each field of the reader is its head's
+  domain : Stands negotiate s 1 (fieldAt s 16 (oemDomainSupplied (flagsAt s 12)))
+  domain =
+      fields.stands negotiate s 1 (oemDomainSupplied (flagsAt s 12)) (omega arith) (omega arith)
+      (λ h. (λ e. eqb-true _ 1 h, λ e. absurd (omega arith))) (λ h c. eqb-false _ 1 h (c .0 refl))
+
+  workstation : Stands negotiate s 2 (fieldAt s 24 (oemWorkstationSupplied (flagsAt s 12)))
+  workstation =
+      fields.stands negotiate s 2 (oemWorkstationSupplied (flagsAt s 12)) (omega arith) (omega arith)
+      (λ h. (λ e. absurd (omega arith), λ e. eqb-true _ 1 h)) (λ h c. eqb-false _ 1 h (c .1 refl))
+
+  two : (P : ℕ → Field → Type 0) → ((i : ℕ) (f : Field) → Stands negotiate s i f → P i f) →
+      P 1 (fieldsAt s (flagsAt s 12) .domain) × P 2 (fieldsAt s (flagsAt s 12) .workstation)
+  unfolding fieldsAt
+  two P h = (h 1 _ domain, h 2 _ workstation)
+
+  all : AllStand negotiate s 1 (allFields (fieldsAt s (flagsAt s 12)))
+  all = let x = two (Stands negotiate s) (λ i f w. w) in (refl, x .0, (refl, x .1, tt))
+
+  -- checks 6 and 7; 8 and 9 have no row for a kind with no 16-bit name
+  fields-judged : Free (Fails negotiate s) 6 0 → JudgedV negotiate s 8 (checkFields (length s) (fieldsAt s (flagsAt s 12)))
+  unfolding checkFields checkEnds checkBegins
+  fields-judged free =
+      let f = fieldsAt s (flagsAt s 12) in
+      then negotiate s 7 8 (checkEnds (length s) f) (checkBegins f) (ends-judged negotiate s (allFields f) all refl free)
+      (begins-judged negotiate s (allFields f) all refl)
+
+  -- the whole reading
+  abbrev Judged : Reading → Type 0
+  Judged (Taken m) = ((n i : ℕ) → Fails negotiate s n i → ⊥) × (m ≡ record { flags = flagsAt s 12; fields = fieldsAt s (flagsAt s 12) })
+  Judged (Refused e) = First (Fails negotiate s) (numberOf e) (fieldOf e)
+
+  judged : Judged (readNegotiate s)
+  unfolding readNegotiate
+  judged = go (readHead layout s) (head-judged negotiate s (omega arith)) where
+    rest : NegotiateFlags → Reading
+    rest w = onClear Refused (checkFields (length s) (fieldsAt s w)) (Taken (record { flags = w; fields = fieldsAt s w }))
+
+    none : Free (Fails negotiate s) 8 0 → (n i : ℕ) → Fails negotiate s n i → ⊥
+    none free =
+        beyond negotiate s
+        (next-check (Fails negotiate s) 9 0 10 refl
+        (next-check (Fails negotiate s) 8 0 9 refl free (λ j l h. absurd (h .1)))
+        (λ j l h. absurd (h .1)))
+
+    last : (v : Verdict) → JudgedV negotiate s 8 v → Judged (onClear Refused v (Taken (record { flags = flagsAt s 12; fields = fieldsAt s (flagsAt s 12) })))
+    last Clear free = (none free, refl)
+    last (Not e) f = f
+
+    go : (h : Head) → JudgedH negotiate s h → Judged (onFlags Refused h rest)
+    go (Flags w) j = subst (λ (x : NegotiateFlags). Judged (rest x)) (sym (j .0)) (last (checkFields (length s) (fieldsAt s (flagsAt s 12))) (fields-judged (j .1)))
+    go (Stopped e) j = j
+
+pub negotiate-taken : NegotiateIsTaken
+negotiate-taken s = go (readNegotiate s) (judged s) where
+  go : (r : Reading) → Judged s r → IsTakenNegotiate r ↔ ((n i : ℕ) → Fails negotiate s n i → ⊥)
+  go (Taken m) j = (λ t. j .0, λ h. tt)
+  go (Refused e) j = (λ t. absurd t, λ h. h (numberOf e) (fieldOf e) (j .fails))
+
+pub negotiate-refused : NegotiateIsRefused
+negotiate-refused s n i = go (readNegotiate s) (judged s) where
+  go : (r : Reading) → Judged s r → NegotiateRefusedWith r n i ↔ First (Fails negotiate s) n i
+  go (Taken m) j = (λ t. absurd t, λ f. j .0 n i (f .fails))
+  go (Refused e) j = (
+    λ t. subst (λ (x : ℕ). First (Fails negotiate s) n x) (t .1) (subst (λ (x : ℕ). First (Fails negotiate s) x (fieldOf e)) (t .0) j),
+    λ f. only-first (Fails negotiate s) (numberOf e) (fieldOf e) n i j f,
+  )
+
+-- what a taken message is answered with
+taken-as : (s : List ℕ) (m : Negotiate) → readNegotiate s ≡ Taken m → Judged s (Taken m)
+taken-as s m h = subst (Judged s) h (judged s)
+
+pub negotiate-own : NegotiateOwn
+negotiate-own s m h =
+    let t = taken-as s m h in
+    let x = two s (λ i f. (Fails negotiate s 6 i → ⊥) → OwnField negotiate s i f) (own-field negotiate s) in
+    record {
+      flags = ap (λ (d : Negotiate). d .flags .bits) (t .1);
+      domain = rw (t .1) (x .0 (t .0 6 1));
+      workstation = rw (t .1) (x .1 (t .0 6 2));
+    }
+
+-- ---- ignored bytes
+
+apart : Apart negotiate
+apart =
+    record {
+      flags = (omega arith, omega arith);
+      heads = λ i a b. (omega arith, omega arith);
+      from-flags = λ i a b. inl (omega arith);
+      from-heads = λ i j a b c d. by i j (ltb i j) (ltb j i) refl refl;
+      unused = λ p u. absurd u;
+    }
+  where
+    by : (i j : ℕ) (x y : Bool) → ltb i j ≡ x → ltb j i ≡ y → (i ≡ j) ⊎ ((8 + 8 * i + 8 ≤ 8 + 8 * j) ⊎ (8 + 8 * j + 8 ≤ 8 + 8 * i))
+    by i j true y p q = inr (inl (omega (arith, ltb-true i j p)))
+    by i j false true p q = inr (inr (omega (arith, ltb-true j i q)))
+    by i j false false p q = inl (omega (arith, ltb-false i j p, ltb-false j i q))
+
+module _ (a b : List ℕ) (d : DifferInIgnored negotiate a b) where
+  fields-same : fieldsAt a (flagsAt a 12) ≡ fieldsAt b (flagsAt a 12)
+  unfolding fieldsAt
+  fields-same =
+      simp (
+        same.field-same negotiate a b (seen negotiate apart a) d 1 (oemDomainSupplied (flagsAt a 12)) (omega arith) (omega arith) (λ h. (λ e. eqb-true _ 1 h, λ e. absurd (omega arith))),
+        same.field-same negotiate a b (seen negotiate apart a) d 2 (oemWorkstationSupplied (flagsAt a 12)) (omega arith) (omega arith) (λ h. (λ e. absurd (omega arith), λ e. eqb-true _ 1 h)),
+      )
+
+  reading-same : readNegotiate a ≡ readNegotiate b
+  unfolding readNegotiate
+  reading-same =
+      go (readHead layout a) (head-judged negotiate a (omega arith))
+      ∙ ap (λ (h : Head). onFlags Refused h (rest b)) (same.head-same negotiate a b (seen negotiate apart a) d)
+    where
+      rest : List ℕ → NegotiateFlags → Reading
+      rest s w = onClear Refused (checkFields (length s) (fieldsAt s w)) (Taken (record { flags = w; fields = fieldsAt s w }))
+
+      go : (h : Head) → JudgedH negotiate a h → onFlags Refused h (rest a) ≡ onFlags Refused h (rest b)
+      go (Flags w) j = rw (j .0) (simp (d .length-same, fields-same))
+      go (Stopped e) j = refl
+
+  bytes-same : ((n i : ℕ) → Fails negotiate a n i → ⊥) → SameBytes a b (fieldsAt a (flagsAt a 12) .domain) × SameBytes a b (fieldsAt a (flagsAt a 12) .workstation)
+  bytes-same none =
+      let y = two a (λ i f. (Fails negotiate a 6 i → ⊥) → (Fails negotiate a 7 i → ⊥) → SameBytes a b f) (same.bytes-same negotiate a b (seen negotiate apart a) d) in
+      (y .0 (none 6 1) (none 7 1), y .1 (none 6 2) (none 7 2))
+
+pub negotiate-ignored : NegotiateIgnored
+negotiate-ignored a b d =
+    record {
+      answer = reading-same a b d;
+      domain = λ m h. let t = taken-as a m h in rw (t .1) (bytes-same a b d (t .0) .0);
+      workstation = λ m h. let t = taken-as a m h in rw (t .1) (bytes-same a b d (t .0) .1);
+    }
+
+pub negotiate-seen : (s : List ℕ) → same.Seen negotiate s
+negotiate-seen s = seen negotiate apart s

@@ -1,0 +1,343 @@
+-- A NEGOTIATE that is written reads back, and its writing keeps what it doesn't write.
+use Prim.Native.Nat.{ℕ, _+_, _/_, _%_, _≤_, _<_}
+use mathlib.Core.Path.{_≡_, refl, sym, ap, _∙_, subst}
+use mathlib.Core.Logic.{_↔_, ⊎-elim}
+use mathlib.Core.Bool.{Bool, true, false, not, cond}
+use mathlib.Core.List.{List, [], _++_, append-assoc, append-nil}
+use native.Mathlib.Omega.{arith}
+use lib.Dec.{eqb}
+use lib.ListN.{length, take, drop, length-append}
+use lib.Seq.{take-at}
+use borrow.Author.Tests.{eqb-true, eqb-false, leb-true}
+use Rattle.wire.specs.declared.check.Checked.the-variants.{Held}
+use Rattle.wire.specs.declared.check.Verdict.the-variants.{Clear}
+use Rattle.wire.specs.declared.refusal.Refusal.the-variants.{NoCharset, TooLongToWrite, NoRoom}
+use Rattle.wire.specs.Number.{u32At, has, withBit}
+use Rattle.wire.proofs.Laws.{held-true}
+use Rattle.wire.proofs.Bits.{within}
+use Rattle.field.specs.declared.Field.{Field}
+use Rattle.field.specs.Field.{headAt}
+use Rattle.negotiate_flags.specs.declared.NegotiateFlags.{NegotiateFlags}
+use Rattle.negotiate_flags.specs.Flags.{unicode, oem, charsetHolds}
+use Rattle.head.specs.Head.{signature}
+use Rattle.place.specs.Place.{le32}
+use Rattle.place.specs.Written.{sizeHolds, roomHolds}
+use Rattle.place.proofs.Numbers.{length-le32, back32}
+use Rattle.field_writing.specs.Writing.{headBytes, versionBytes}
+use Rattle.field_writing.proofs.Laws.{length-head, length-version}
+use Rattle.negotiate.specs.declared.Fields.{Fields}
+use Rattle.negotiate.specs.declared.Reading.{Reading}
+use Rattle.negotiate.specs.declared.Reading.the-variants.{Taken, Refused}
+use Rattle.negotiate.specs.Negotiate.{readNegotiate}
+use Rattle.negotiate_writing.specs.Writing.{nonempty, flagsToWrite, fieldsTo, afterType, fixedBytes, negotiateBytes, sizeToWrite, checkToWrite, writeAnswer, writeOut}
+use Rattle.negotiate_writing.proofs.Sent.{length-message}
+use Rattle.demands.specs.Message.{negotiate, lenOf, offsetOf, Set, Nonempty, Fails}
+use Rattle.demands.specs.TakenExactly.{IsTakenNegotiate}
+use Rattle.demands.specs.ReadBack.{NegotiateBack, NegotiateReadsBack}
+use Rattle.demands.specs.Kept.{NegotiateKept}
+use Rattle.demands.proofs.Bools.{or-either, after-held}
+use Rattle.demands.proofs.Chain.{by-row}
+use Rattle.demands.proofs.Kept.{by-verdict}
+use Rattle.demands.proofs.OwnBytes.{own-same}
+use Rattle.demands.proofs.ReadBack.{written-is}
+use Rattle.demands.proofs.Sent.{back-at, in-payload}
+use Rattle.demands.proofs.Negotiate.{negotiate-taken, negotiate-own}
+
+-- ---- the two bits
+
+-- one bit, those below it and those above it
+record OneBit (n z below above at : ℕ) : Type 0 where
+  low : z % below ≡ n % below
+  high : z / above ≡ n / above
+  bit : z / below % 2 ≡ at
+
+domain-bit : (n : ℕ) (on : Bool) → OneBit n (withBit n 0x1000 on) 0x1000 0x2000 (cond on 1 0)
+domain-bit n on = go (has n 0x1000) refl on where
+  go : (t : Bool) → has n 0x1000 ≡ t → (on : Bool) → OneBit n (withBit n 0x1000 on) 0x1000 0x2000 (cond on 1 0)
+  go true p true =
+      let l = within n 0x1000 _ refl p in
+      let o = eqb-true (n / 0x1000 % 2) 1 p in
+      simp p (record { low = omega arith; high = omega arith; bit = omega arith })
+  go true p false =
+      let l = within n 0x1000 _ refl p in
+      let o = eqb-true (n / 0x1000 % 2) 1 p in
+      simp p (record { low = omega arith; high = omega arith; bit = omega arith })
+  go false p true =
+      let o = eqb-false (n / 0x1000 % 2) 1 p in
+      simp p (record { low = omega (arith, o); high = omega (arith, o); bit = omega (arith, o) })
+  go false p false =
+      let o = eqb-false (n / 0x1000 % 2) 1 p in
+      simp p (record { low = omega (arith, o); high = omega (arith, o); bit = omega (arith, o) })
+
+workstation-bit : (n : ℕ) (on : Bool) → OneBit n (withBit n 0x2000 on) 0x2000 0x4000 (cond on 1 0)
+workstation-bit n on = go (has n 0x2000) refl on where
+  go : (t : Bool) → has n 0x2000 ≡ t → (on : Bool) → OneBit n (withBit n 0x2000 on) 0x2000 0x4000 (cond on 1 0)
+  go true p true =
+      let l = within n 0x2000 _ refl p in
+      let o = eqb-true (n / 0x2000 % 2) 1 p in
+      simp p (record { low = omega arith; high = omega arith; bit = omega arith })
+  go true p false =
+      let l = within n 0x2000 _ refl p in
+      let o = eqb-true (n / 0x2000 % 2) 1 p in
+      simp p (record { low = omega arith; high = omega arith; bit = omega arith })
+  go false p true =
+      let o = eqb-false (n / 0x2000 % 2) 1 p in
+      simp p (record { low = omega (arith, o); high = omega (arith, o); bit = omega (arith, o) })
+  go false p false =
+      let o = eqb-false (n / 0x2000 % 2) 1 p in
+      simp p (record { low = omega (arith, o); high = omega (arith, o); bit = omega (arith, o) })
+
+-- both, as the names make them
+record BothBits (n z : ℕ) (domain workstation : List ℕ) : Type 0 where
+  low : z % 0x1000 ≡ n % 0x1000
+  high : z / 0x4000 ≡ n / 0x4000
+  domain-bit : z / 0x1000 % 2 ≡ cond (nonempty domain) 1 0
+  workstation-bit : z / 0x2000 % 2 ≡ cond (nonempty workstation) 1 0
+
+both-bits : (w : NegotiateFlags) (domain workstation : List ℕ) → BothBits (w .bits) (flagsToWrite w domain workstation .bits) domain workstation
+unfolding flagsToWrite
+both-bits w domain workstation =
+    let n = withBit (w .bits) 0x1000 (nonempty domain) in
+    let a = domain-bit (w .bits) (nonempty domain) in
+    let b = workstation-bit n (nonempty workstation) in
+    record {
+      low = omega (arith, a .low, b .low);
+      high = omega (arith, a .high, b .high);
+      domain-bit = omega (arith, a .bit, b .low);
+      workstation-bit = b .bit;
+    }
+
+-- a name's bit is set exactly where it has bytes
+bit-is : (x : List ℕ) (b : ℕ) → b ≡ cond (nonempty x) 1 0 → (b ≡ 1) ↔ (0 < length x)
+bit-is x b e = go (eqb (length x) 0) refl e where
+  go : (t : Bool) → eqb (length x) 0 ≡ t → b ≡ cond (not t) 1 0 → (b ≡ 1) ↔ (0 < length x)
+  go true p q = (λ h. absurd (omega arith), λ h. absurd (omega (arith, eqb-true (length x) 0 p)))
+  go false p q = (λ h. omega (arith, eqb-false (length x) 0 p), λ h. q)
+
+-- ---- what is written, byte by byte
+
+module _ (w : NegotiateFlags) (v dom wks : List ℕ) (v8 : length v ≡ 8) where
+  x : NegotiateFlags
+  x = flagsToWrite w dom wks
+
+  f : Fields
+  f = fieldsTo (length dom) (length wks)
+
+  M : List ℕ
+  M = negotiateBytes w v dom wks
+
+  -- what stands before each part
+  q0 : List ℕ
+  q0 = signature ++ le32 1
+
+  q1 : List ℕ
+  q1 = q0 ++ le32 (x .bits)
+
+  q2 : List ℕ
+  q2 = q1 ++ headBytes (f .domain)
+
+  q3 : List ℕ
+  q3 = q2 ++ headBytes (f .workstation)
+
+  q4 : List ℕ
+  q4 = q3 ++ versionBytes x v
+
+  abbrev rest0 : List ℕ
+  rest0 = le32 (x .bits) ++ (headBytes (f .domain) ++ (headBytes (f .workstation) ++ (versionBytes x v ++ (dom ++ wks))))
+
+  at0 : M ≡ q0 ++ rest0
+  unfolding M q0 x f negotiateBytes fixedBytes afterType
+  at0 = simp append-assoc
+
+  at1 : M ≡ q1 ++ (headBytes (f .domain) ++ (headBytes (f .workstation) ++ (versionBytes x v ++ (dom ++ wks))))
+  unfolding q1
+  at1 = at0 ∙ sym (append-assoc q0 (le32 (x .bits)) _)
+
+  at2 : M ≡ q2 ++ (headBytes (f .workstation) ++ (versionBytes x v ++ (dom ++ wks)))
+  unfolding q2
+  at2 = at1 ∙ sym (append-assoc q1 (headBytes (f .domain)) _)
+
+  at3 : M ≡ q3 ++ (versionBytes x v ++ (dom ++ wks))
+  unfolding q3
+  at3 = at2 ∙ sym (append-assoc q2 (headBytes (f .workstation)) _)
+
+  at4 : M ≡ q4 ++ (dom ++ wks)
+  unfolding q4
+  at4 = at3 ∙ sym (append-assoc q3 (versionBytes x v) _)
+
+  at5 : M ≡ (q4 ++ dom) ++ (wks ++ [])
+  at5 = at4 ∙ sym (append-assoc q4 dom wks) ∙ ap (λ (l : List ℕ). (q4 ++ dom) ++ l) (sym (append-nil wks))
+
+  -- their lengths
+  l0 : length q0 ≡ 12
+  unfolding q0
+  l0 = simp length-le32
+
+  l1 : length q1 ≡ 16
+  unfolding q1
+  l1 = simp (length-append, length-le32, l0)
+
+  l2 : length q2 ≡ 24
+  unfolding q2
+  l2 = simp (length-append, length-head, l1)
+
+  l3 : length q3 ≡ 32
+  unfolding q3
+  l3 = simp (length-append, length-head, l2)
+
+  l4 : length q4 ≡ 40
+  unfolding q4
+  l4 = simp (length-append, length-version x v v8, l3)
+
+  -- the heads and the flags read back
+  domain-head : headAt M 16 ≡ f .domain
+  domain-head = back-at M q1 _ (f .domain) 16 at1 l1
+
+  workstation-head : headAt M 24 ≡ f .workstation
+  workstation-head = back-at M q2 _ (f .workstation) 24 at2 l2
+
+  flags-back : u32At M 12 ≡ x .bits
+  flags-back = ap (λ (l : List ℕ). u32At l 12) at0 ∙ back32 q0 _ (x .bits) 12 l0
+
+  type-back : u32At M 8 ≡ 1
+  unfolding q0
+  type-back = ap (λ (l : List ℕ). u32At l 8) (at0 ∙ append-assoc signature (le32 1) rest0) ∙ back32 signature rest0 1 8 refl
+
+  signature-back : take 8 M ≡ signature
+  unfolding q0
+  signature-back = ap (λ (l : List ℕ). take 8 l) (at0 ∙ append-assoc signature (le32 1) rest0) ∙ take-at signature (le32 1 ++ rest0) 8 refl
+
+  whole : length M ≡ 40 + length dom + length wks
+  whole = ap length at4 ∙ simp (length-append, l4) (omega arith)
+
+  len1 : lenOf negotiate M 1 ≡ length dom
+  unfolding f fieldsTo
+  len1 = ap (λ (g : Field). g .len) domain-head
+
+  off1 : offsetOf negotiate M 1 ≡ 40
+  unfolding f fieldsTo
+  off1 = ap (λ (g : Field). g .offset) domain-head
+
+  len2 : lenOf negotiate M 2 ≡ length wks
+  unfolding f fieldsTo
+  len2 = ap (λ (g : Field). g .len) workstation-head
+
+  off2 : offsetOf negotiate M 2 ≡ 40 + length dom
+  unfolding f fieldsTo
+  off2 = ap (λ (g : Field). g .offset) workstation-head
+
+  dom-bytes : take (length dom) (drop 40 M) ≡ dom
+  dom-bytes = in-payload M q4 dom wks 40 (length dom) at4 l4 refl
+
+  wks-bytes : take (length wks) (drop (40 + length dom) M) ≡ wks
+  wks-bytes = in-payload M (q4 ++ dom) wks [] (40 + length dom) (length wks) at5 (simp (length-append, l4)) refl
+
+  -- a flag of the message
+  bits : BothBits (w .bits) (x .bits) dom wks
+  unfolding x
+  bits = both-bits w dom wks
+
+  flag : (mask : ℕ) → x .bits / mask % 2 ≡ 1 → Set negotiate M mask
+  flag mask e = ap (λ (n : ℕ). n / mask % 2) flags-back ∙ e
+
+  -- ---- no check fails
+
+  no-5 : charsetHolds w ≡ Held → (i : ℕ) → Fails negotiate M 5 i → ⊥
+  no-5 h i e =
+      ⊎-elim (λ u. e .1 (flag 0x1 (omega (arith, eqb-true (w .bits / 0x1 % 2) 1 u, bits .low))))
+      (λ o. e .2 (flag 0x2 (omega (arith, eqb-true (w .bits / 0x2 % 2) 1 o, bits .low))))
+      (or-either (unicode w) (oem w) (held-true _ h))
+
+  by-field : (P : ℕ → Type 0) → P 1 → P 2 → (i : ℕ) → 1 ≤ i → i ≤ 2 → P i
+  by-field P a b i l r = go (eqb i 1) refl where
+    second : (i ≡ 1 → ⊥) → 2 ≡ i
+    second h = omega (arith, h)
+
+    go : (t : Bool) → eqb i 1 ≡ t → P i
+    go true p = subst P (sym (eqb-true i 1 p)) a
+    go false p = subst P (second (eqb-false i 1 p)) b
+
+  field-end : (i : ℕ) → 1 ≤ i → i ≤ 2 → offsetOf negotiate M i + lenOf negotiate M i ≤ length M
+  field-end = by-field (λ i. offsetOf negotiate M i + lenOf negotiate M i ≤ length M) (omega (arith, off1, len1, whole)) (omega (arith, off2, len2, whole))
+
+  field-start : (i : ℕ) → 1 ≤ i → i ≤ 2 → 40 ≤ offsetOf negotiate M i
+  field-start = by-field (λ i. 40 ≤ offsetOf negotiate M i) (omega (arith, off1)) (omega (arith, off2))
+
+  none-fails : charsetHolds w ≡ Held → length M ≤ 65535 → (n i : ℕ) → Fails negotiate M n i → ⊥
+  none-fails charset size n i =
+      by-row negotiate M n i (λ h. omega (arith, h .1)) (λ h. omega (arith, h .1, whole)) (λ h. h .1 signature-back) (λ h. h .1 type-back) (no-5 charset i)
+      (λ h. omega (arith, h .1, field-end i (h .0 .first) (h .0 .last)))
+      (λ h. omega (arith, h .1, field-start i (h .0 .first) (h .0 .last)))
+      (λ h. absurd (h .1)) (λ h. absurd (h .1))
+
+  -- ---- and so it is taken, with the names as they were given
+
+  domain-counts : 0 < lenOf negotiate M 1 → Nonempty negotiate M 1
+  domain-counts s =
+      record {
+        first = omega arith;
+        last = omega arith;
+        counts = (λ e. flag 0x1000 (bit-is dom (x .bits / 0x1000 % 2) (bits .domain-bit) .1 (omega (arith, len1))), λ e. absurd (omega arith));
+        some = s;
+      }
+
+  workstation-counts : 0 < lenOf negotiate M 2 → Nonempty negotiate M 2
+  workstation-counts s =
+      record {
+        first = omega arith;
+        last = omega arith;
+        counts = (λ e. absurd (omega arith), λ e. flag 0x2000 (bit-is wks (x .bits / 0x2000 % 2) (bits .workstation-bit) .1 (omega (arith, len2))));
+        some = s;
+      }
+
+  at-offset : (i n o : ℕ) (y : List ℕ) → offsetOf negotiate M i ≡ o → take n (drop o M) ≡ y → take n (drop (offsetOf negotiate M i) M) ≡ y
+  at-offset i n o y e h = ap (λ (k : ℕ). take n (drop k M)) e ∙ h
+
+  back : charsetHolds w ≡ Held → length M ≤ 65535 → NegotiateBack M w dom wks
+  back charset size = go (readNegotiate M) refl (negotiate-taken M .1 (none-fails charset size)) where
+    go : (r : Reading) → readNegotiate M ≡ r → IsTakenNegotiate r → NegotiateBack M w dom wks
+    go (Taken m) e t =
+        let o = negotiate-own M m e in
+        let same : m .flags .bits ≡ x .bits = o .flags ∙ flags-back in
+        record {
+          message = m;
+          read = e;
+          domain-same = own-same negotiate M 1 (m .fields .domain) dom (o .domain) domain-counts len1 (at-offset 1 (length dom) 40 dom off1 dom-bytes);
+          workstation-same = own-same negotiate M 2 (m .fields .workstation) wks (o .workstation) workstation-counts len2 (at-offset 2 (length wks) _ wks off2 wks-bytes);
+          domain-bit = bit-is dom (m .flags .bits / 0x1000 % 2) (ap (λ (n : ℕ). n / 0x1000 % 2) same ∙ bits .domain-bit);
+          workstation-bit = bit-is wks (m .flags .bits / 0x2000 % 2) (ap (λ (n : ℕ). n / 0x2000 % 2) same ∙ bits .workstation-bit);
+          bits-below = ap (λ (n : ℕ). n % 0x1000) same ∙ bits .low;
+          bits-above = ap (λ (n : ℕ). n / 0x4000) same ∙ bits .high;
+        }
+    go (Refused d) e t = absurd t
+
+-- what a message that is written went through
+record Writable (room : ℕ) (w : NegotiateFlags) (dom wks : List ℕ) : Type 0 where
+  charset : charsetHolds w ≡ Held
+  size : sizeToWrite dom wks ≤ 65535
+  room-there : sizeToWrite dom wks ≤ room
+
+writable : (room : ℕ) (w : NegotiateFlags) (dom wks : List ℕ) → checkToWrite room w dom wks ≡ Clear → Writable room w dom wks
+unfolding checkToWrite
+writable room w dom wks h =
+    let c = after-held (charsetHolds w) NoCharset _ h in
+    let z = after-held (sizeHolds (sizeToWrite dom wks)) TooLongToWrite _ (c .1) in
+    let r = after-held (roomHolds (sizeToWrite dom wks) room) NoRoom _ (z .1) in
+    record {
+      charset = c .0;
+      size = leb-true (sizeToWrite dom wks) 65535 (held-true _ (z .0));
+      room-there = leb-true (sizeToWrite dom wks) room (held-true _ (r .0));
+    }
+
+pub negotiate-reads-back : NegotiateReadsBack
+unfolding writeAnswer writeOut M
+negotiate-reads-back out w v dom wks n v8 h =
+    let t = written-is (checkToWrite (length out) w dom wks) (negotiateBytes w v dom wks) out n h in
+    let c = writable (length out) w dom wks (t .0) in
+    rw (t .1) (back w v dom wks v8 (c .charset) (omega (arith, c .size, length-message dom wks w v v8)))
+
+pub negotiate-kept : NegotiateKept
+unfolding writeAnswer writeOut
+negotiate-kept out w v dom wks v8 =
+    by-verdict (checkToWrite (length out) w dom wks) (negotiateBytes w v dom wks) out
+    (λ h. omega (arith, writable (length out) w dom wks h .room-there, length-message dom wks w v v8))

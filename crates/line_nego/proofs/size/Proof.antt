@@ -1,0 +1,11 @@
+-- `size` is the length of the line.
+use borrow.Author.Needs.{needs}
+use Rattle.line_nego.proofs.Laws.{nego-size}
+use Rattle.line_nego.proofs.size.Statement.{statement}
+use Rattle.line_nego.proofs.size.Tie as tie
+
+pub size-spec : {M : Type 1} → statement M
+size-spec =
+    tie.close
+    (tie.spec
+    (λ c κs. search needs) (λ c. search needs) (λ c. search needs) (λ c. search nego-size))

@@ -1,0 +1,64 @@
+// The line of a NEGOTIATE message that was taken.
+ghost use mathlib.Core.Path.{_≡_};
+ghost use Prim.Native.Nat.{_≤_};
+ghost use lib.ListN.{length};
+ghost use Rattle.place.specs.Place.{Wrote};
+ghost use Rattle.word.specs.Words.{Room};
+ghost use Rattle.line_nego.specs.Nego.{negoNames, negoText};
+ghost use Rattle.word.specs.Call.{lineAnswer, lineAfter};
+use negotiate::Negotiate;
+use place::Place;
+use place::written::Written;
+use place::written::room_holds;
+use wire::check::Checked;
+use wire::refusal::Refusal;
+use word::words::name_word_size;
+use word::words::put_flags_word;
+use word::words::put_name_word;
+
+fn names_size(msg: &[u8], m: Negotiate) -> usize
+    ensures { λ r. ⌜ (r ≡ length (negoNames (now (msg .entry)) m)) × (r ≤ 800000) ⌝ }
+{
+    let f = m.fields;
+    name_word_size(b" domain=", msg, f.domain, false)
+        + name_word_size(b" work=", msg, f.workstation, false)
+}
+
+fn size(msg: &[u8], m: Negotiate) -> usize
+    ensures { λ r. ⌜ r ≡ length (negoText (now (msg .entry)) m) ⌝ }
+{
+    // 19 for the start and 1 for the line's end
+    19 + names_size(msg, m) + 1
+}
+
+// The names' units are bytes, also where UNICODE is set.
+fn put_names(p: Place, out: &mut [u8], msg: &[u8], m: Negotiate) -> Place
+    requires { ⌜ Room (p .at) (negoNames (now msg) m) (length (now out)) ⌝ }
+    ensures { λ r. ⌜ Wrote (now (out .entry)) (now (out .exit)) (p .at) (r .at) (negoNames (now (msg .entry)) m) ⌝ }
+{
+    let f = m.fields;
+    let p = put_name_word(p, out, b" domain=", msg, f.domain, false);
+    put_name_word(p, out, b" work=", msg, f.workstation, false)
+}
+
+fn put(out: &mut [u8], msg: &[u8], m: Negotiate) -> Place
+    requires { ⌜ Room 0 (negoText (now msg) m) (length (now out)) ⌝ }
+    ensures { λ r. ⌜ Wrote (now (out .entry)) (now (out .exit)) 0 (r .at) (negoText (now (msg .entry)) m) ⌝ }
+{
+    let p = Place { at: 0 }.put_bytes(out, b"nego");
+    let p = put_flags_word(p, out, m.flags.bits);
+    let p = put_names(p, out, msg, m);
+    p.put_u8(out, b'\n')
+}
+
+// The line of `m`, which was read from the message.
+pub fn write(out: &mut [u8], msg: &[u8], m: Negotiate) -> Written
+    ensures answer { λ r. ⌜ r ≡ lineAnswer (negoText (now (msg .entry)) m) (now (out .entry)) ⌝ }
+    ensures content { λ _. ⌜ now (out .exit) ≡ lineAfter (negoText (now (msg .entry)) m) (now (out .entry)) ⌝ }
+{
+    let Checked::Held = room_holds(size(msg, m), out.len()) else {
+        return Written::Refused(Refusal::NoRoom);
+    };
+    let p = put(out, msg, m);
+    Written::Length(p.at)
+}
