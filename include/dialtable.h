@@ -28,13 +28,13 @@
  * 11 under 4 bytes where a pair starts (2)   33 an output is too short
  * 12 end pair with length or bytes after (2) 34 an NL_AUTH string to write holds a zero byte (A = 1)
  * The field is 0 where no other is said. AUTHENTICATE: LM response 1, NT response 2, domain 3, user 4, workstation 5,
- * session key 6. CHALLENGE: target name 1, target info 2.
+ * session key 6. CHALLENGE: target name 1, target info 2. NEGOTIATE: domain 1, workstation 2.
  *
  * Numbers come back in an array of uint64_t, at the places that are named below. An array (or a MIC's or a server
  * challenge's bytes) that is too short is refused 33, before anything is read.
  *
- * Flags are those of MS-NLMP 2.2.2.5. Names are UTF-16LE where they have UNICODE (1), else bytes (OEM, 2). Times are
- * the 64-bit numbers of the timestamp pair.
+ * Flags are those of MS-NLMP 2.2.2.5. Names are UTF-16LE where they have UNICODE (1), else bytes (OEM, 2); those of a
+ * NEGOTIATE are always bytes. Times are the 64-bit numbers of the timestamp pair.
  */
 #ifndef DIALTABLE_H
 #define DIALTABLE_H
@@ -103,6 +103,17 @@ enum {
 uint64_t dialtable_read_server_names(const uint8_t *msg, size_t msg_len, uint64_t *numbers, size_t numbers_len);
 
 enum {
+    DIALTABLE_NEGOTIATE_FLAGS,
+    DIALTABLE_NEGOTIATE_DOMAIN_OFFSET, /* a domain counts with 0x1000 only */
+    DIALTABLE_NEGOTIATE_DOMAIN_LEN,
+    DIALTABLE_NEGOTIATE_WORKSTATION_OFFSET, /* a workstation counts with 0x2000 only */
+    DIALTABLE_NEGOTIATE_WORKSTATION_LEN,
+    DIALTABLE_NEGOTIATE_NUMBERS
+};
+/* Answers 0. */
+uint64_t dialtable_read_negotiate(const uint8_t *msg, size_t msg_len, uint64_t *numbers, size_t numbers_len);
+
+enum {
     DIALTABLE_NL_AUTH_TYPE,  /* 0 request, 1 response */
     DIALTABLE_NL_AUTH_FLAGS, /* bits A to E; 0 in a response */
     DIALTABLE_NL_AUTH_A_OFFSET,
@@ -160,8 +171,9 @@ uint64_t dialtable_next_pair(const uint8_t *list, size_t list_len, size_t at, ui
 
 uint64_t dialtable_authenticate_line(const uint8_t *msg, size_t msg_len, uint8_t *out, size_t out_len);
 uint64_t dialtable_challenge_line(const uint8_t *msg, size_t msg_len, uint8_t *out, size_t out_len);
+uint64_t dialtable_negotiate_line(const uint8_t *msg, size_t msg_len, uint8_t *out, size_t out_len);
 uint64_t dialtable_nl_auth_line(const uint8_t *msg, size_t msg_len, uint8_t *out, size_t out_len);
-/* CHALLENGE where 12 bytes are there and the type is 2, else AUTHENTICATE. */
+/* NEGOTIATE where 12 bytes are there and the type is 1, CHALLENGE where it is 2, else AUTHENTICATE. */
 uint64_t dialtable_ntlm_line(const uint8_t *msg, size_t msg_len, uint8_t *out, size_t out_len);
 /* What the programs print: the line, or that of 33 where it has no room. */
 uint64_t dialtable_ntlm_program_line(const uint8_t *msg, size_t msg_len, uint8_t *out, size_t out_len);
@@ -176,6 +188,11 @@ uint64_t dialtable_write_authenticate(uint8_t *out, size_t out_len, uint32_t fla
                                       size_t nt_len, const uint8_t *domain, size_t domain_len, const uint8_t *user,
                                       size_t user_len, const uint8_t *workstation, size_t workstation_len,
                                       const uint8_t *key, size_t key_len);
+/* Room: 40 bytes and those of both names. A name that isn't empty sets its bit in the flags written (domain 0x1000,
+ * workstation 0x2000) and an empty one clears it; other bits are written as they are. Version as above. */
+uint64_t dialtable_write_negotiate(uint8_t *out, size_t out_len, uint32_t flags, const uint8_t version[8],
+                                   const uint8_t *domain, size_t domain_len, const uint8_t *workstation,
+                                   size_t workstation_len);
 /* Strings of bits A to E (1, 2, 4, 8, 16); bits above are dropped, and a clear bit's string is passed over. Room: 8
  * bytes and, for each string written, its own and one more. */
 uint64_t dialtable_write_nl_auth_request(uint8_t *out, size_t out_len, uint32_t flags, const uint8_t *a, size_t a_len,

@@ -34,17 +34,19 @@ pub use answering::{
     Answer, Decision, Settings,
 };
 pub use lines::{
-    authenticate_line, challenge_line, nl_auth_line, nl_auth_program_line, ntlm_line,
-    ntlm_program_line,
+    authenticate_line, challenge_line, negotiate_line, nl_auth_line, nl_auth_program_line,
+    ntlm_line, ntlm_program_line,
 };
 pub use pairs::{check_pairs, count_pairs, find_pair, Pair, Walk};
 pub use raw::Parts;
 pub use reading::{
-    read_authenticate, read_challenge, read_nl_auth, read_server_names, read_timestamp,
-    Authenticate, Challenge, Field, NlAuth, ServerNames,
+    read_authenticate, read_challenge, read_negotiate, read_nl_auth, read_server_names,
+    read_timestamp, Authenticate, Challenge, Field, Negotiate, NlAuth, ServerNames,
 };
 pub use refusal::{Reason, Refusal};
-pub use writing::{write_authenticate, write_nl_auth_request, write_nl_auth_response};
+pub use writing::{
+    write_authenticate, write_negotiate, write_nl_auth_request, write_nl_auth_response,
+};
 
 /// The part of `out` that a call has written, by its answer.
 fn written(answer: u64, out: &[u8]) -> Result<&[u8], Refusal> {

@@ -17,10 +17,12 @@ lines! {
     authenticate_line;
     /// The line of a message read as CHALLENGE.
     challenge_line;
+    /// The line of a message read as NEGOTIATE.
+    negotiate_line;
     /// The line of a message read as NL_AUTH.
     nl_auth_line;
-    /// The line of a message read as CHALLENGE where 12 bytes are there and the
-    /// type is 2, else as AUTHENTICATE.
+    /// The line of a message read as NEGOTIATE where 12 bytes are there and the
+    /// type is 1, as CHALLENGE where it is 2, else as AUTHENTICATE.
     ntlm_line;
     /// What the NTLM program prints: the line, or that of 33 where it has no
     /// room.

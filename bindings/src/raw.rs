@@ -14,6 +14,8 @@ pub const CHALLENGE_NUMBERS: usize = 5;
 pub const TIMESTAMP_NUMBERS: usize = 2;
 /// How many numbers [`read_server_names`] gives.
 pub const SERVER_NAMES_NUMBERS: usize = 2;
+/// How many numbers [`read_negotiate`] gives.
+pub const NEGOTIATE_NUMBERS: usize = 5;
 /// How many numbers [`read_nl_auth`] gives.
 pub const NL_AUTH_NUMBERS: usize = 12;
 /// How many numbers [`count_pairs`] gives.
@@ -68,6 +70,7 @@ mod c {
         pub fn dialtable_read_timestamp(msg: *const u8, msg_len: usize, numbers: *mut u64, numbers_len: usize) -> u64;
         pub fn dialtable_read_server_names(msg: *const u8, msg_len: usize, numbers: *mut u64,
                                            numbers_len: usize) -> u64;
+        pub fn dialtable_read_negotiate(msg: *const u8, msg_len: usize, numbers: *mut u64, numbers_len: usize) -> u64;
         pub fn dialtable_read_nl_auth(msg: *const u8, msg_len: usize, numbers: *mut u64, numbers_len: usize) -> u64;
         pub fn dialtable_field_bytes(msg: *const u8, msg_len: usize, offset: u32, len: u16, out: *mut u8,
                                      out_len: usize) -> u64;
@@ -81,6 +84,7 @@ mod c {
 
         pub fn dialtable_authenticate_line(msg: *const u8, msg_len: usize, out: *mut u8, out_len: usize) -> u64;
         pub fn dialtable_challenge_line(msg: *const u8, msg_len: usize, out: *mut u8, out_len: usize) -> u64;
+        pub fn dialtable_negotiate_line(msg: *const u8, msg_len: usize, out: *mut u8, out_len: usize) -> u64;
         pub fn dialtable_nl_auth_line(msg: *const u8, msg_len: usize, out: *mut u8, out_len: usize) -> u64;
         pub fn dialtable_ntlm_line(msg: *const u8, msg_len: usize, out: *mut u8, out_len: usize) -> u64;
         pub fn dialtable_ntlm_program_line(msg: *const u8, msg_len: usize, out: *mut u8, out_len: usize) -> u64;
@@ -91,6 +95,9 @@ mod c {
                                             nt_len: usize, domain: *const u8, domain_len: usize, user: *const u8,
                                             user_len: usize, workstation: *const u8, workstation_len: usize,
                                             key: *const u8, key_len: usize) -> u64;
+        pub fn dialtable_write_negotiate(out: *mut u8, out_len: usize, flags: u32, version: *const u8,
+                                         domain: *const u8, domain_len: usize, workstation: *const u8,
+                                         workstation_len: usize) -> u64;
         pub fn dialtable_write_nl_auth_request(out: *mut u8, out_len: usize, flags: u32, a: *const u8, a_len: usize,
                                                b: *const u8, b_len: usize, c: *const u8, c_len: usize,
                                                d: *const u8, d_len: usize, e: *const u8, e_len: usize) -> u64;
@@ -180,6 +187,8 @@ numbers_calls! {
     read_timestamp => dialtable_read_timestamp;
     /// Whether a CHALLENGE has pairs 1 and 2.
     read_server_names => dialtable_read_server_names;
+    /// Reads a NEGOTIATE message.
+    read_negotiate => dialtable_read_negotiate;
     /// Reads an NL_AUTH message.
     read_nl_auth => dialtable_read_nl_auth;
     /// How many pairs a list holds.
@@ -201,6 +210,8 @@ line_calls! {
     authenticate_line => dialtable_authenticate_line;
     /// The line of a message read as CHALLENGE.
     challenge_line => dialtable_challenge_line;
+    /// The line of a message read as NEGOTIATE.
+    negotiate_line => dialtable_negotiate_line;
     /// The line of a message read as NL_AUTH.
     nl_auth_line => dialtable_nl_auth_line;
     /// The line of a message read as the NTLM program does.
@@ -277,6 +288,28 @@ pub fn write_authenticate(out: &mut [u8], flags: u32, parts: &Parts<'_>) -> u64 
             parts.workstation.len(),
             parts.key.as_ptr(),
             parts.key.len(),
+        )
+    }
+}
+
+/// Writes a NEGOTIATE message.
+pub fn write_negotiate(
+    out: &mut [u8],
+    flags: u32,
+    version: &[u8; 8],
+    domain: &[u8],
+    workstation: &[u8],
+) -> u64 {
+    unsafe {
+        c::dialtable_write_negotiate(
+            out.as_mut_ptr(),
+            out.len(),
+            flags,
+            version.as_ptr(),
+            domain.as_ptr(),
+            domain.len(),
+            workstation.as_ptr(),
+            workstation.len(),
         )
     }
 }

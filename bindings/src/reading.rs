@@ -137,6 +137,29 @@ pub fn read_server_names(message: &[u8]) -> Result<ServerNames, Refusal> {
     })
 }
 
+/// A NEGOTIATE message. Its names are bytes, also where UNICODE is set.
+#[derive(Clone, Copy, Debug, Default, PartialEq, Eq)]
+pub struct Negotiate {
+    /// NegotiateFlags
+    pub flags: u32,
+    /// DomainName, empty without OEM_DOMAIN_SUPPLIED.
+    pub domain: Field,
+    /// Workstation, empty without OEM_WORKSTATION_SUPPLIED.
+    pub workstation: Field,
+}
+
+/// Reads a NEGOTIATE message.
+pub fn read_negotiate(message: &[u8]) -> Result<Negotiate, Refusal> {
+    let mut numbers = [0; raw::NEGOTIATE_NUMBERS];
+    Refusal::check(raw::read_negotiate(message, &mut numbers))?;
+    let [flags, domain_offset, domain_len, workstation_offset, workstation_len] = numbers;
+    Ok(Negotiate {
+        flags: flags as u32,
+        domain: Field::of(domain_offset, domain_len),
+        workstation: Field::of(workstation_offset, workstation_len),
+    })
+}
+
 /// An NL_AUTH message.
 #[derive(Clone, Copy, Debug, PartialEq, Eq)]
 pub enum NlAuth {

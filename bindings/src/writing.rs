@@ -1,4 +1,4 @@
-//! Writing AUTHENTICATE and NL_AUTH.
+//! Writing NEGOTIATE, AUTHENTICATE and NL_AUTH.
 
 use crate::{raw, written, Parts, Refusal};
 
@@ -9,6 +9,20 @@ pub fn write_authenticate<'a>(
     parts: &Parts<'_>,
 ) -> Result<&'a [u8], Refusal> {
     written(raw::write_authenticate(out, flags, parts), out)
+}
+
+/// Writes a NEGOTIATE message. A name that isn't empty sets its bit in the flags
+/// written, and an empty one clears it. Version is written where the flags have
+/// VERSION.
+pub fn write_negotiate<'a>(
+    out: &'a mut [u8],
+    flags: u32,
+    version: &[u8; 8],
+    domain: &[u8],
+    workstation: &[u8],
+) -> Result<&'a [u8], Refusal> {
+    let answer = raw::write_negotiate(out, flags, version, domain, workstation);
+    written(answer, out)
 }
 
 /// Writes an NL_AUTH request with the strings of bits A to E. Bits above are

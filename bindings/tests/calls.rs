@@ -4,14 +4,16 @@ use std::fs;
 
 use dialtable::{
     authenticate_line, challenge_line, check_pairs, count_pairs, decide, domain_to_send, find_pair,
-    nl_auth_line, nl_auth_program_line, ntlm_line, ntlm_program_line, read_authenticate,
-    read_challenge, read_nl_auth, read_server_names, read_timestamp, respond, respond_for_bench,
-    respond_for_relay, respond_to_old_server, write_authenticate, write_nl_auth_request,
-    write_nl_auth_response, Answer, Decision, Field, NlAuth, Pair, Parts, Reason, Refusal,
-    ServerNames, Settings, Walk,
+    negotiate_line, nl_auth_line, nl_auth_program_line, ntlm_line, ntlm_program_line,
+    read_authenticate, read_challenge, read_negotiate, read_nl_auth, read_server_names,
+    read_timestamp, respond, respond_for_bench, respond_for_relay, respond_to_old_server,
+    write_authenticate, write_negotiate, write_nl_auth_request, write_nl_auth_response, Answer,
+    Decision, Field, Negotiate, NlAuth, Pair, Parts, Reason, Refusal, ServerNames, Settings, Walk,
 };
 
 const UNICODE: u32 = 0x1;
+const OEM_DOMAIN: u32 = 0x1000;
+const OEM_WORKSTATION: u32 = 0x2000;
 const VERSION: u32 = 0x200_0000;
 const KEY_EXCH: u32 = 0x4000_0000;
 
@@ -35,6 +37,10 @@ fn challenge() -> Vec<u8> {
 
 fn no_timestamp() -> Vec<u8> {
     file("messages/challenge-no-timestamp.bin")
+}
+
+fn negotiate() -> Vec<u8> {
+    file("messages/negotiate-names-escapes.bin")
 }
 
 fn refusal<T: std::fmt::Debug>(answer: Result<T, Refusal>) -> (u8, u8) {
@@ -157,6 +163,44 @@ fn a_challenge_is_read() {
 }
 
 #[test]
+fn a_negotiate_is_read() {
+    let message = negotiate();
+    let read = read_negotiate(&message).expect("taken");
+    assert_eq!(read.flags, 0xA208_B207);
+    assert_eq!(read.domain, Field { offset: 40, len: 7 });
+    assert_eq!(read.domain.bytes(&message), b"LINE 31");
+    assert_eq!(read.workstation, Field { offset: 47, len: 5 });
+    assert_eq!(read.workstation.bytes(&message), b"box\\\xFC");
+    // Without their bits the names don't count.
+    let mut bare = message.clone();
+    bare[13] &= !0x30;
+    let expected = Negotiate {
+        flags: 0xA208_8207,
+        ..Negotiate::default()
+    };
+    assert_eq!(read_negotiate(&bare), Ok(expected));
+}
+
+#[test]
+fn changes_to_a_negotiate_are_refused_by_number_and_field() {
+    let with = |at: usize, bytes: &[u8]| {
+        let mut message = negotiate();
+        message[at..at + bytes.len()].copy_from_slice(bytes);
+        read_negotiate(&message)
+    };
+    assert_eq!(refusal(with(0, &[0])), (3, 0));
+    assert_eq!(refusal(with(8, &[3])), (4, 0));
+    assert_eq!(refusal(with(12, &[0])), (5, 0));
+    assert_eq!(refusal(with(20, &[46])), (6, 1));
+    assert_eq!(refusal(with(28, &[48])), (6, 2));
+    assert_eq!(refusal(with(20, &[31])), (7, 1));
+    assert_eq!(refusal(with(28, &[31])), (7, 2));
+    assert!(with(28, &[32]).is_ok());
+    assert_eq!(refusal(read_negotiate(&negotiate()[..31])), (2, 0));
+    assert_eq!(refusal(read_negotiate(&vec![0; 65_536])), (1, 0));
+}
+
+#[test]
 fn pair_lists() {
     let message = challenge();
     let list = read_challenge(&message)
@@ -224,6 +268,14 @@ fn lines() {
     let chal = b"chal flags=628A8215 set=U target=PEERSRV pairs=5 time=01DD750F3F7F2C5C\n";
     assert_eq!(challenge_line(&challenge(), &mut room), Ok(&chal[..]));
     assert_eq!(ntlm_line(&challenge(), &mut room), Ok(&chal[..]));
+    let nego = b"nego flags=A208B207 domain=LINE\\x2031 work=box\\x5C\\xFC\n";
+    for line in [negotiate_line, ntlm_line, ntlm_program_line] {
+        assert_eq!(line(&negotiate(), &mut room), Ok(&nego[..]));
+        assert_eq!(
+            line(&negotiate()[..31], &mut room),
+            Ok(&b"refused 2 field=0\n"[..])
+        );
+    }
     let nl = b"nl type=0 flags=00000001 a=LINE\n";
     assert_eq!(nl_auth_line(P12, &mut room), Ok(&nl[..]));
     assert_eq!(nl_auth_program_line(P12, &mut room), Ok(&nl[..]));
@@ -281,6 +333,39 @@ fn what_is_written_reads_back() {
         ..parts
     };
     assert_eq!(refusal(write_authenticate(&mut out, flags, &odd)), (31, 4));
+}
+
+#[test]
+fn a_negotiate_that_is_written_reads_back() {
+    let version = *b"\x0A\0\x61\x4A\0\0\0\x0F";
+    let mut out = [0xEE; 100];
+    let (domain, workstation) = (&b"LINE 31"[..], &b"box\\\xFC"[..]);
+    // Neither bit is the caller's.
+    let flags = 0xA208_8207;
+    let written = write_negotiate(&mut out, flags, &version, domain, workstation);
+    assert_eq!(written, Ok(&negotiate()[..]));
+    assert!(out[52..].iter().all(|&byte| byte == 0xEE));
+    // An empty name clears its bit, and no Version is written without its flag.
+    let both = UNICODE | OEM_DOMAIN | OEM_WORKSTATION;
+    let message = write_negotiate(&mut out, both, &version, b"", b"BOX").expect("room");
+    assert_eq!((message.len(), &message[32..40]), (43, &[0; 8][..]));
+    let read = read_negotiate(message).expect("taken");
+    assert_eq!(read.flags, UNICODE | OEM_WORKSTATION);
+    assert_eq!(
+        (read.domain, read.domain.bytes(message)),
+        (Field::default(), &b""[..])
+    );
+    assert_eq!(read.workstation.bytes(message), b"BOX");
+
+    let mut short = [0xEE; 51];
+    let answer = write_negotiate(&mut short, flags, &version, domain, workstation);
+    assert_eq!(refusal(answer), (33, 0));
+    let long = vec![b'x'; 65_496];
+    let answer = write_negotiate(&mut short, UNICODE, &version, &long, b"");
+    assert_eq!(refusal(answer), (30, 0));
+    let answer = write_negotiate(&mut short, 0, &version, &long, b"");
+    assert_eq!(refusal(answer), (5, 0));
+    assert_eq!(short, [0xEE; 51]);
 }
 
 #[test]
@@ -414,9 +499,9 @@ fn any_bytes_are_answered() {
         state = state.wrapping_mul(0x5851_F42D_4C95_7F2D).wrapping_add(1);
         (state >> 33) as usize
     };
-    let mut messages = vec![p1(), challenge(), P12.to_vec()];
+    let mut messages = vec![p1(), challenge(), negotiate(), P12.to_vec()];
     for _ in 0..2_000 {
-        let mut message = messages[next() % 3].clone();
+        let mut message = messages[next() % 4].clone();
         for _ in 0..next() % 4 {
             let at = next() % message.len();
             message[at] = next() as u8;
@@ -437,6 +522,11 @@ fn any_bytes_are_answered() {
                 read.key,
             ];
             for field in fields {
+                assert_eq!(field.bytes(message).len(), usize::from(field.len));
+            }
+        }
+        if let Ok(read) = read_negotiate(message) {
+            for field in [read.domain, read.workstation] {
                 assert_eq!(field.bytes(message).len(), usize::from(field.len));
             }
         }

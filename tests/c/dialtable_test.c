@@ -66,6 +66,10 @@ static const char p1_line[] =
     "auth flags=00000201 set=U domain= user=box7 work= lm=0 nt=24 key=0 mic=1 kind=v1\n";
 static const uint8_t box7[] = {'b', 0, 'o', 0, 'x', 0, '7', 0};
 static const uint8_t p12[] = {0, 0, 0, 0, 1, 0, 0, 0, 'L', 'I', 'N', 'E', 0};
+/* UNICODE and both names, of odd length: domain at 40, workstation at 47. The string's own zero byte is left out. */
+static const uint8_t nego[] = "NTLMSSP\0" "\1\0\0\0" "\x07\xB2\x08\xA2" "\7\0\7\0" "\x28\0\0\0" "\5\0\5\0" "\x2F\0\0\0"
+                              "\x0A\0\x61\x4A\0\0\0\x0F" "LINE 31" "box\\\xFC";
+#define NEGO_LEN (sizeof nego - 1)
 
 #define CHALLENGE_TIME 0x01DD750F3F7F2C5Cu
 #define CLOCK 0x0123456789ABCDEFu
@@ -165,6 +169,46 @@ static void reads_challenge(const message_t *challenge)
     }
 }
 
+static void reads_negotiate(void)
+{
+    uint64_t numbers[DIALTABLE_NEGOTIATE_NUMBERS + 1];
+    uint8_t other[NEGO_LEN];
+
+    numbers[DIALTABLE_NEGOTIATE_NUMBERS] = 77;
+    EQUAL(NEGO_LEN, 52);
+    EQUAL(dialtable_read_negotiate(nego, NEGO_LEN, numbers, DIALTABLE_NEGOTIATE_NUMBERS), 0);
+    EQUAL(DIALTABLE_NEGOTIATE_NUMBERS, 5);
+    EQUAL(numbers[DIALTABLE_NEGOTIATE_FLAGS], 0xA208B207u);
+    EQUAL(numbers[DIALTABLE_NEGOTIATE_DOMAIN_OFFSET], 40);
+    EQUAL(numbers[DIALTABLE_NEGOTIATE_DOMAIN_LEN], 7);
+    EQUAL(numbers[DIALTABLE_NEGOTIATE_WORKSTATION_OFFSET], 47);
+    EQUAL(numbers[DIALTABLE_NEGOTIATE_WORKSTATION_LEN], 5);
+    EQUAL(numbers[DIALTABLE_NEGOTIATE_NUMBERS], 77);
+
+    /* Without its bit a domain doesn't count; an empty workstation's offset is ignored. */
+    memcpy(other, nego, sizeof other);
+    other[13] &= 0xEF;
+    other[24] = 0;
+    EQUAL(dialtable_read_negotiate(other, sizeof other, numbers, DIALTABLE_NEGOTIATE_NUMBERS), 0);
+    EQUAL(numbers[DIALTABLE_NEGOTIATE_FLAGS], 0xA208A207u);
+    EQUAL(numbers[DIALTABLE_NEGOTIATE_DOMAIN_OFFSET], 0);
+    EQUAL(numbers[DIALTABLE_NEGOTIATE_DOMAIN_LEN], 0);
+    EQUAL(numbers[DIALTABLE_NEGOTIATE_WORKSTATION_OFFSET], 0);
+    EQUAL(numbers[DIALTABLE_NEGOTIATE_WORKSTATION_LEN], 0);
+
+    /* Refused: nothing changes, and an array that is too short comes before the message. */
+    numbers[0] = 7;
+    CHECK(refused(dialtable_read_negotiate(nego, NEGO_LEN - 1, numbers, 5), 6, 2));
+    CHECK(refused(dialtable_read_negotiate(nego, 31, numbers, 5), 2, 0));
+    CHECK(refused(dialtable_read_negotiate(NULL, 0, numbers, 5), 2, 0));
+    CHECK(refused(dialtable_read_negotiate(NULL, 0, numbers, 4), 33, 0));
+    CHECK(refused(dialtable_read_negotiate(nego, NEGO_LEN, NULL, 0), 33, 0));
+    memcpy(other, nego, sizeof other);
+    other[20] = 31;
+    CHECK(refused(dialtable_read_negotiate(other, sizeof other, numbers, 5), 7, 1));
+    EQUAL(numbers[0], 7);
+}
+
 static void reads_nl_auth(void)
 {
     /* Every string has its own length: a to e, of 1 to 5 bytes. */
@@ -262,6 +306,7 @@ static void has_line(line_call *call, const uint8_t *msg, size_t msg_len, const 
 static void prints_lines(const message_t *p1, const message_t *challenge)
 {
     static const char chal[] = "chal flags=628A8215 set=U target=PEERSRV pairs=5 time=01DD750F3F7F2C5C\n";
+    static const char opening[] = "nego flags=A208B207 domain=LINE\\x2031 work=box\\x5C\\xFC\n";
     static const char nl[] = "nl type=0 flags=00000001 a=LINE\n";
     uint8_t out[256];
 
@@ -270,10 +315,15 @@ static void prints_lines(const message_t *p1, const message_t *challenge)
     has_line(dialtable_ntlm_program_line, p1->bytes, p1->len, p1_line);
     has_line(dialtable_challenge_line, challenge->bytes, challenge->len, chal);
     has_line(dialtable_ntlm_line, challenge->bytes, challenge->len, chal);
+    has_line(dialtable_negotiate_line, nego, NEGO_LEN, opening);
+    has_line(dialtable_ntlm_line, nego, NEGO_LEN, opening);
+    has_line(dialtable_ntlm_program_line, nego, NEGO_LEN, opening);
     has_line(dialtable_nl_auth_line, p12, sizeof p12, nl);
     has_line(dialtable_nl_auth_program_line, p12, sizeof p12, nl);
     has_line(dialtable_authenticate_line, NULL, 0, "refused 2 field=0\n");
     has_line(dialtable_challenge_line, p1->bytes, p1->len, "refused 4 field=0\n");
+    has_line(dialtable_negotiate_line, p1->bytes, p1->len, "refused 4 field=0\n");
+    has_line(dialtable_ntlm_line, nego, NEGO_LEN - 1, "refused 6 field=2\n");
     EQUAL(dialtable_ntlm_program_line(p1->bytes, p1->len, out, 19), 19);
     CHECK(memcmp(out, "refused 33 field=0\n", 19) == 0);
     CHECK(refused(dialtable_ntlm_program_line(p1->bytes, p1->len, out, 18), 33, 0));
@@ -324,6 +374,50 @@ static void writes_and_reads_back(void)
                                                0, box7, sizeof box7, work, sizeof work, key, sizeof key), 33, 0));
     CHECK(refused(dialtable_write_authenticate(out, sizeof out, FLAGS, version, mic, lm, sizeof lm, nt, sizeof nt,
                                                NULL, 0, box7, 7, work, sizeof work, key, sizeof key), 31, 4));
+    CHECK(untouched(out, sizeof out));
+}
+
+static void writes_negotiate(void)
+{
+    const uint8_t *domain = nego + 40, *workstation = nego + 47;
+    uint64_t numbers[DIALTABLE_NEGOTIATE_NUMBERS];
+    uint8_t out[64], zeros[8] = {0};
+
+    /* The names set their bits, and the Version is the caller's. */
+    memset(out, FILL, sizeof out);
+    EQUAL(dialtable_write_negotiate(out, sizeof out, 0xA2088207u, version, domain, 7, workstation, 5), NEGO_LEN);
+    CHECK(memcmp(out, nego, NEGO_LEN) == 0);
+    CHECK(untouched(out + NEGO_LEN, sizeof out - NEGO_LEN));
+
+    /* An empty name clears its bit and stands where it would; no VERSION, no Version. */
+    EQUAL(dialtable_write_negotiate(out, 45, 0x3002, version, NULL, 0, workstation, 5), 45);
+    EQUAL(out[28], 40);
+    CHECK(memcmp(out + 32, zeros, 8) == 0);
+    EQUAL(dialtable_read_negotiate(out, 45, numbers, DIALTABLE_NEGOTIATE_NUMBERS), 0);
+    EQUAL(numbers[DIALTABLE_NEGOTIATE_FLAGS], 0x2002);
+    CHECK(is_field(out, numbers, DIALTABLE_NEGOTIATE_DOMAIN_OFFSET, NULL, 0));
+    CHECK(is_field(out, numbers, DIALTABLE_NEGOTIATE_WORKSTATION_OFFSET, workstation, 5));
+    EQUAL(dialtable_write_negotiate(out, 40, 0x3001, version, NULL, 0, NULL, 0), 40);
+    EQUAL(dialtable_read_negotiate(out, 40, numbers, DIALTABLE_NEGOTIATE_NUMBERS), 0);
+    EQUAL(numbers[DIALTABLE_NEGOTIATE_FLAGS], 1);
+
+    memset(out, FILL, sizeof out);
+    CHECK(refused(dialtable_write_negotiate(out, NEGO_LEN - 1, 1, version, domain, 7, workstation, 5), 33, 0));
+    CHECK(refused(dialtable_write_negotiate(out, 39, 1, version, NULL, 0, NULL, 0), 33, 0));
+    CHECK(refused(dialtable_write_negotiate(out, 0, 0, version, domain, 7, workstation, 5), 5, 0));
+    CHECK(untouched(out, sizeof out));
+}
+
+/* A message of 65,535 bytes is written, and one more is refused. */
+static void writes_the_longest_negotiate(void)
+{
+    static uint8_t name[65496], out[65536];
+
+    EQUAL(dialtable_write_negotiate(out, sizeof out, 2, version, name, 65495, NULL, 0), 65535);
+    EQUAL(dialtable_write_negotiate(out, sizeof out, 2, version, name, 65494, name, 1), 65535);
+    memset(out, FILL, sizeof out);
+    CHECK(refused(dialtable_write_negotiate(out, sizeof out, 2, version, name, 65496, NULL, 0), 30, 0));
+    CHECK(refused(dialtable_write_negotiate(out, 0, 2, version, name, 65495, name, 1), 30, 0));
     CHECK(untouched(out, sizeof out));
 }
 
@@ -464,11 +558,17 @@ __attribute__((noinline)) static uint64_t find_wide(const uint8_t *list, size_t 
     return dialtable_find_pair(list, list_len, (uint16_t)id, numbers, numbers_len);
 }
 
+__attribute__((noinline)) static uint64_t open_wide(uint8_t *out, size_t out_len, uint64_t flags,
+                                                    const uint8_t *domain, size_t domain_len)
+{
+    return dialtable_write_negotiate(out, out_len, (uint32_t)flags, version, domain, domain_len, NULL, 0);
+}
+
 static void takes_numbers_in_wide_registers(const message_t *p1, const message_t *challenge)
 {
     volatile uint64_t above = 0xA5A5A5A500000000u;
     uint64_t numbers[DIALTABLE_FOUND_NUMBERS];
-    uint8_t name[8];
+    uint8_t name[8], out[40];
     message_t weak = *challenge;
 
     weak.bytes[23] &= 0xDF; /* the 128-bit flag */
@@ -478,6 +578,9 @@ static void takes_numbers_in_wide_registers(const message_t *p1, const message_t
     CHECK(memcmp(name, box7, 8) == 0);
     EQUAL(find_wide(challenge->bytes + 70, 64, above | 0xA5A50007u, numbers, DIALTABLE_FOUND_NUMBERS), 0);
     EQUAL(numbers[DIALTABLE_FOUND_THERE], 1);
+    EQUAL(open_wide(out, sizeof out, above | 1, NULL, 0), 40);
+    CHECK(memcmp(out + 12, "\1\0\0\0" "\0\0\0\0" "\x28\0\0\0", 12) == 0);
+    CHECK(refused(open_wide(out, sizeof out, above, NULL, 0), 5, 0));
 }
 
 int main(int argc, char **argv)
@@ -495,10 +598,13 @@ int main(int argc, char **argv)
     reads_authenticate(&p1);
     refuses(&p1);
     reads_challenge(&challenge);
+    reads_negotiate();
     reads_nl_auth();
     reads_pairs(&challenge);
     prints_lines(&p1, &challenge);
     writes_and_reads_back();
+    writes_negotiate();
+    writes_the_longest_negotiate();
     writes_nl_auth();
     decides(&challenge, &no_timestamp);
     finds_domain(&challenge);

@@ -1,6 +1,9 @@
 //! The messages that both sides are given.
 
-use reader::{write_authenticate, AuthenticateParts, NegotiateFlags, MAX_MESSAGE};
+use reader::{
+    write_authenticate, write_negotiate, AuthenticateParts, NegotiateFlags, NegotiateParts,
+    MAX_MESSAGE,
+};
 
 const UNICODE: u32 = 0x1;
 const OEM: u32 = 0x2;
@@ -14,6 +17,9 @@ const KEY_EXCH: u32 = 0x4000_0000;
 /// The flags of a message as boxes send it.
 pub const FLAGS: u32 =
     UNICODE | REQUEST_TARGET | SIGN | TARGET_INFO | VERSION | BITS_128 | KEY_EXCH;
+
+/// The Version of every message that is written here.
+const VERSION_BYTES: [u8; 8] = [10, 0, 0x61, 0x4A, 0, 0, 0, 15];
 
 pub const TIMESTAMP: u16 = 7;
 
@@ -59,7 +65,7 @@ impl Account {
     pub const fn parts(&self, flags: u32) -> AuthenticateParts<'_> {
         AuthenticateParts {
             flags: NegotiateFlags(flags),
-            version: [10, 0, 0x61, 0x4A, 0, 0, 0, 15],
+            version: VERSION_BYTES,
             mic: [0xC3; 16],
             lm: self.lm.as_slice(),
             nt: self.nt.as_slice(),
@@ -85,6 +91,49 @@ pub fn authenticate_with_name(len: usize) -> Vec<u8> {
         ..Account::default()
     };
     account.message(OEM)
+}
+
+/// Bytes of a NEGOTIATE before its names.
+const OPENING_FIXED: usize = 40;
+
+/// What a box's NEGOTIATE is written from.
+#[derive(Clone, Debug)]
+pub struct Opening {
+    pub domain: Vec<u8>,
+    pub workstation: Vec<u8>,
+}
+
+impl Opening {
+    pub fn usual() -> Self {
+        Self {
+            domain: b"CLIGROUP".to_vec(),
+            workstation: b"PEERCLI".to_vec(),
+        }
+    }
+
+    /// A domain alone, which makes the message so long.
+    pub fn of_message(len: usize) -> Self {
+        Self {
+            domain: vec![b'x'; len - OPENING_FIXED],
+            workstation: Vec::new(),
+        }
+    }
+
+    pub const fn parts(&self, flags: u32) -> NegotiateParts<'_> {
+        NegotiateParts {
+            flags: NegotiateFlags(flags),
+            version: VERSION_BYTES,
+            domain: self.domain.as_slice(),
+            workstation: self.workstation.as_slice(),
+        }
+    }
+
+    pub fn message(&self, flags: u32) -> Vec<u8> {
+        let mut out = vec![0; MAX_MESSAGE];
+        let len = write_negotiate(&self.parts(flags), &mut out).expect("a sound message");
+        out.truncate(len);
+        out
+    }
 }
 
 fn put_pair(list: &mut Vec<u8>, id: u16, value: &[u8]) {

@@ -11,11 +11,12 @@ use std::time::{Duration, Instant};
 
 use dialtable::raw;
 use reader::{
-    answer_for_bench, authenticate_line, challenge_line, nl_auth_line, write_authenticate,
-    Authenticate, AvId, Challenge, NlAuth, Refusal, Secrets, TargetInfo,
+    answer_for_bench, authenticate_line, challenge_line, negotiate_line, nl_auth_line,
+    write_authenticate, write_negotiate, Authenticate, AvId, Challenge, Negotiate, NlAuth, Refusal,
+    Secrets, TargetInfo,
 };
 
-use inputs::{Account, BEFORE_LIST, FLAGS, TIMESTAMP};
+use inputs::{Account, Opening, BEFORE_LIST, FLAGS, TIMESTAMP};
 
 const USAGE: &str = "usage: bench time | bench calls | bench once CALL";
 
@@ -171,16 +172,21 @@ fn usual() -> Vec<Measured> {
     let account = Account::usual();
     let message = account.message(FLAGS);
     let challenge = inputs::challenge(&inputs::six_pairs());
+    let opening = Opening::usual();
+    let negotiate = opening.message(FLAGS);
     let nl_auth = inputs::nl_auth(18);
     vec![
         read_challenge(challenge.clone(), "six pairs"),
         read_authenticate(message.clone()),
+        read_negotiate(negotiate.clone()),
         read_nl_auth(nl_auth.clone()),
         line_of_challenge(challenge.clone()),
         line_of_authenticate(message, "a line of 100 bytes"),
+        line_of_negotiate(negotiate),
         line_of_nl_auth(nl_auth),
         find_pair(inputs::six_pairs(), "the last of six pairs"),
         write(account.clone()),
+        open(opening),
         respond(challenge, account),
     ]
 }
@@ -196,12 +202,15 @@ fn growing() -> Vec<Measured> {
             "of pairs",
         )
     });
+    each(|len| read_negotiate(Opening::of_message(len).message(FLAGS)));
     each(|len| read_nl_auth(inputs::nl_auth(len)));
     each(|len| line_of_authenticate(inputs::authenticate_with_name(len), "of a name"));
     each(|len| line_of_challenge(inputs::challenge(&inputs::long_list(len - BEFORE_LIST))));
+    each(|len| line_of_negotiate(Opening::of_message(len).message(FLAGS)));
     each(|len| line_of_nl_auth(inputs::nl_auth(len)));
     each(|len| find_pair(inputs::long_list(len), "the last pair"));
     each(|len| write(Account::of_message(len)));
+    each(|len| open(Opening::of_message(len)));
     each(|len| {
         let list = inputs::long_list(len - BEFORE_LIST);
         respond(inputs::challenge(&list), Account::usual())
@@ -243,6 +252,17 @@ fn read_challenge(message: Vec<u8>, what: &str) -> Measured {
     }
 }
 
+fn read_negotiate(message: Vec<u8>) -> Measured {
+    let other = message.clone();
+    let mut numbers = [0; raw::NEGOTIATE_NUMBERS];
+    Measured {
+        name: "read_negotiate",
+        on: bytes(&message),
+        proved: repeat!(raw::read_negotiate(black_box(&message), &mut numbers)),
+        second: repeat!(Negotiate::read(black_box(&other))),
+    }
+}
+
 fn read_nl_auth(message: Vec<u8>) -> Measured {
     let other = message.clone();
     let mut numbers = [0; raw::NL_AUTH_NUMBERS];
@@ -276,6 +296,16 @@ fn line_of_challenge(message: Vec<u8>) -> Measured {
         bytes(&message),
         raw::challenge_line,
         challenge_line,
+        message,
+    )
+}
+
+fn line_of_negotiate(message: Vec<u8>) -> Measured {
+    line(
+        "negotiate_line",
+        bytes(&message),
+        raw::negotiate_line,
+        negotiate_line,
         message,
     )
 }
@@ -351,6 +381,29 @@ fn write(account: Account) -> Measured {
     }
 }
 
+fn open(opening: Opening) -> Measured {
+    let other = opening.clone();
+    let (mut out, mut other_out) = (room(), room());
+    Measured {
+        name: "write_negotiate",
+        on: bytes(&opening.message(FLAGS)),
+        proved: repeat!({
+            let parts = black_box(opening.parts(FLAGS));
+            raw::write_negotiate(
+                &mut out,
+                FLAGS,
+                &parts.version,
+                parts.domain,
+                parts.workstation,
+            )
+        }),
+        second: repeat!(write_negotiate(
+            black_box(&other.parts(FLAGS)),
+            &mut other_out
+        )),
+    }
+}
+
 fn respond(challenge: Vec<u8>, account: Account) -> Measured {
     let (other, other_account) = (challenge.clone(), account.clone());
     let (mut out, mut other_out) = (room(), room());
@@ -399,7 +452,14 @@ mod tests {
         let challenge = Challenge::read(&inputs::challenge(&inputs::six_pairs()))
             .map(|challenge| (challenge.flags, challenge.pairs.pairs));
         assert_eq!(challenge, Ok((NegotiateFlags(FLAGS), 6)));
+        let opening = Opening::usual().message(FLAGS);
+        let names =
+            Negotiate::read(&opening).map(|read| (read.domain.bytes, read.workstation.bytes));
+        assert_eq!(names, Ok((&b"CLIGROUP"[..], &b"PEERCLI"[..])));
         for len in SIZES {
+            let opening = Opening::of_message(len).message(FLAGS);
+            assert_eq!(opening.len(), len);
+            assert!(Negotiate::read(&opening).is_ok());
             let list = inputs::long_list(len - BEFORE_LIST);
             let challenge = inputs::challenge(&list);
             assert_eq!(challenge.len(), len);

@@ -10,6 +10,7 @@ mod authenticate;
 mod challenge;
 pub mod command;
 mod names;
+mod negotiate;
 mod nl_auth;
 mod random;
 pub mod tally;
@@ -48,6 +49,7 @@ pub fn cases(seed: u64, drawn: usize) -> Vec<Case> {
     };
     add(Program::Ntlm, authenticate::boundaries(random));
     add(Program::Ntlm, challenge::boundaries(random));
+    add(Program::Ntlm, negotiate::boundaries(random));
     add(Program::NlAuth, nl_auth::boundaries(random));
     for _ in 0..drawn {
         cases.push(drawn_case(random));
@@ -56,10 +58,11 @@ pub fn cases(seed: u64, drawn: usize) -> Vec<Case> {
 }
 
 fn drawn_case(random: &mut Random) -> Case {
-    let (program, message) = match random.below(16) {
+    let (program, message) = match random.below(20) {
         0..=6 => (Program::Ntlm, authenticate::drawn(random)),
         7..=11 => (Program::Ntlm, challenge::drawn(random)),
-        12..=14 => (Program::NlAuth, nl_auth::drawn(random)),
+        12..=15 => (Program::Ntlm, negotiate::drawn(random)),
+        16..=18 => (Program::NlAuth, nl_auth::drawn(random)),
         // A message for the other program.
         _ => match random.below(2) {
             0 => (Program::Ntlm, nl_auth::drawn(random)),

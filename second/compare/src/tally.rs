@@ -9,6 +9,7 @@ pub enum Kind {
     Authenticate,
     ChallengeWithTime,
     ChallengeWithoutTime,
+    Negotiate,
     NlAuthRequest,
     NlAuthResponse,
     Refused {
@@ -20,10 +21,11 @@ pub enum Kind {
 }
 
 /// The lines other than refusals.
-const TAKEN: [Kind; 5] = [
+const TAKEN: [Kind; 6] = [
     Kind::Authenticate,
     Kind::ChallengeWithTime,
     Kind::ChallengeWithoutTime,
+    Kind::Negotiate,
     Kind::NlAuthRequest,
     Kind::NlAuthResponse,
 ];
@@ -62,6 +64,7 @@ impl Kind {
             [b"auth", ..] => Self::Authenticate,
             [b"chal", .., last] if last.starts_with(b"time=") => Self::ChallengeWithTime,
             [b"chal", ..] => Self::ChallengeWithoutTime,
+            [b"nego", ..] => Self::Negotiate,
             [b"nl", b"type=0", ..] => Self::NlAuthRequest,
             [b"nl", b"type=1", ..] => Self::NlAuthResponse,
             [b"refused", number, field] => Self::refused(number, field).unwrap_or(Self::Other),
@@ -84,6 +87,7 @@ impl fmt::Display for Kind {
             Self::Authenticate => f.write_str("auth"),
             Self::ChallengeWithTime => f.write_str("chal with time"),
             Self::ChallengeWithoutTime => f.write_str("chal without time"),
+            Self::Negotiate => f.write_str("nego"),
             Self::NlAuthRequest => f.write_str("nl type=0"),
             Self::NlAuthResponse => f.write_str("nl type=1"),
             Self::Refused { number, field } => write!(f, "refused {number} field={field}"),
@@ -170,7 +174,7 @@ mod tests {
 
     #[test]
     fn each_line_has_its_kind() {
-        let cases: [(&[u8], Kind); 12] = [
+        let cases: [(&[u8], Kind); 13] = [
             (b"auth flags=00000201 set=U domain=\n", Kind::Authenticate),
             (
                 b"chal flags=1 set=U target= pairs=0\n",
@@ -184,6 +188,7 @@ mod tests {
                 b"chal flags=1 set=U target=time=1 pairs=0\n",
                 Kind::ChallengeWithoutTime,
             ),
+            (b"nego flags=00000001 domain= work=\n", Kind::Negotiate),
             (b"nl type=0 flags=00000001 a=LINE\n", Kind::NlAuthRequest),
             (b"nl type=1 flags=00000000\n", Kind::NlAuthResponse),
             (
@@ -207,11 +212,11 @@ mod tests {
     #[test]
     fn what_was_not_reached_is_named() {
         let mut tally = Tally::default();
-        assert_eq!(tally.not_reached().len(), 5 + 37);
+        assert_eq!(tally.not_reached().len(), 6 + 37);
         tally.add(b"refused 8 field=5\n");
         tally.add(b"auth\n");
         let missing = tally.not_reached();
-        assert_eq!(missing.len(), 5 + 37 - 2);
+        assert_eq!(missing.len(), 6 + 37 - 2);
         assert!(!missing.contains(&Kind::Authenticate));
         assert!(!missing.contains(&Kind::Refused {
             number: 8,

@@ -6,6 +6,8 @@ use crate::random::Random;
 pub const UNICODE: u32 = 0x1;
 pub const OEM: u32 = 0x2;
 pub const REQUEST_TARGET: u32 = 0x4;
+pub const OEM_DOMAIN: u32 = 0x1000;
+pub const OEM_WORKSTATION: u32 = 0x2000;
 pub const TARGET_INFO: u32 = 0x80_0000;
 pub const KEY_EXCH: u32 = 0x4000_0000;
 
@@ -98,7 +100,7 @@ pub fn offsets(len: u16, total: usize) -> Vec<u32> {
     let mut around = |place: u32| {
         offsets.extend([place.wrapping_sub(1), place, place.wrapping_add(1)]);
     };
-    for part in [12, 48, 56, 64, 72, 88] {
+    for part in [12, 32, 40, 48, 56, 64, 72, 88] {
         around(part);
     }
     around(64_u32.wrapping_sub(len));

@@ -28,7 +28,7 @@ impl<'a> Challenge<'a> {
     /// The number of the TargetInfo field.
     pub const TARGET_INFO: u8 = 2;
 
-    const TYPE: u32 = 2;
+    pub(crate) const TYPE: u32 = 2;
     /// "House fixed part: 48 bytes."
     const FIXED: usize = 48;
 
@@ -59,13 +59,5 @@ impl<'a> Challenge<'a> {
             target_info,
             pairs,
         })
-    }
-
-    /// Whether the NTLM program reads `message` as a CHALLENGE: "where 12
-    /// bytes are there and the type is 2".
-    pub(crate) fn is_chosen_for(message: &[u8]) -> bool {
-        message
-            .first_chunk::<12>()
-            .is_some_and(|start| number_at::<8, 12>(start) == Self::TYPE)
     }
 }

@@ -2,7 +2,7 @@
 
 use crate::refusal::{Reason, Refusal};
 
-/// The NegotiateFlags of a CHALLENGE or AUTHENTICATE message (MS-NLMP 2.2.2.5).
+/// The NegotiateFlags of an NTLM message (MS-NLMP 2.2.2.5).
 #[derive(Clone, Copy, Debug, Default, PartialEq, Eq)]
 pub struct NegotiateFlags(pub u32);
 
@@ -17,6 +17,10 @@ impl NegotiateFlags {
     pub const SIGN: u32 = 0x10;
     /// NTLMSSP_NEGOTIATE_SEAL
     pub const SEAL: u32 = 0x20;
+    /// NTLMSSP_NEGOTIATE_OEM_DOMAIN_SUPPLIED
+    pub const OEM_DOMAIN_SUPPLIED: u32 = 0x1000;
+    /// NTLMSSP_NEGOTIATE_OEM_WORKSTATION_SUPPLIED
+    pub const OEM_WORKSTATION_SUPPLIED: u32 = 0x2000;
     /// NTLMSSP_NEGOTIATE_TARGET_INFO
     pub const TARGET_INFO: u32 = 0x80_0000;
     /// NTLMSSP_NEGOTIATE_VERSION
@@ -42,6 +46,21 @@ impl NegotiateFlags {
         }
     }
 
+    /// These flags with `bits` set or clear.
+    pub(crate) const fn with(self, bits: u32, set: bool) -> Self {
+        Self(if set { self.0 | bits } else { self.0 & !bits })
+    }
+
+    /// A NEGOTIATE's DomainName: "The domain counts only with 0x1000".
+    pub const fn domain_counts(self) -> bool {
+        self.any(Self::OEM_DOMAIN_SUPPLIED)
+    }
+
+    /// A NEGOTIATE's Workstation: "the workstation only with 0x2000".
+    pub const fn workstation_counts(self) -> bool {
+        self.any(Self::OEM_WORKSTATION_SUPPLIED)
+    }
+
     /// "TargetName counts only with REQUEST_TARGET."
     pub const fn target_name_counts(self) -> bool {
         self.any(Self::REQUEST_TARGET)
@@ -63,9 +82,13 @@ impl NegotiateFlags {
         self.any(Self::KEY_EXCH) && self.any(Self::SIGN | Self::SEAL)
     }
 
-    /// "The caller's Version goes to 64 with VERSION, else zeros."
-    pub const fn version(self) -> bool {
-        self.any(Self::VERSION)
+    /// The Version that is written: "the caller's .. with VERSION, else zeros".
+    pub const fn version_of(self, version: [u8; 8]) -> [u8; 8] {
+        if self.any(Self::VERSION) {
+            version
+        } else {
+            [0; 8]
+        }
     }
 
     /// The 128-bit flag of check 20.

@@ -1,6 +1,7 @@
-//! NTLM and NL_AUTH messages by the rules of document 01: reading CHALLENGE,
-//! AUTHENTICATE, NL_AUTH and TargetInfo, the log line of each message,
-//! answering a challenge, and writing AUTHENTICATE and NL_AUTH.
+//! NTLM and NL_AUTH messages by the rules of document 01, with those of
+//! document 02 that have landed: reading NEGOTIATE, CHALLENGE, AUTHENTICATE,
+//! NL_AUTH and TargetInfo, the log line of each message, answering a challenge,
+//! and writing NEGOTIATE, AUTHENTICATE and NL_AUTH.
 //!
 //! Reading borrows from the message and allocates nothing. Every call ends
 //! for any input, takes time linear in what it is lent, and does not panic.
@@ -19,7 +20,9 @@ mod answer;
 mod authenticate;
 mod challenge;
 mod flags;
+mod layout;
 mod line;
+mod negotiate;
 mod nl_auth;
 mod output;
 mod program;
@@ -27,6 +30,7 @@ mod refusal;
 mod target_info;
 mod wire;
 mod write_authenticate;
+mod write_negotiate;
 mod write_nl_auth;
 
 pub use answer::{
@@ -36,11 +40,13 @@ pub use answer::{
 pub use authenticate::Authenticate;
 pub use challenge::Challenge;
 pub use flags::{CharacterSet, NegotiateFlags, NlAuthFlags};
-pub use line::{authenticate_line, challenge_line, nl_auth_line, ntlm_line};
+pub use line::{authenticate_line, challenge_line, negotiate_line, nl_auth_line, ntlm_line};
+pub use negotiate::Negotiate;
 pub use nl_auth::{NlAuth, NlAuthType};
 pub use program::{Program, LINE_LIMIT};
 pub use refusal::{Reason, Refusal};
 pub use target_info::{AvId, AvPair, Summary, TargetInfo, Walk};
 pub use wire::{field_bytes, Field, MAX_MESSAGE};
 pub use write_authenticate::{write_authenticate, AuthenticateParts};
+pub use write_negotiate::{write_negotiate, NegotiateParts};
 pub use write_nl_auth::{write_nl_auth_request, write_nl_auth_response};

@@ -3,9 +3,11 @@
 use crate::authenticate::Authenticate;
 use crate::challenge::Challenge;
 use crate::flags::{CharacterSet, NlAuthFlags};
+use crate::negotiate::Negotiate;
 use crate::nl_auth::NlAuth;
 use crate::output::{Count, Cursor, Sink};
 use crate::refusal::{Reason, Refusal};
+use crate::wire::type_of;
 
 /// Writes the line of `message`, read as AUTHENTICATE, to the start of `out`
 /// and gives its length. "A refused message's line is the last form above,
@@ -20,18 +22,24 @@ pub fn challenge_line(message: &[u8], out: &mut [u8]) -> Result<usize, Refusal> 
     line_of(Challenge::read(message), out)
 }
 
+/// Writes the line of `message`, read as NEGOTIATE; see [`authenticate_line`].
+pub fn negotiate_line(message: &[u8], out: &mut [u8]) -> Result<usize, Refusal> {
+    line_of(Negotiate::read(message), out)
+}
+
 /// Writes the line of `message`, read as NL_AUTH; see [`authenticate_line`].
 pub fn nl_auth_line(message: &[u8], out: &mut [u8]) -> Result<usize, Refusal> {
     line_of(NlAuth::read(message), out)
 }
 
 /// Writes the line of `message` read as the NTLM program does: "as CHALLENGE
-/// where 12 bytes are there and the type is 2, else as AUTHENTICATE".
+/// where 12 bytes are there and the type is 2, else as AUTHENTICATE", and since
+/// request 1/12 as NEGOTIATE where the type is 1.
 pub fn ntlm_line(message: &[u8], out: &mut [u8]) -> Result<usize, Refusal> {
-    if Challenge::is_chosen_for(message) {
-        challenge_line(message, out)
-    } else {
-        authenticate_line(message, out)
+    match type_of(message) {
+        Some(Negotiate::TYPE) => negotiate_line(message, out),
+        Some(Challenge::TYPE) => challenge_line(message, out),
+        _ => authenticate_line(message, out),
     }
 }
 
@@ -133,6 +141,25 @@ impl Line for Challenge<'_> {
             sink.put(b" time=");
             put_hex(sink, time.to_be_bytes());
         }
+        sink.put(b"\n");
+    }
+}
+
+/// `nego flags=H domain=N work=N`, the names as bytes also where UNICODE is set.
+impl Line for Negotiate<'_> {
+    fn length_limit(&self) -> usize {
+        WORDS_LIMIT
+            .saturating_add(name_limit(self.domain.bytes))
+            .saturating_add(name_limit(self.workstation.bytes))
+    }
+
+    fn put<S: Sink>(&self, sink: &mut S) {
+        sink.put(b"nego flags=");
+        put_hex(sink, self.flags.0.to_be_bytes());
+        sink.put(b" domain=");
+        put_name(sink, CharacterSet::Oem, self.domain.bytes);
+        sink.put(b" work=");
+        put_name(sink, CharacterSet::Oem, self.workstation.bytes);
         sink.put(b"\n");
     }
 }

@@ -10,7 +10,7 @@ pub const LINE_LIMIT: usize = 65_536;
 /// The two programs.
 #[derive(Clone, Copy, Debug, PartialEq, Eq)]
 pub enum Program {
-    /// Reads CHALLENGE or AUTHENTICATE.
+    /// Reads NEGOTIATE, CHALLENGE or AUTHENTICATE.
     Ntlm,
     /// Reads NL_AUTH.
     NlAuth,

@@ -1,4 +1,4 @@
-//! What CHALLENGE and AUTHENTICATE share: the opening checks and field heads.
+//! What the NTLM messages share: the opening checks and field heads.
 
 use crate::refusal::{Reason, Refusal};
 
@@ -49,6 +49,12 @@ pub(crate) fn open<const FIXED: usize>(
         return Err(Reason::MessageType.of_message());
     }
     Ok(fixed)
+}
+
+/// The type that the NTLM program chooses a reader by, "where 12 bytes are
+/// there".
+pub(crate) fn type_of(message: &[u8]) -> Option<u32> {
+    message.first_chunk::<12>().map(number_at::<8, 12>)
 }
 
 /// A field's place in its message and its own bytes. "An empty field's offset

@@ -2,9 +2,10 @@
 
 use crate::authenticate::Authenticate;
 use crate::flags::{CharacterSet, NegotiateFlags};
+use crate::layout::{heads, room_for};
 use crate::output::{Cursor, Sink};
 use crate::refusal::{Reason, Refusal};
-use crate::wire::{MAX_MESSAGE, SIGNATURE};
+use crate::wire::SIGNATURE;
 
 /// What an AUTHENTICATE message is written from.
 #[derive(Clone, Copy, Debug, Default)]
@@ -76,28 +77,9 @@ pub fn write_authenticate(parts: &AuthenticateParts<'_>, out: &mut [u8]) -> Resu
     parts.check_names(set)?;
     parts.check_key()?;
     let payload = parts.payload();
-    let total = payload
-        .iter()
-        .fold(Authenticate::FIXED_WITH_MIC, |sum, field| {
-            sum.saturating_add(field.len())
-        });
-    if total > MAX_MESSAGE {
-        return Err(Reason::WrittenTooLong.of_message());
-    }
-    let message = out.get_mut(..total).ok_or(Reason::NoRoom.of_message())?;
+    let message = room_for(Authenticate::FIXED_WITH_MIC, &payload, out)?;
 
-    let mut next = Authenticate::FIXED_WITH_MIC;
-    let [domain, user, workstation, lm, nt, key] = payload.map(|field| {
-        let head = written_head(field.len(), next);
-        next = next.saturating_add(field.len());
-        head
-    });
-    let version = if parts.flags.version() {
-        parts.version
-    } else {
-        [0; 8]
-    };
-
+    let [domain, user, workstation, lm, nt, key] = heads(Authenticate::FIXED_WITH_MIC, payload);
     let mut cursor = Cursor::new(message);
     cursor.put(&SIGNATURE);
     cursor.put(&Authenticate::TYPE.to_le_bytes());
@@ -105,27 +87,10 @@ pub fn write_authenticate(parts: &AuthenticateParts<'_>, out: &mut [u8]) -> Resu
         cursor.put(&head);
     }
     cursor.put(&parts.flags.0.to_le_bytes());
-    cursor.put(&version);
+    cursor.put(&parts.flags.version_of(parts.version));
     cursor.put(&parts.mic);
     for field in payload {
         cursor.put(field);
     }
     Ok(cursor.len())
-}
-
-/// A field head: MaxLen "equals Len when written". "An empty field's offset is
-/// where it would stand." Check 30 has kept both numbers below 65,536.
-const fn written_head(len: usize, offset: usize) -> [u8; 8] {
-    let [len_low, len_high, ..] = len.to_le_bytes();
-    let [offset_low, offset_high, ..] = offset.to_le_bytes();
-    [
-        len_low,
-        len_high,
-        len_low,
-        len_high,
-        offset_low,
-        offset_high,
-        0,
-        0,
-    ]
 }

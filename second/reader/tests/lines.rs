@@ -4,7 +4,8 @@ mod common;
 
 use common::*;
 use reader::{
-    authenticate_line, challenge_line, nl_auth_line, ntlm_line, Program, LINE_LIMIT, MAX_MESSAGE,
+    authenticate_line, challenge_line, negotiate_line, nl_auth_line, ntlm_line, Program,
+    LINE_LIMIT, MAX_MESSAGE,
 };
 
 #[test]
@@ -74,6 +75,33 @@ fn every_word_of_a_chal_line() {
 }
 
 #[test]
+fn every_word_of_a_nego_line() {
+    let both = OEM_DOMAIN | OEM_WORK;
+    for call in [negotiate_line, ntlm_line] {
+        assert_eq!(
+            line(call, &negotiate(OEM | both, b"CLIGRP", b"BOX 7")),
+            "nego flags=00003002 domain=CLIGRP work=BOX\\x207\n"
+        );
+        // Bytes also where UNICODE is set, of odd length too.
+        assert_eq!(
+            line(call, &negotiate(UNICODE | both, b"D\0\\", b"\xE9!~\x7F")),
+            "nego flags=00003001 domain=D\\x00\\x5C work=\\xE9!~\\x7F\n"
+        );
+        assert_eq!(
+            line(call, &negotiate(!both, b"DOM", b"BOX")),
+            "nego flags=FFFFCFFF domain= work=\n"
+        );
+        assert_eq!(
+            line(call, &negotiate(both, b"DOM", b"BOX")),
+            "refused 5 field=0\n"
+        );
+        let cut = negotiate(OEM | both, b"DOM", b"BOX");
+        assert_eq!(line(call, &cut[..45]), "refused 6 field=2\n");
+        assert_eq!(line(call, &cut[..31]), "refused 2 field=0\n");
+    }
+}
+
+#[test]
 fn every_word_of_an_nl_line() {
     assert_eq!(
         line(nl_auth_line, &nl(0, 0x1F, b"A\0\0c.d\0\\\0\xE9\0")),
@@ -99,6 +127,13 @@ fn every_byte_in_a_name() {
             format!("\\x{byte:02X}")
         };
         assert!(line(ntlm_line, &message).contains(&format!(" user={expected} work=")));
+        for set in [OEM, UNICODE] {
+            let flags = set | OEM_DOMAIN | OEM_WORK;
+            assert_eq!(
+                line(ntlm_line, &negotiate(flags, &[byte], &[byte, byte])),
+                format!("nego flags={flags:08X} domain={expected} work={expected}{expected}\n")
+            );
+        }
     }
 }
 
@@ -155,26 +190,41 @@ fn the_ntlm_program_chooses_by_the_type() {
         line(ntlm_line, &message[..48]),
         "chal flags=00000002 set=O target= pairs=0\n"
     );
+    // 32 suffice for a NEGOTIATE only, and 12 to be read as one.
+    let nego = negotiate(OEM, b"", b"");
+    assert_eq!(
+        line(ntlm_line, &nego[..32]),
+        "nego flags=00000002 domain= work=\n"
+    );
+    let mut unsigned = nego.clone();
+    unsigned[0] = b'?';
+    assert_eq!(line(ntlm_line, &unsigned), "refused 3 field=0\n");
+    assert_eq!(line(ntlm_line, &unsigned[..12]), "refused 2 field=0\n");
     // Any other type goes to the AUTHENTICATE reader.
-    for at in 9..12 {
-        let mut message = message.clone();
-        message[at] = 1;
-        message.resize(64, 0);
-        assert_eq!(line(ntlm_line, &message), "refused 4 field=0\n");
-        assert_eq!(line(ntlm_line, &message[..63]), "refused 2 field=0\n");
+    for start in [&message, &nego] {
+        for at in 9..12 {
+            let mut message = start.clone();
+            message[at] = 1;
+            message.resize(64, 0);
+            assert_eq!(line(ntlm_line, &message), "refused 4 field=0\n");
+            assert_eq!(line(ntlm_line, &message[..63]), "refused 2 field=0\n");
+        }
+        assert_eq!(line(ntlm_line, &start[..11]), "refused 2 field=0\n");
     }
-    assert_eq!(line(ntlm_line, &message[..11]), "refused 2 field=0\n");
 }
 
 #[test]
 fn a_line_with_no_room_is_33_and_changes_nothing() {
     let time = list(&[(7, &[3; 8])]);
     let chal = challenge(UNICODE | REQUEST_TARGET | TARGET_INFO, &utf16("a b"), &time);
-    let calls: [(LineCall, Vec<u8>); 5] = [
+    let nego = negotiate(UNICODE | OEM_DOMAIN | OEM_WORK, b"a b", b"c");
+    let calls: [(LineCall, Vec<u8>); 7] = [
         (ntlm_line, p1()),
         (ntlm_line, p1_with(USER, 8, 64)),
         (ntlm_line, b"short".to_vec()),
         (challenge_line, chal),
+        (negotiate_line, nego.clone()),
+        (negotiate_line, nego[..41].to_vec()),
         (nl_auth_line, nl(0, 3, b"A\\\0B\0")),
     ];
     for (call, message) in calls {
@@ -249,7 +299,12 @@ fn the_longest_line_has_its_length() {
 fn programs_refuse_over_65535_bytes() {
     let mut room = Box::new([0; LINE_LIMIT]);
     for program in [Program::Ntlm, Program::NlAuth] {
-        for start in [p1(), challenge(UNICODE, b"", b""), Vec::new()] {
+        for start in [
+            p1(),
+            challenge(UNICODE, b"", b""),
+            negotiate(UNICODE, b"", b""),
+            Vec::new(),
+        ] {
             let mut message = start;
             message.resize(MAX_MESSAGE + 1, 0);
             assert_eq!(program.line(&message, &mut room), b"refused 1 field=0\n");

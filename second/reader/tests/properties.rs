@@ -6,9 +6,10 @@ use std::ops::Range;
 
 use common::*;
 use reader::{
-    answer, authenticate_line, challenge_line, domain_to_send, nl_auth_line, ntlm_line,
-    write_authenticate, write_nl_auth_request, Account, Authenticate, AuthenticateParts, AvId,
-    Challenge, NegotiateFlags, NlAuth, NlAuthFlags, Policy, Refusal, Secrets, Settings, TargetInfo,
+    answer, authenticate_line, challenge_line, domain_to_send, negotiate_line, nl_auth_line,
+    ntlm_line, write_authenticate, write_negotiate, write_nl_auth_request, Account, Authenticate,
+    AuthenticateParts, AvId, Challenge, Negotiate, NegotiateFlags, NegotiateParts, NlAuth,
+    NlAuthFlags, Policy, Refusal, Secrets, Settings, TargetInfo,
 };
 
 /// SplitMix64.
@@ -47,6 +48,8 @@ impl Random {
             | REQUEST_TARGET
             | SIGN
             | SEAL
+            | OEM_DOMAIN
+            | OEM_WORK
             | TARGET_INFO
             | VERSION
             | BITS_128
@@ -111,6 +114,22 @@ impl Random {
         challenge(flags, &target, &info)
     }
 
+    /// A NEGOTIATE message, more often taken than not.
+    fn negotiate(&mut self) -> Vec<u8> {
+        let flags = self.flags();
+        let [domain, workstation] = [(); 2].map(|()| {
+            let len = self.pick(&[0, 1, 4, 7]);
+            self.bytes(len)
+        });
+        let mut message = negotiate(flags, &domain, &workstation);
+        if self.below(4) == 0 {
+            let (head, _) = self.pick(&NEGOTIATE_HEADS);
+            let offset = self.pick(&[0, 31, 32, 39, 41, 45, 0xFFFF_FFFF]);
+            put(&mut message, head + 4, &u32::to_le_bytes(offset));
+        }
+        message
+    }
+
     /// An NL_AUTH message, more often taken than not.
     fn nl_auth(&mut self) -> Vec<u8> {
         let flags = self.next() as u32;
@@ -131,10 +150,11 @@ impl Random {
 
     /// A message of any kind with a few bytes changed or cut off.
     fn damaged(&mut self) -> Vec<u8> {
-        let mut message = match self.below(4) {
+        let mut message = match self.below(5) {
             0 => self.authenticate(),
             1 => self.challenge(),
             2 => self.nl_auth(),
+            3 => self.negotiate(),
             _ => {
                 let len = self.below(150);
                 self.bytes(len)
@@ -154,7 +174,13 @@ impl Random {
     }
 }
 
-const LINE_CALLS: [LineCall; 4] = [authenticate_line, challenge_line, nl_auth_line, ntlm_line];
+const LINE_CALLS: [LineCall; 5] = [
+    authenticate_line,
+    challenge_line,
+    negotiate_line,
+    nl_auth_line,
+    ntlm_line,
+];
 
 #[test]
 fn no_bytes_make_a_call_panic() {
@@ -164,6 +190,7 @@ fn no_bytes_make_a_call_panic() {
         let message = random.damaged();
         let _ = Authenticate::read(&message);
         let _ = Challenge::read(&message);
+        let _ = Negotiate::read(&message);
         let _ = NlAuth::read(&message);
         let info = TargetInfo(&message);
         let _ = (info.count(), info.timestamp(), info.summary());
@@ -200,6 +227,13 @@ fn no_bytes_make_a_call_panic() {
         let flags = NlAuthFlags::new(random.next() as u32);
         let strings = [part, other, part, other, part];
         let _ = write_nl_auth_request(flags, &strings, &mut out[..room]);
+        let parts = NegotiateParts {
+            flags: NegotiateFlags(random.next() as u32),
+            version: [2; 8],
+            domain: part,
+            workstation: other,
+        };
+        let _ = write_negotiate(&parts, &mut out[..room]);
     }
 }
 
@@ -438,6 +472,41 @@ fn what_is_written_reads_back() {
         assert_eq!(read.user.bytes, user);
         assert_eq!(read.workstation.bytes, workstation);
         assert_eq!(read.key.bytes, key);
+        written += 1;
+    }
+    assert!(written > 10_000, "{written}");
+}
+
+#[test]
+fn a_negotiate_that_is_written_reads_back() {
+    let mut random = Random(8);
+    let mut written = 0;
+    for _ in 0..20_000 {
+        let flags = random.next() as u32;
+        let [domain, workstation] = [(); 2].map(|()| {
+            let len = random.pick(&[0, 1, 2, 15, 40]);
+            random.bytes(len)
+        });
+        let parts = NegotiateParts {
+            flags: NegotiateFlags(flags),
+            version: random.bytes(8).try_into().unwrap(),
+            domain: &domain,
+            workstation: &workstation,
+        };
+        let mut out = [0xEE; 200];
+        let len = match write_negotiate(&parts, &mut out) {
+            Ok(len) => len,
+            Err(refusal) => {
+                assert_eq!((refusal.number(), flags & (UNICODE | OEM)), (5, 0));
+                continue;
+            }
+        };
+        let read = Negotiate::read(&out[..len]).unwrap();
+        let bit = |name: &[u8], bit| if name.is_empty() { 0 } else { bit };
+        let bits = bit(&domain, OEM_DOMAIN) | bit(&workstation, OEM_WORK);
+        assert_eq!(read.flags.0, flags & !(OEM_DOMAIN | OEM_WORK) | bits);
+        assert_eq!(read.domain.bytes, domain);
+        assert_eq!(read.workstation.bytes, workstation);
         written += 1;
     }
     assert!(written > 10_000, "{written}");

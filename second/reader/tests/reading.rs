@@ -4,7 +4,8 @@ mod common;
 
 use common::*;
 use reader::{
-    field_bytes, Authenticate, AvId, Challenge, NlAuth, NlAuthType, TargetInfo, MAX_MESSAGE,
+    field_bytes, Authenticate, AvId, Challenge, Negotiate, NlAuth, NlAuthType, TargetInfo,
+    MAX_MESSAGE,
 };
 
 const MOST: u32 = 0xFFFF_FFFF;
@@ -22,6 +23,12 @@ fn refusal_1_over_65535_bytes() {
     message.push(0);
     assert_eq!(refused(Challenge::read(&message)), (1, 0));
 
+    let mut message = negotiate(OEM, b"", b"");
+    message.resize(MAX_MESSAGE, 0);
+    assert!(Negotiate::read(&message).is_ok());
+    message.push(0);
+    assert_eq!(refused(Negotiate::read(&message)), (1, 0));
+
     let mut message = nl(0, 1, &vec![b'x'; MAX_MESSAGE - 9]);
     message.push(0);
     assert_eq!(message.len(), MAX_MESSAGE);
@@ -35,6 +42,7 @@ fn refusal_1_over_65535_bytes() {
 fn refusal_2_shorter_than_the_fixed_part() {
     let auth = Auth::new(UNICODE, 64).0;
     let chal = challenge(UNICODE, b"", b"");
+    let nego = negotiate(UNICODE, b"", b"");
     let response = nl(1, 0, &[0]);
     for len in 0..64 {
         assert_eq!(refused(Authenticate::read(&auth[..len])), (2, 0));
@@ -42,11 +50,15 @@ fn refusal_2_shorter_than_the_fixed_part() {
     for len in 0..48 {
         assert_eq!(refused(Challenge::read(&chal[..len])), (2, 0));
     }
+    for len in 0..32 {
+        assert_eq!(refused(Negotiate::read(&nego[..len])), (2, 0));
+    }
     for len in 0..8 {
         assert_eq!(refused(NlAuth::read(&response[..len])), (2, 0));
     }
     assert!(Authenticate::read(&auth).is_ok());
     assert!(Challenge::read(&chal[..48]).is_ok());
+    assert!(Negotiate::read(&nego[..32]).is_ok());
     assert_eq!(refused(NlAuth::read(&response[..8])), (17, 0));
 }
 
@@ -59,6 +71,9 @@ fn refusal_3_each_byte_of_the_signature() {
         let mut chal = challenge(UNICODE, b"", b"");
         chal[at] ^= 0x01;
         assert_eq!(refused(Challenge::read(&chal)), (3, 0));
+        let mut nego = negotiate(UNICODE, b"", b"");
+        nego[at] ^= 0x80;
+        assert_eq!(refused(Negotiate::read(&nego)), (3, 0));
     }
 }
 
@@ -71,8 +86,12 @@ fn refusal_4_each_byte_of_the_type() {
         let mut chal = challenge(UNICODE, b"", b"");
         chal[at] ^= 0x80;
         assert_eq!(refused(Challenge::read(&chal)), (4, 0));
+        let mut nego = negotiate(UNICODE, b"", b"");
+        nego[at] ^= 0x80;
+        assert_eq!(refused(Negotiate::read(&nego)), (4, 0));
     }
     assert_eq!(refused(Challenge::read(&p1())), (4, 0));
+    assert_eq!(refused(Negotiate::read(&p1())), (4, 0));
     for message_type in [2, 3, 0x0100, 0x0001_0000, 0x0100_0000, MOST] {
         assert_eq!(refused(NlAuth::read(&nl(message_type, 1, b"x\0"))), (4, 0));
     }
@@ -84,6 +103,8 @@ fn refusal_5_no_character_set() {
     assert_eq!(refused(Authenticate::read(&message)), (5, 0));
     let message = challenge(!(UNICODE | OEM), b"", b"");
     assert_eq!(refused(Challenge::read(&message)), (5, 0));
+    let message = negotiate(!(UNICODE | OEM), b"", b"");
+    assert_eq!(refused(Negotiate::read(&message)), (5, 0));
 }
 
 #[test]
@@ -134,6 +155,132 @@ fn refusal_6_in_a_challenge() {
         let mut message = message.clone();
         put_head(&mut message, head, 2, MOST);
         assert_eq!(refused(Challenge::read(&message)), (6, field));
+    }
+}
+
+/// A NEGOTIATE of 50 bytes in which both names count.
+const BOTH: u32 = UNICODE | OEM_DOMAIN | OEM_WORK;
+
+fn negotiate_with(head: usize, len: u16, offset: u32) -> Vec<u8> {
+    let mut message = negotiate(BOTH, b"", b"");
+    message.resize(50, 0);
+    put_head(&mut message, head, len, offset);
+    message
+}
+
+#[test]
+fn refusal_6_in_a_negotiate() {
+    for (head, field) in NEGOTIATE_HEADS {
+        let at_end = negotiate_with(head, 4, 46);
+        let read = Negotiate::read(&at_end).unwrap();
+        let places = [read.domain, read.workstation].map(|name| (name.place, name.bytes.len()));
+        let mut expected = [(0, 0); 2];
+        expected[usize::from(field) - 1] = (46, 4);
+        assert_eq!(places, expected);
+        for (len, offset) in [
+            (5, 46),
+            (4, 47),
+            (1, 50),
+            (1, MOST),
+            (2, MOST),
+            (0xFFFF, MOST),
+            (0xFFFF, 0xFFFF_0001),
+            (19, 32),
+        ] {
+            let message = negotiate_with(head, len, offset);
+            assert_eq!(refused(Negotiate::read(&message)), (6, field));
+        }
+    }
+}
+
+#[test]
+fn refusal_7_in_a_negotiate() {
+    for (head, field) in NEGOTIATE_HEADS {
+        for offset in [0, 2, 30, 31] {
+            let message = negotiate_with(head, 2, offset);
+            assert_eq!(refused(Negotiate::read(&message)), (7, field));
+        }
+        // The Version is no part of the house's fixed part.
+        for offset in [32, 33, 39, 40] {
+            assert!(Negotiate::read(&negotiate_with(head, 3, offset)).is_ok());
+        }
+    }
+}
+
+#[test]
+fn a_negotiate_goes_by_number_then_by_field() {
+    // Each message has the fault of its number and of every later number.
+    let mut all = negotiate_with(16, 4, 31);
+    put(&mut all, 0, b"ntlmssp\0\x03");
+    put(&mut all, 12, &(BOTH & !UNICODE).to_le_bytes());
+    put_head(&mut all, 24, 4, 47);
+    assert_eq!(refused(Negotiate::read(&all[..31])), (2, 0));
+    assert_eq!(refused(Negotiate::read(&all)), (3, 0));
+    put(&mut all, 0, b"NTLMSSP\0");
+    assert_eq!(refused(Negotiate::read(&all)), (4, 0));
+    put(&mut all, 8, &[1]);
+    assert_eq!(refused(Negotiate::read(&all)), (5, 0));
+    put(&mut all, 12, &[1]);
+    assert_eq!(refused(Negotiate::read(&all)), (6, 2));
+    put_head(&mut all, 16, 20, 31);
+    assert_eq!(refused(Negotiate::read(&all)), (6, 1));
+    put_head(&mut all, 16, 4, 31);
+    put_head(&mut all, 24, 4, 30);
+    assert_eq!(refused(Negotiate::read(&all)), (7, 1));
+    put_head(&mut all, 16, 4, 32);
+    assert_eq!(refused(Negotiate::read(&all)), (7, 2));
+    put_head(&mut all, 24, 4, 32);
+    assert!(Negotiate::read(&all).is_ok());
+}
+
+#[test]
+fn a_negotiate_reads_as_its_names() {
+    let message = negotiate(BOTH, b"CLIGRP", b"BOX7");
+    let read = Negotiate::read(&message).unwrap();
+    assert_eq!(read.flags.0, BOTH);
+    assert_eq!((read.domain.place, read.domain.bytes), (40, &b"CLIGRP"[..]));
+    let workstation = (read.workstation.place, read.workstation.bytes);
+    assert_eq!(workstation, (46, &b"BOX7"[..]));
+}
+
+#[test]
+fn a_negotiate_has_no_check_8_and_no_check_9() {
+    // Names of odd length at odd offsets, on the same bytes, with each set.
+    for set in [UNICODE, OEM, UNICODE | OEM] {
+        let mut message = negotiate(set | OEM_DOMAIN | OEM_WORK, b"abcdefg", b"");
+        put_head(&mut message, 16, 3, 41);
+        put_head(&mut message, 24, 5, 41);
+        let read = Negotiate::read(&message).unwrap();
+        assert_eq!((read.domain.place, read.domain.bytes), (41, &b"bcd"[..]));
+        assert_eq!(read.workstation.bytes, b"bcdef");
+    }
+}
+
+#[test]
+fn a_negotiate_name_counts_with_its_bit_only() {
+    for (bit, domain, workstation) in [
+        (0, &b""[..], &b""[..]),
+        (OEM_DOMAIN, b"DOM", b""),
+        (OEM_WORK, b"", b"BOX"),
+        (OEM_DOMAIN | OEM_WORK, b"DOM", b"BOX"),
+    ] {
+        let message = negotiate(!(OEM_DOMAIN | OEM_WORK) | bit, b"DOM", b"BOX");
+        let read = Negotiate::read(&message).unwrap();
+        assert_eq!(read.domain.bytes, domain);
+        assert_eq!(read.workstation.bytes, workstation);
+        assert_eq!(read.domain.place, if domain.is_empty() { 0 } else { 40 });
+    }
+    // Heads that every check would refuse, of names that don't count, and
+    // offsets of empty ones.
+    for (head, bit) in [(16, OEM_WORK), (24, OEM_DOMAIN)] {
+        for (len, offset) in [(4, MOST), (0xFFFF, 0), (1, 31)] {
+            let mut message = negotiate(OEM | bit, b"", b"");
+            put_head(&mut message, head, len, offset);
+            assert!(Negotiate::read(&message).is_ok());
+        }
+        let read = negotiate_with(head, 0, MOST);
+        let read = Negotiate::read(&read).unwrap();
+        assert_eq!((read.domain.place, read.workstation.place), (0, 0));
     }
 }
 
@@ -315,6 +462,14 @@ fn max_len_and_ignored_bytes_change_nothing() {
         other[at] ^= 0x5A;
     }
     assert_eq!(Challenge::read(&other), Ok(read));
+
+    let message = negotiate(BOTH, b"DOM", b"BOX");
+    let read = Negotiate::read(&message).unwrap();
+    let mut other = message.clone();
+    for at in (18..20).chain(26..28).chain(32..40) {
+        other[at] ^= 0x5A;
+    }
+    assert_eq!(Negotiate::read(&other), Ok(read));
 
     let message = p1();
     let read = Authenticate::read(&message).unwrap();

@@ -1,11 +1,12 @@
-//! Writing AUTHENTICATE and NL_AUTH: layout, refusals and their order.
+//! Writing NEGOTIATE, AUTHENTICATE and NL_AUTH: layout, refusals and their order.
 
 mod common;
 
 use common::*;
 use reader::{
-    write_authenticate, write_nl_auth_request, write_nl_auth_response, Authenticate,
-    AuthenticateParts, NegotiateFlags, NlAuth, NlAuthFlags, NlAuthType, MAX_MESSAGE,
+    write_authenticate, write_negotiate, write_nl_auth_request, write_nl_auth_response,
+    Authenticate, AuthenticateParts, Negotiate, NegotiateFlags, NegotiateParts, NlAuth,
+    NlAuthFlags, NlAuthType, MAX_MESSAGE,
 };
 
 fn parts(flags: u32) -> AuthenticateParts<'static> {
@@ -227,6 +228,118 @@ fn authenticate_is_refused_by_5_31_32_30_33() {
     assert_eq!(refused_unchanged(&all, 0), (30, 0));
     let all = AuthenticateParts { nt: b"", ..all };
     assert_eq!(refused_unchanged(&all, 0), (33, 0));
+}
+
+const OPENING_VERSION: [u8; 8] = [6, 1, 0xB1, 0x1D, 0, 0, 0, 15];
+
+fn opening<'a>(flags: u32, domain: &'a [u8], workstation: &'a [u8]) -> NegotiateParts<'a> {
+    NegotiateParts {
+        flags: NegotiateFlags(flags),
+        version: OPENING_VERSION,
+        domain,
+        workstation,
+    }
+}
+
+/// Writes a NEGOTIATE into this room, and sees that only the message changes.
+fn opened(parts: &NegotiateParts<'_>, room: usize) -> Result<Vec<u8>, (u8, u8)> {
+    let mut out = vec![0xEE; room];
+    let answer = write_negotiate(parts, &mut out);
+    let len = *answer.as_ref().unwrap_or(&0);
+    assert!(out[len..].iter().all(|&byte| byte == 0xEE));
+    out.truncate(len);
+    answer
+        .map(|_| out)
+        .map_err(|refusal| (refusal.number(), refusal.field))
+}
+
+#[test]
+fn every_byte_of_a_negotiate() {
+    let flags = UNICODE | VERSION | OEM_DOMAIN | OEM_WORK;
+    let mut expected = negotiate(flags, b"CLIGRP", b"BOX7!");
+    put(&mut expected, 32, &OPENING_VERSION);
+    let parts = opening(UNICODE | VERSION, b"CLIGRP", b"BOX7!");
+    assert_eq!(opened(&parts, 100), Ok(expected));
+    // No Version without its flag.
+    let expected = negotiate(OEM | OEM_DOMAIN | OEM_WORK, b"D", b"W");
+    assert_eq!(opened(&opening(OEM, b"D", b"W"), 100), Ok(expected));
+}
+
+#[test]
+fn a_negotiates_names_make_their_bits() {
+    let both = OEM_DOMAIN | OEM_WORK;
+    let others = !both & !VERSION;
+    for caller in [
+        others,
+        others | both,
+        others | OEM_DOMAIN,
+        others | OEM_WORK,
+    ] {
+        for (domain, workstation, bits) in [
+            (&b""[..], &b""[..], 0),
+            (b"DOM", b"", OEM_DOMAIN),
+            (b"", b"BOX", OEM_WORK),
+            (b"DOM", b"BOX", both),
+        ] {
+            // An empty name stands where it would.
+            let expected = negotiate(others | bits, domain, workstation);
+            let parts = opening(caller, domain, workstation);
+            assert_eq!(opened(&parts, 100), Ok(expected));
+        }
+    }
+}
+
+#[test]
+fn a_negotiate_reads_back() {
+    let names: [&[u8]; 4] = [b"", b"D", b"\0\xFF\\", b"LONGER.NAME"];
+    for flags in [UNICODE, OEM, UNICODE | OEM_DOMAIN, !0] {
+        for domain in names {
+            for workstation in names {
+                let message = opened(&opening(flags, domain, workstation), 100).unwrap();
+                let read = Negotiate::read(&message).unwrap();
+                assert_eq!(read.domain.bytes, domain);
+                assert_eq!(read.workstation.bytes, workstation);
+                let both = OEM_DOMAIN | OEM_WORK;
+                assert_eq!(read.flags.0 & !both, flags & !both);
+                assert_eq!(read.flags.domain_counts(), !domain.is_empty());
+                assert_eq!(read.flags.workstation_counts(), !workstation.is_empty());
+            }
+        }
+    }
+}
+
+#[test]
+fn a_negotiate_is_refused_by_5_30_33() {
+    let vast = vec![0; 70_000];
+    for (domain, workstation) in [(&vast[..], &b"x"[..]), (b"x", &vast), (&vast, &vast)] {
+        let none = opening(!(UNICODE | OEM), domain, workstation);
+        assert_eq!(opened(&none, 0), Err((5, 0)));
+        assert_eq!(opened(&opening(OEM, domain, workstation), 0), Err((30, 0)));
+        assert_eq!(
+            opened(&opening(OEM, domain, workstation), 1 << 18),
+            Err((30, 0))
+        );
+    }
+    let parts = opening(UNICODE, b"CLIGRP", b"BOX");
+    for room in 0..49 {
+        assert_eq!(opened(&parts, room), Err((33, 0)));
+    }
+    assert_eq!(opened(&parts, 49).map(|message| message.len()), Ok(49));
+    assert_eq!(opened(&opening(0, b"", b""), 0), Err((5, 0)));
+}
+
+#[test]
+fn the_longest_negotiate() {
+    let fits = vec![b'x'; MAX_MESSAGE - 40];
+    for parts in [opening(OEM, &fits, b""), opening(OEM, b"", &fits)] {
+        let message = opened(&parts, 1 << 17).unwrap();
+        assert_eq!(message.len(), MAX_MESSAGE);
+        assert!(Negotiate::read(&message).is_ok());
+        assert_eq!(opened(&parts, MAX_MESSAGE - 1), Err((33, 0)));
+        assert_eq!(opened(&parts, MAX_MESSAGE), Ok(message));
+    }
+    assert_eq!(opened(&opening(OEM, &fits, b"y"), 1 << 17), Err((30, 0)));
+    assert_eq!(opened(&opening(OEM, b"y", &fits), 1 << 17), Err((30, 0)));
 }
 
 fn request(flags: u32, strings: &[&[u8]; 5], room: usize) -> Result<Vec<u8>, (u8, u8)> {

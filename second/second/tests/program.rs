@@ -60,6 +60,17 @@ fn ntlm_chooses_the_challenge_reader() {
 }
 
 #[test]
+fn ntlm_chooses_the_negotiate_reader() {
+    let mut message = b"NTLMSSP\0\x01\0\0\0\x01\x10\0\0\x02\0\x02\0\x20\0\0\0".to_vec();
+    message.resize(32, 0);
+    message.extend(b"D\\");
+    assert_eq!(
+        printed(&["ntlm"], &message),
+        "nego flags=00001001 domain=D\\x5C work=\n"
+    );
+}
+
+#[test]
 fn nl_prints_p12() {
     let message = b"\0\0\0\0\x01\0\0\0LINE\0";
     assert_eq!(

@@ -6,7 +6,7 @@ use std::path::Path;
 use std::process::ExitCode;
 
 use compare::command::{fail, finish, seed_and_count, NOT_NUMBERS};
-use compare::wide::call::{Call, Line, Parts, Respond};
+use compare::wide::call::{Call, Line, Opening, Parts, Respond};
 use compare::wide::run;
 use depot::folder::Folder;
 use dialtable::raw;
@@ -46,6 +46,7 @@ fn library(call: &Call<'_>, out: &mut [u8], numbers: &mut [u64]) -> u64 {
         Call::ReadChallenge { message } => raw::read_challenge(message, numbers, out),
         Call::ReadTimestamp { message } => raw::read_timestamp(message, numbers),
         Call::ReadServerNames { message } => raw::read_server_names(message, numbers),
+        Call::ReadNegotiate { message } => raw::read_negotiate(message, numbers),
         Call::ReadNlAuth { message } => raw::read_nl_auth(message, numbers),
         Call::FieldBytes {
             message,
@@ -59,6 +60,7 @@ fn library(call: &Call<'_>, out: &mut [u8], numbers: &mut [u64]) -> u64 {
         Call::Line { line, message } => match line {
             Line::Authenticate => raw::authenticate_line(message, out),
             Line::Challenge => raw::challenge_line(message, out),
+            Line::Negotiate => raw::negotiate_line(message, out),
             Line::NlAuth => raw::nl_auth_line(message, out),
             Line::Ntlm => raw::ntlm_line(message, out),
             Line::NtlmProgram => raw::ntlm_program_line(message, out),
@@ -66,6 +68,14 @@ fn library(call: &Call<'_>, out: &mut [u8], numbers: &mut [u64]) -> u64 {
         },
         Call::WriteAuthenticate { flags, ref parts } => {
             raw::write_authenticate(out, flags, &lent(parts))
+        }
+        Call::WriteNegotiate { flags, opening } => {
+            let Opening {
+                version,
+                domain,
+                workstation,
+            } = opening;
+            raw::write_negotiate(out, flags, &version, domain, workstation)
         }
         Call::WriteNlAuthRequest { flags, ref strings } => {
             raw::write_nl_auth_request(out, flags, strings)

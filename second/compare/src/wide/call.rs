@@ -17,11 +17,20 @@ pub struct Parts<'a> {
     pub key: &'a [u8],
 }
 
+/// What a NEGOTIATE message is written from, beside its flags.
+#[derive(Clone, Copy, Debug, Default)]
+pub struct Opening<'a> {
+    pub version: [u8; 8],
+    pub domain: &'a [u8],
+    pub workstation: &'a [u8],
+}
+
 /// The calls that give a line.
 #[derive(Clone, Copy, Debug, PartialEq, Eq)]
 pub enum Line {
     Authenticate,
     Challenge,
+    Negotiate,
     NlAuth,
     Ntlm,
     NtlmProgram,
@@ -29,9 +38,10 @@ pub enum Line {
 }
 
 impl Line {
-    pub const ALL: [Self; 6] = [
+    pub const ALL: [Self; 7] = [
         Self::Authenticate,
         Self::Challenge,
+        Self::Negotiate,
         Self::NlAuth,
         Self::Ntlm,
         Self::NtlmProgram,
@@ -68,6 +78,9 @@ pub enum Call<'a> {
     ReadServerNames {
         message: &'a [u8],
     },
+    ReadNegotiate {
+        message: &'a [u8],
+    },
     ReadNlAuth {
         message: &'a [u8],
     },
@@ -98,6 +111,10 @@ pub enum Call<'a> {
         flags: u32,
         parts: Parts<'a>,
     },
+    WriteNegotiate {
+        flags: u32,
+        opening: Opening<'a>,
+    },
     WriteNlAuthRequest {
         flags: u32,
         strings: [&'a [u8]; 5],
@@ -120,11 +137,12 @@ pub enum Call<'a> {
 }
 
 /// The names of the calls, without `dialtable_`, by [`Call::index`].
-pub const NAMES: [&str; 25] = [
+pub const NAMES: [&str; 28] = [
     "read_authenticate",
     "read_challenge",
     "read_timestamp",
     "read_server_names",
+    "read_negotiate",
     "read_nl_auth",
     "field_bytes",
     "check_pairs",
@@ -133,11 +151,13 @@ pub const NAMES: [&str; 25] = [
     "next_pair",
     "authenticate_line",
     "challenge_line",
+    "negotiate_line",
     "nl_auth_line",
     "ntlm_line",
     "ntlm_program_line",
     "nl_auth_program_line",
     "write_authenticate",
+    "write_negotiate",
     "write_nl_auth_request",
     "write_nl_auth_response",
     "decide",
@@ -156,23 +176,25 @@ impl Call<'_> {
             Self::ReadChallenge { .. } => 1,
             Self::ReadTimestamp { .. } => 2,
             Self::ReadServerNames { .. } => 3,
-            Self::ReadNlAuth { .. } => 4,
-            Self::FieldBytes { .. } => 5,
-            Self::CheckPairs { .. } => 6,
-            Self::CountPairs { .. } => 7,
-            Self::FindPair { .. } => 8,
-            Self::NextPair { .. } => 9,
-            Self::Line { line, .. } => 10 + *line as usize,
-            Self::WriteAuthenticate { .. } => 16,
-            Self::WriteNlAuthRequest { .. } => 17,
-            Self::WriteNlAuthResponse => 18,
-            Self::Decide { .. } => 19,
-            Self::DomainToSend { .. } => 20,
+            Self::ReadNegotiate { .. } => 4,
+            Self::ReadNlAuth { .. } => 5,
+            Self::FieldBytes { .. } => 6,
+            Self::CheckPairs { .. } => 7,
+            Self::CountPairs { .. } => 8,
+            Self::FindPair { .. } => 9,
+            Self::NextPair { .. } => 10,
+            Self::Line { line, .. } => 11 + *line as usize,
+            Self::WriteAuthenticate { .. } => 18,
+            Self::WriteNegotiate { .. } => 19,
+            Self::WriteNlAuthRequest { .. } => 20,
+            Self::WriteNlAuthResponse => 21,
+            Self::Decide { .. } => 22,
+            Self::DomainToSend { .. } => 23,
             Self::Respond { how, .. } => match how {
-                Respond::With { .. } => 21,
-                Respond::ForBench => 22,
-                Respond::ToOldServer => 23,
-                Respond::ForRelay => 24,
+                Respond::With { .. } => 24,
+                Respond::ForBench => 25,
+                Respond::ToOldServer => 26,
+                Respond::ForRelay => 27,
             },
         }
     }
@@ -185,7 +207,7 @@ impl Call<'_> {
     pub const fn numbers(&self) -> usize {
         match self {
             Self::ReadAuthenticate { .. } => 14,
-            Self::ReadChallenge { .. } => 5,
+            Self::ReadChallenge { .. } | Self::ReadNegotiate { .. } => 5,
             Self::ReadTimestamp { .. } | Self::ReadServerNames { .. } => 2,
             Self::ReadNlAuth { .. } => 12,
             Self::CountPairs { .. } => 1,
@@ -225,6 +247,7 @@ impl Call<'_> {
             | Self::ReadChallenge { message }
             | Self::ReadTimestamp { message }
             | Self::ReadServerNames { message }
+            | Self::ReadNegotiate { message }
             | Self::ReadNlAuth { message }
             | Self::FieldBytes { message, .. }
             | Self::Line { message, .. } => vec![("message", message)],
@@ -233,6 +256,11 @@ impl Call<'_> {
             | Self::FindPair { list, .. }
             | Self::NextPair { list, .. } => vec![("list", list)],
             Self::WriteAuthenticate { parts, .. } => parts.inputs(),
+            Self::WriteNegotiate { opening, .. } => vec![
+                ("version", &opening.version),
+                ("domain", opening.domain),
+                ("workstation", opening.workstation),
+            ],
             Self::WriteNlAuthRequest { strings, .. } => {
                 let names = ["a", "b", "c", "d", "e"].into_iter();
                 names.zip(strings.iter().copied()).collect()
@@ -252,9 +280,9 @@ impl Call<'_> {
             Self::FieldBytes { offset, len, .. } => format!(" offset={offset} len={len}"),
             Self::FindPair { id, .. } => format!(" id={id}"),
             Self::NextPair { at, .. } => format!(" at={at}"),
-            Self::WriteAuthenticate { flags, .. } | Self::WriteNlAuthRequest { flags, .. } => {
-                format!(" flags={flags:08X}")
-            }
+            Self::WriteAuthenticate { flags, .. }
+            | Self::WriteNegotiate { flags, .. }
+            | Self::WriteNlAuthRequest { flags, .. } => format!(" flags={flags:08X}"),
             Self::Decide { settings, .. } => format!(" settings={settings:X}"),
             Self::Respond { how, clock, .. } => match how {
                 Respond::With { settings } => format!(" settings={settings:X} clock={clock:016X}"),

@@ -1,28 +1,29 @@
 //! What the calls are given: messages drawn and mutated, and what is written.
 
-use crate::names::{name, string};
+use crate::names::{name, string, Set};
 use crate::random::Random;
 use crate::wire::{damage, offsets, set_of, FIELD_LENGTHS, LONG, MAX_MESSAGE};
 use crate::wire::{KEY_EXCH, OEM, UNICODE};
-use crate::{authenticate, challenge, nl_auth};
+use crate::{authenticate, challenge, negotiate, nl_auth};
 
 use super::call::Parts;
 
-/// Where heads stand: the six of an AUTHENTICATE, two of them a CHALLENGE's
-/// too, and its TargetInfo.
-const HEADS: [usize; 7] = [12, 20, 28, 36, 44, 52, 40];
+/// Where heads stand: the six of an AUTHENTICATE, one of them a CHALLENGE's
+/// too, its TargetInfo, and the two of a NEGOTIATE.
+const HEADS: [usize; 9] = [12, 20, 28, 36, 44, 52, 40, 16, 24];
 
 /// Where flags stand in each kind of message.
-const FLAGS: [usize; 3] = [4, 20, 60];
+const FLAGS: [usize; 4] = [4, 12, 20, 60];
 
 /// A message of any kind, sound or damaged, of 0 to 66,000 bytes. `captured`
 /// are sound ones to mutate.
 pub fn message(random: &mut Random, captured: &[Vec<u8>]) -> Vec<u8> {
-    let mut message = match random.below(20) {
+    let mut message = match random.below(24) {
         0..=4 => authenticate::drawn(random),
         5..=11 => challenge::drawn(random),
         12..=13 => nl_auth::drawn(random),
-        14..=18 if !captured.is_empty() => {
+        14..=17 => negotiate::drawn(random),
+        18..=22 if !captured.is_empty() => {
             let message = captured[random.below(captured.len())].clone();
             mutated(random, message)
         }
@@ -86,10 +87,13 @@ pub fn boundary_len(random: &mut Random, total: usize) -> u16 {
     match random.below(3) {
         0 => random.pick(&FIELD_LENGTHS),
         1 => random.pick(&[
+            32,
+            40,
             48,
             64,
             88,
             whole,
+            whole.wrapping_sub(40),
             whole.wrapping_sub(88),
             whole.wrapping_add(1),
         ]),
@@ -100,7 +104,7 @@ pub fn boundary_len(random: &mut Random, total: usize) -> u16 {
 /// 0, 1, around the fixed parts, around the message's end and 0xFFFFFFFF.
 pub fn boundary_offset(random: &mut Random, len: u16, total: usize) -> u32 {
     match random.below(3) {
-        0 => random.pick(&[0, 1, 64, 88]),
+        0 => random.pick(&[0, 1, 32, 40, 64, 88]),
         1 => u32::try_from(random.below(total + 2)).expect("an offset"),
         _ => random.pick(&offsets(len, total)),
     }
@@ -222,6 +226,22 @@ impl Parts<'_> {
             self.key.len(),
         ]
     }
+}
+
+/// A domain and a workstation for a NEGOTIATE, mostly such as are accepted.
+pub fn opening_names(random: &mut Random) -> [Vec<u8>; 2] {
+    let mut names = [(); 2].map(|()| {
+        let len = random.pick(&[0, 0, 1, 4, 7, 30]);
+        name(random, Set::Oem, len)
+    });
+    if random.one_in(100) {
+        let total: usize = names.iter().map(Vec::len).sum();
+        let exact = random.pick(&LONG) - 40 - total;
+        let more = random.pick(&[exact, exact, MAX_MESSAGE, 0x1_0000]);
+        let chosen = &mut names[random.below(2)];
+        chosen.resize(chosen.len() + more, b'z');
+    }
+    names
 }
 
 /// Any flags of an NL_AUTH request, mostly with a bit A to E.

@@ -16,7 +16,7 @@ use crate::challenge::IDS;
 use crate::random::Random;
 use crate::wire::KEY_EXCH;
 
-use call::{Call, Line, Respond};
+use call::{Call, Line, Opening, Respond};
 use hold::{Holder, Lent, Library, MOST_NUMBERS};
 use inputs::Drawn;
 use secret::{changeable_places, secret_places};
@@ -143,6 +143,7 @@ impl<L: Library> Run<L> {
             Call::ReadChallenge { message },
             Call::ReadTimestamp { message },
             Call::ReadServerNames { message },
+            Call::ReadNegotiate { message },
             Call::ReadNlAuth { message },
         ] {
             self.hold_arrays(&call);
@@ -248,6 +249,14 @@ impl<L: Library> Run<L> {
             flags,
             parts: drawn.parts(),
         });
+        let flags = inputs::flags(&mut self.random);
+        let [domain, workstation] = inputs::opening_names(&mut self.random);
+        let opening = Opening {
+            version: self.random.array(),
+            domain: &domain,
+            workstation: &workstation,
+        };
+        self.hold_rooms(&Call::WriteNegotiate { flags, opening });
         let flags = inputs::nl_auth_flags(&mut self.random);
         let strings = inputs::strings(&mut self.random);
         self.hold_rooms(&Call::WriteNlAuthRequest {
@@ -313,8 +322,8 @@ impl<L: Library> Run<L> {
         };
         self.holder.hold_alike(&calls[0], &calls[1], lent, mic);
         for line in [Line::Authenticate, Line::Ntlm, Line::NtlmProgram] {
-            // A message of type 2 is read as CHALLENGE, which has no secrets.
-            if line != Line::Authenticate && message[8..12] == [2, 0, 0, 0] {
+            // A message of type 1 or 2 is read as another kind, without secrets.
+            if line != Line::Authenticate && matches!(message[8..12], [1 | 2, 0, 0, 0]) {
                 continue;
             }
             let calls = [message, other].map(|message| Call::Line { line, message });

@@ -2,10 +2,11 @@
 
 use reader::{
     answer, answer_for_bench, answer_for_old_servers, answer_for_relay, authenticate_line,
-    challenge_line, domain_to_send, field_bytes, nl_auth_line, ntlm_line, write_authenticate,
-    write_nl_auth_request, write_nl_auth_response, Account, Answer, Authenticate,
-    AuthenticateParts, AvId, Challenge, Field, NegotiateFlags, NlAuth, NlAuthFlags, Policy,
-    Program, Reason, Refusal, Secrets, Settings, TargetInfo,
+    challenge_line, domain_to_send, field_bytes, negotiate_line, nl_auth_line, ntlm_line,
+    write_authenticate, write_negotiate, write_nl_auth_request, write_nl_auth_response, Account,
+    Answer, Authenticate, AuthenticateParts, AvId, Challenge, Field, Negotiate, NegotiateFlags,
+    NegotiateParts, NlAuth, NlAuthFlags, Policy, Program, Reason, Refusal, Secrets, Settings,
+    TargetInfo,
 };
 
 use super::call::{refused, Call, Line, Parts, Respond};
@@ -60,6 +61,12 @@ fn call_of(call: &Call<'_>, out: &mut [u8], numbers: &mut [u64]) -> Result<usize
             put(numbers, &there);
             Ok(0)
         }
+        Call::ReadNegotiate { message } => {
+            let read = Negotiate::read(message)?;
+            put(numbers, &[u64::from(read.flags.0)]);
+            put_fields(&mut numbers[1..], &[read.domain, read.workstation]);
+            Ok(0)
+        }
         Call::ReadNlAuth { message } => {
             let read = NlAuth::read(message)?;
             put(
@@ -100,6 +107,7 @@ fn call_of(call: &Call<'_>, out: &mut [u8], numbers: &mut [u64]) -> Result<usize
         Call::Line { line, message } => match line {
             Line::Authenticate => authenticate_line(message, out),
             Line::Challenge => challenge_line(message, out),
+            Line::Negotiate => negotiate_line(message, out),
             Line::NlAuth => nl_auth_line(message, out),
             Line::Ntlm => ntlm_line(message, out),
             Line::NtlmProgram => Program::Ntlm.write_line(message, out),
@@ -118,6 +126,15 @@ fn call_of(call: &Call<'_>, out: &mut [u8], numbers: &mut [u64]) -> Result<usize
                 key: parts.key,
             };
             write_authenticate(&parts, out)
+        }
+        Call::WriteNegotiate { flags, opening } => {
+            let parts = NegotiateParts {
+                flags: NegotiateFlags(flags),
+                version: opening.version,
+                domain: opening.domain,
+                workstation: opening.workstation,
+            };
+            write_negotiate(&parts, out)
         }
         Call::WriteNlAuthRequest { flags, strings } => {
             write_nl_auth_request(NlAuthFlags::new(flags), &strings, out)

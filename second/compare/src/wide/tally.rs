@@ -16,6 +16,55 @@ const OF_WRITING: [(u8, &[u8]); 6] = [
     (34, &[1, 2, 3, 4, 5]),
 ];
 
+/// Numbers, their fields and the readings and writings that can refuse by them:
+/// each must have done so itself, since kinds of message share numbers.
+const OF_CALLS: [(&[u8], &[u8], &[&str]); 15] = [
+    (
+        &[1, 2, 4, 33],
+        &[0],
+        &[
+            "read_authenticate",
+            "read_challenge",
+            "read_negotiate",
+            "read_nl_auth",
+        ],
+    ),
+    (
+        &[3, 5],
+        &[0],
+        &["read_authenticate", "read_challenge", "read_negotiate"],
+    ),
+    (&[6, 7], &[1, 2, 3, 4, 5, 6], &["read_authenticate"]),
+    (&[6, 7], &[1, 2], &["read_challenge", "read_negotiate"]),
+    (&[8, 9], &[3, 4, 5], &["read_authenticate"]),
+    (&[8], &[1], &["read_challenge"]),
+    (&[10, 11, 12, 13], &[2], &["read_challenge"]),
+    (&[14, 16, 17], &[0], &["read_nl_auth"]),
+    (&[15], &[1, 2, 3, 4, 5], &["read_nl_auth"]),
+    (
+        &[5, 30, 33],
+        &[0],
+        &["write_authenticate", "write_negotiate"],
+    ),
+    (&[31], &[3, 4, 5], &["write_authenticate"]),
+    (&[32], &[6], &["write_authenticate"]),
+    (&[14, 30, 33], &[0], &["write_nl_auth_request"]),
+    (&[34], &[1, 2, 3, 4, 5], &["write_nl_auth_request"]),
+    (&[33], &[0], &["write_nl_auth_response"]),
+];
+
+/// The calls that are given two inputs which only secrets tell apart.
+const WITH_SECRETS: [&str; 8] = [
+    "read_authenticate",
+    "authenticate_line",
+    "ntlm_line",
+    "ntlm_program_line",
+    "respond",
+    "respond_for_bench",
+    "respond_to_old_server",
+    "respond_for_relay",
+];
+
 /// All refusals, by their numbers.
 fn refusals() -> Vec<(u8, &'static [u8])> {
     let mut all = [&REFUSALS[..], &OF_WRITING].concat();
@@ -31,7 +80,8 @@ const FIELDS: usize = 7;
 #[derive(Clone, Copy, Debug)]
 struct Row {
     answered: u64,
-    refused: [u64; NUMBERS],
+    /// By number and field.
+    refused: [[u64; FIELDS]; NUMBERS],
     /// Calls of the library on two inputs that only secrets tell apart.
     alike: u64,
 }
@@ -40,19 +90,17 @@ struct Row {
 #[derive(Clone, Debug)]
 pub struct Tally {
     rows: [Row; NAMES.len()],
-    fields: [[u64; FIELDS]; NUMBERS],
 }
 
 impl Default for Tally {
     fn default() -> Self {
         let row = Row {
             answered: 0,
-            refused: [0; NUMBERS],
+            refused: [[0; FIELDS]; NUMBERS],
             alike: 0,
         };
         Self {
             rows: [row; NAMES.len()],
-            fields: [[0; FIELDS]; NUMBERS],
         }
     }
 }
@@ -62,10 +110,7 @@ impl Tally {
         let row = &mut self.rows[call.index()];
         match refusal(answer) {
             None => row.answered += 1,
-            Some((number, field)) => {
-                row.refused[usize::from(number)] += 1;
-                self.fields[usize::from(number)][usize::from(field)] += 1;
-            }
+            Some((number, field)) => row.refused[usize::from(number)][usize::from(field)] += 1,
         }
     }
 
@@ -78,48 +123,80 @@ impl Tally {
         self.rows.iter().map(Row::all).sum()
     }
 
+    /// The calls with their rows.
+    fn named(&self) -> impl Iterator<Item = (&'static str, &Row)> {
+        NAMES.into_iter().zip(&self.rows)
+    }
+
+    /// How often any call refused by this number with this field.
+    fn refused(&self, number: u8, field: u8) -> u64 {
+        self.rows.iter().map(|row| row.at(number, field)).sum()
+    }
+
     /// What no case has reached: calls that were never answered, refusals and
-    /// fields that none gave, calls that secrets should not tell apart.
+    /// fields that none gave or that a reading or writing never gave itself,
+    /// calls that secrets should not tell apart.
     pub fn not_reached(&self) -> Vec<String> {
         let mut missing = Vec::new();
-        for (name, row) in NAMES.iter().zip(&self.rows) {
+        for (name, row) in self.named() {
             if row.answered == 0 {
                 missing.push(format!("{name} answers"));
+            }
+            if row.alike == 0 && WITH_SECRETS.contains(&name) {
+                missing.push(format!("{name} with other secrets"));
+            }
+            for (number, field) in own_refusals(name) {
+                if row.at(number, field) == 0 {
+                    missing.push(format!("{name} refused {number} field={field}"));
+                }
             }
         }
         for (number, fields) in refusals() {
             for &field in fields {
-                if self.fields[usize::from(number)][usize::from(field)] == 0 {
+                if self.refused(number, field) == 0 {
                     missing.push(format!("refused {number} field={field}"));
                 }
-            }
-        }
-        for at in [0, 10, 13, 14, 21, 22, 23, 24] {
-            if self.rows[at].alike == 0 {
-                missing.push(format!("{} with other secrets", NAMES[at]));
             }
         }
         missing
     }
 }
 
+/// The numbers and fields that a reading or a writing can refuse by.
+fn own_refusals(name: &str) -> Vec<(u8, u8)> {
+    let rows = OF_CALLS
+        .iter()
+        .filter(|(_, _, calls)| calls.contains(&name));
+    let pairs = rows.flat_map(|(numbers, fields, _)| {
+        numbers
+            .iter()
+            .flat_map(|&number| fields.iter().map(move |&field| (number, field)))
+    });
+    pairs.collect()
+}
+
 impl Row {
+    const fn at(&self, number: u8, field: u8) -> u64 {
+        self.refused[number as usize][field as usize]
+    }
+
     fn all(&self) -> u64 {
-        self.answered + self.refused.iter().sum::<u64>()
+        self.answered + self.refused.as_flattened().iter().sum::<u64>()
     }
 }
 
 /// A row for each call, then one for each refusal.
 impl fmt::Display for Tally {
     fn fmt(&self, f: &mut fmt::Formatter<'_>) -> fmt::Result {
-        for (name, row) in NAMES.iter().zip(&self.rows) {
+        for (name, row) in self.named() {
             write!(f, "  {name:<24}{:>9}", row.all())?;
             write!(f, "   answered {}", row.answered)?;
             let refused = row
                 .refused
                 .iter()
+                .map(|fields| fields.iter().sum::<u64>())
                 .enumerate()
-                .filter(|(_, &count)| count > 0);
+                .filter(|&(_, count)| count > 0);
             for (at, (number, count)) in refused.enumerate() {
                 let word = if at == 0 { "refused " } else { "" };
                 write!(f, ", {word}{number}: {count}")?;
@@ -130,18 +207,46 @@ impl fmt::Display for Tally {
             writeln!(f)?;
         }
         for (number, fields) in refusals() {
-            let counts = &self.fields[usize::from(number)];
-            let all: u64 = counts.iter().sum();
+            let counts = fields
+                .iter()
+                .map(|&field| (field, self.refused(number, field)));
+            let all: u64 = counts.clone().map(|(_, count)| count).sum();
             write!(f, "  {:<24}{all:>9}", format!("refused {number}"))?;
             if fields.len() > 1 {
-                let each: Vec<String> = fields
-                    .iter()
-                    .map(|&field| format!("field {field}: {}", counts[usize::from(field)]))
+                let each: Vec<String> = counts
+                    .map(|(field, count)| format!("field {field}: {count}"))
                     .collect();
                 write!(f, "   {}", each.join(", "))?;
             }
             writeln!(f)?;
         }
         Ok(())
+    }
+}
+
+#[cfg(test)]
+mod tests {
+    use super::super::call::refused;
+    use super::{Call, Tally, NAMES, OF_CALLS, WITH_SECRETS};
+
+    #[test]
+    fn the_tables_name_calls_that_are_there() {
+        let calls = OF_CALLS.iter().flat_map(|(_, _, calls)| calls.iter());
+        for name in calls.chain(&WITH_SECRETS) {
+            assert!(NAMES.contains(name), "{name}");
+        }
+    }
+
+    #[test]
+    fn a_refusal_is_reached_for_the_call_that_gave_it() {
+        let mut tally = Tally::default();
+        let call = Call::ReadChallenge { message: &[] };
+        tally.add(&call, refused(6, 1));
+        let missing = tally.not_reached();
+        let is_missing = |what: &str| missing.iter().any(|missed| missed == what);
+        assert!(!is_missing("refused 6 field=1"));
+        assert!(!is_missing("read_challenge refused 6 field=1"));
+        assert!(is_missing("read_negotiate refused 6 field=1"));
+        assert!(is_missing("read_challenge refused 6 field=2"));
     }
 }

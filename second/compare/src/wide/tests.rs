@@ -1,6 +1,6 @@
 use std::io::sink;
 
-use super::call::{refusal, refused, Call, Line, Respond, NAMES};
+use super::call::{refusal, refused, Call, Line, Opening, Respond, NAMES};
 use super::hold::{Difference, Library};
 use super::{run_on, second, Report};
 
@@ -8,7 +8,11 @@ use super::{run_on, second, Report};
 const TRIED: usize = 400;
 
 fn captured() -> Vec<Vec<u8>> {
-    let files = ["challenge-smbd.bin", "authenticate-smbclient.bin"];
+    let files = [
+        "challenge-smbd.bin",
+        "authenticate-smbclient.bin",
+        "negotiate-names-escapes.bin",
+    ];
     let folder = concat!(env!("CARGO_MANIFEST_DIR"), "/../../messages/");
     let read = |name| std::fs::read(format!("{folder}{name}")).expect("a message");
     files.map(read).to_vec()
@@ -36,7 +40,7 @@ fn the_reader_agrees_with_itself_and_reaches_every_call() {
     for name in NAMES {
         assert!(out.contains(&format!("\n  {name} ")), "{name}");
     }
-    assert!(out.contains(&format!("\n{} passed, ", TRIED + 2)));
+    assert!(out.contains(&format!("\n{} passed, ", TRIED + captured().len())));
 }
 
 #[test]
@@ -233,6 +237,69 @@ fn settings_that_are_left_out_are_found() {
             call => call,
         }),
     );
+}
+
+#[test]
+fn a_bit_that_its_name_does_not_make_is_found() {
+    // The caller's flags as they are, whatever the names.
+    found(
+        "DIFFERENT",
+        "write_negotiate",
+        planted(|call, answer, out, _| {
+            if let (Call::WriteNegotiate { flags, .. }, None) = (call, refusal(answer)) {
+                out[12..16].copy_from_slice(&flags.to_le_bytes());
+            }
+            answer
+        }),
+    );
+}
+
+#[test]
+fn a_domain_that_is_cut_to_fit_is_found() {
+    found(
+        "DIFFERENT",
+        "write_negotiate",
+        other_call(|call| match call {
+            Call::WriteNegotiate { flags, opening } => Call::WriteNegotiate {
+                flags,
+                opening: Opening {
+                    domain: &opening.domain[..opening.domain.len().min(15)],
+                    ..opening
+                },
+            },
+            call => call,
+        }),
+    );
+}
+
+#[test]
+fn a_domain_that_counts_without_its_bit_is_found() {
+    let counts = |call: &Call<'_>, out: &mut [u8], numbers: &mut [u64]| match *call {
+        Call::ReadNegotiate { message } if message.len() > 13 => {
+            let mut message = message.to_vec();
+            message[13] |= 0x10;
+            let message = &message;
+            second(&Call::ReadNegotiate { message }, out, numbers)
+        }
+        _ => second(call, out, numbers),
+    };
+    found("DIFFERENT", "read_negotiate", counts);
+}
+
+#[test]
+fn a_type_that_chooses_another_reader_is_found() {
+    // As before request 1/12.
+    let old = |call: &Call<'_>, out: &mut [u8], numbers: &mut [u64]| match *call {
+        Call::Line {
+            line: Line::Ntlm,
+            message,
+        } if message.get(8) == Some(&1) => {
+            let line = Line::Authenticate;
+            second(&Call::Line { line, message }, out, numbers)
+        }
+        _ => second(call, out, numbers),
+    };
+    found("DIFFERENT", "ntlm_line", old);
 }
 
 #[test]

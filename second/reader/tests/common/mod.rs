@@ -9,6 +9,8 @@ pub const OEM: u32 = 0x2;
 pub const REQUEST_TARGET: u32 = 0x4;
 pub const SIGN: u32 = 0x10;
 pub const SEAL: u32 = 0x20;
+pub const OEM_DOMAIN: u32 = 0x1000;
+pub const OEM_WORK: u32 = 0x2000;
 pub const TARGET_INFO: u32 = 0x80_0000;
 pub const VERSION: u32 = 0x200_0000;
 pub const BITS_128: u32 = 0x2000_0000;
@@ -117,6 +119,23 @@ pub fn challenge(flags: u32, target: &[u8], info: &[u8]) -> Vec<u8> {
     put_head(&mut message, 40, info.len() as u16, info_at);
     message.extend(target);
     message.extend(info);
+    message
+}
+
+/// Where the heads of a NEGOTIATE message stand: domain, workstation.
+pub const NEGOTIATE_HEADS: [(usize, u8); 2] = [(16, 1), (24, 2)];
+
+/// A NEGOTIATE message: fixed part and a Version of zeros, domain at 40,
+/// workstation after it.
+pub fn negotiate(flags: u32, domain: &[u8], workstation: &[u8]) -> Vec<u8> {
+    let mut message = vec![0; 40];
+    put(&mut message, 0, b"NTLMSSP\0\x01\0\0\0");
+    put(&mut message, 12, &flags.to_le_bytes());
+    put_head(&mut message, 16, domain.len() as u16, 40);
+    let workstation_at = 40 + domain.len() as u32;
+    put_head(&mut message, 24, workstation.len() as u16, workstation_at);
+    message.extend(domain);
+    message.extend(workstation);
     message
 }
 
