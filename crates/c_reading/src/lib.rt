@@ -35,13 +35,13 @@ use wire::refusal::Refusal;
 fn negotiate_numbers(m: Negotiate) -> [u64; 5]
     ensures { λ r. ⌜ r ≡ negotiateNumbers m ⌝ }
 {
-    let f = m.fields;
+    let names = m.fields;
     [
         m.flags.bits as u64,
-        offset_of(f.domain),
-        len_of(f.domain),
-        offset_of(f.workstation),
-        len_of(f.workstation),
+        offset_of(names.domain),
+        len_of(names.domain),
+        offset_of(names.workstation),
+        len_of(names.workstation),
     ]
 }
 
