@@ -1,9 +1,10 @@
 -- Laws of a walk over a list: what is known at the place that it has come to.
-use Prim.Native.Nat.{ℕ, suc, _+_, _-_, _^_, _≤_, _<_}
+use Prim.Native.Nat.{ℕ, zero, suc, _+_, _-_, _^_, _≤_, _<_}
 use mathlib.Core.Path.{_≡_, refl, sym, ap, _∙_}
 use mathlib.Core.Bool.{Bool, true, false}
 use mathlib.Core.List.{List, [], _∷_, _++_, append-nil}
 use mathlib.Core.Logic.{⊎-elim}
+use native.Mathlib.Numerals.{unary-clauses}
 use native.Mathlib.Omega.{arith}
 use lib.ListN.{length, length-append}
 use lib.Seq.{append-snoc}
@@ -23,7 +24,9 @@ use Rattle.av_pairs.specs.declared.Step.the-variants.{Pair, End, Refused
 use Rattle.av_pairs.specs.declared.Count.{Count}
 use Rattle.av_pairs.specs.declared.Count.the-variants.{Pairs, Refused as Uncounted}
 use Rattle.av_pairs.specs.declared.Found.the-variants.{At, Nothing}
-use Rattle.av_pairs.specs.AvPairs.{stepAt, endOf, onStep, askAt, pairsFrom, stopFrom, pairsOf, checkPairs, countPairs, firstBy, firstPair}
+use Rattle.av_pairs.specs.declared.Search.{Search}
+use Rattle.av_pairs.specs.declared.Search.the-variants.{Done, Refused as Unsearched}
+use Rattle.av_pairs.specs.AvPairs.{stepAt, endOf, onStep, askAt, pairsFrom, stopFrom, pairsOf, checkPairs, countPairs, firstBy, firstPair, findPair}
 use Rattle.av_pairs.proofs.Step.{the-type}
 use Rattle.av_pairs.proofs.Steps.{gave}
 
@@ -43,6 +46,9 @@ module _ (s : List ℕ) (at : ℕ) (r : Step) (e : r ≡ stepAt s at) where
   module _ (p : AvPair) (h : r ≡ Pair p) where
     pub end-fits : length s < 2 ^ 64 → Fits w64 (p .at + p .len)
     end-fits f = record { fits = omega (arith, gave s at r p e h .inside) }
+
+    pub ends-inside : p .at + p .len ≤ length s
+    ends-inside = gave s at r p e h .inside
 
     -- each pair takes bytes
     pub onward : at + 4 ≤ endOf p
@@ -85,6 +91,51 @@ pub ask-stop : (s : List ℕ) (at : ℕ) (r : Step) → r ≡ stepAt s at → On
     record { step = r; next = at } ≡ askAt s at
 unfolding askAt
 ask-stop s at r e m = simp (← e) (ap (λ (n : ℕ). record { step = r; next = n }) (stays r at m))
+
+-- ---- the checks from a place on
+
+-- steps to spare change nothing: each pair takes bytes
+enough : (k m : ℕ) (s : List ℕ) (at : ℕ) → length s - at ≤ k → length s - at ≤ m → stopFrom (suc k) s at ≡ stopFrom (suc m) s at
+enough zero m s at a b = go (stepAt s at) refl where
+  go : (r : Step) → stepAt s at ≡ r → onStep r (λ p. Clear) (λ v. v) ≡ onStep r (λ p. stopFrom m s (endOf p)) (λ v. v)
+  go (Pair p) e = absurd (omega (arith, falls s at (Pair p) (sym e) p refl))
+  go End e = refl
+  go (Refused f) e = refl
+enough (suc k) m s at a b = go m (stepAt s at) refl b (λ n i. enough k n s i) where
+  go : (m : ℕ) (r : Step) → stepAt s at ≡ r → length s - at ≤ m →
+      ((n i : ℕ) → length s - i ≤ k → length s - i ≤ n → stopFrom (suc k) s i ≡ stopFrom (suc n) s i) →
+      onStep r (λ p. stopFrom (suc k) s (endOf p)) (λ v. v) ≡ onStep r (λ p. stopFrom m s (endOf p)) (λ v. v)
+  go zero (Pair p) e b later = absurd (omega (arith, falls s at (Pair p) (sym e) p refl))
+  go (suc m) (Pair p) e b later =
+      later m (endOf p) (omega (arith, falls s at (Pair p) (sym e) p refl)) (omega (arith, falls s at (Pair p) (sym e) p refl))
+  go m End e b later = refl
+  go m (Refused f) e b later = refl
+
+-- the checks from `start` on have come to a place
+abbrev pub Behind : List ℕ → ℕ → ℕ → Type 0
+Behind s start at = stopFrom (suc (length s - start)) s start ≡ stopFrom (suc (length s - at)) s at
+
+module _ (s : List ℕ) (start at : ℕ) (b : Behind s start at) (r : Step) (e : r ≡ stepAt s at) where
+  pub behind-pair : (p : AvPair) → r ≡ Pair p → Behind s start (p .at + p .len)
+  behind-pair p h =
+      let k : length s - at ≡ suc (length s - at - 1) = omega (arith, falls s at r e p h) in
+      b ∙ ap (λ (x : Step). onStep x (λ q. stopFrom (length s - at) s (endOf q)) (λ v. v)) (sym e ∙ h)
+      ∙ ap (λ (n : ℕ). stopFrom n s (endOf p)) k
+      ∙ enough (length s - at - 1) (length s - endOf p) s (endOf p) (omega (arith, falls s at r e p h)) (omega arith)
+
+  pub behind-end : r ≡ End → Clear ≡ stopFrom (suc (length s - start)) s start
+  behind-end h = sym (b ∙ simp (← e, h))
+
+  pub behind-fault : (f : Refusal) → r ≡ Refused f → Not f ≡ stopFrom (suc (length s - start)) s start
+  behind-fault f h = sym (b ∙ simp (← e, h))
+
+-- a fault behind the pair that was found
+pub behind-found : (k r : Verdict) (e : Refusal) (x : Search) → r ≡ k → r ≡ Not e → Unsearched e ≡ onClear Unsearched k x
+behind-found k r e x p h = simp (← p, h)
+
+pub whole : (s : List ℕ) (v : Verdict) → v ≡ stopFrom (suc (length s - 0)) s 0 → v ≡ checkPairs s
+unfolding checkPairs
+whole s v h = simp unary-clauses at h
 
 -- the same, where the pairs passed are counted
 pub record Counted (s : List ℕ) (at n : ℕ) : Type 0 where
@@ -153,10 +204,29 @@ module _ (id : AvId) (s : List ℕ) (at : ℕ) (r : Step) (w : Sought id s at) (
   unfolding firstPair
   seek-stop m = simp (stopped s at (w .passed) r (w .walked) e m) (sym (simp append-nil at (w .none [])))
 
+  pub seek-end : r ≡ End → Done Nothing ≡ findPair id s
+  unfolding findPair firstPair
+  seek-end h =
+      let g = ended s at r e (w .passed) (w .walked) h in
+      simp (g .0, g .1, sym (simp append-nil at (w .none [])))
+
+  pub seek-fault : (f : Refusal) → r ≡ Refused f → Unsearched f ≡ findPair id s
+  unfolding findPair
+  seek-fault f h = simp (faulted s at r e (w .passed) (w .walked) f h .1)
+
   module _ (p : AvPair) (b : Bool) (h : r ≡ Pair p) (q : b ≡ sameId id (p .id)) where
     pub seek-here : b ≡ true → At p ≡ firstPair id s
     unfolding firstPair
     seek-here y = simp (w .walked .pairs, ← e, h, w .none, ← q, y)
+
+    -- what stands behind it decides on the whole list
+    pub seek-done : b ≡ true → (x : Search) → x ≡ onClear Unsearched (stopFrom (suc (length s - endOf p)) s (endOf p)) (Done (At p)) →
+        x ≡ findPair id s
+    unfolding findPair
+    seek-done y x g =
+        let v = past s at r e (w .passed) (w .walked) p h in
+        let rest : checkPairs s ≡ stopFrom (suc (length s - endOf p)) s (endOf p) = v .verdict ∙ enough (v .fuel) (length s - endOf p) s (endOf p) (v .room) (omega arith) in
+        g ∙ simp (rest, seek-here y)
 
     pub seek-next : b ≡ false → Sought id s (p .at + p .len)
     seek-next y =

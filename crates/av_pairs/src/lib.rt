@@ -1,7 +1,11 @@
 // TargetInfo (MS-NLMP 2.2.2.1): a list of AvPairs, each an id, a length and a value, up to the end pair.
 ghost use mathlib.Core.Path.{_≡_};
-ghost use Prim.Native.Nat.{_+_, _<_, _^_};
-ghost use Rattle.av_pairs.specs.AvPairs.{left, pairThere, endPairHolds, valueInside, sizeHolds, pairOf, stepAt, countPairs, checkPairs, firstPair, findPair, searchRefusal, isThere, askAt};
+ghost use Prim.Native.Nat.{suc, _+_, _-_, _≤_, _<_, _^_};
+ghost use lib.ListN.{length};
+ghost use Rattle.wire.specs.Check.{onClear};
+ghost use Rattle.av_pairs.specs.declared.Found.the-variants.{At};
+ghost use Rattle.av_pairs.specs.declared.Search.the-variants.{Done, Refused as Unsearched};
+ghost use Rattle.av_pairs.specs.AvPairs.{left, pairThere, endPairHolds, valueInside, sizeHolds, pairOf, stepAt, stopFrom, countPairs, checkPairs, firstPair, findPair, searchRefusal, isThere, askAt};
 use av_id::AvId;
 use wire::check::Checked;
 use wire::check::Verdict;
@@ -164,14 +168,28 @@ pub fn count_pairs(list: &[u8]) -> Count
     count
 }
 
+// Checks 10 to 13 from a place on.
+fn check_from(list: &[u8], start: usize) -> Verdict
+    ensures { λ r. ⌜ r ≡ stopFrom (suc (length (now (list .entry)) - start)) (now (list .entry)) start ⌝ }
+{
+    let mut at = start;
+    let verdict = loop {
+        match step_at(list, at) {
+            Step::Pair(p) => {
+                at = p.at + p.len as usize;
+            }
+            Step::End => break Verdict::Clear,
+            Step::Refused(e) => break Verdict::Refused(e),
+        }
+    };
+    verdict
+}
+
 // Checks 10 to 13 over the whole list, without the count.
 pub fn check_pairs(list: &[u8]) -> Verdict
     ensures { λ r. ⌜ r ≡ checkPairs (now (list .entry)) ⌝ }
 {
-    match count_pairs(list) {
-        Count::Pairs(_) => Verdict::Clear,
-        Count::Refused(e) => Verdict::Refused(e),
-    }
+    check_from(list, 0)
 }
 
 // The first pair with the id before the end or the first fault.
@@ -191,15 +209,35 @@ pub fn first_pair(list: &[u8], id: AvId) -> Found
     found
 }
 
-// The first pair with the id. The checks come first, over the whole list, and refuse.
+// A pair that was found is the answer, unless a fault stands behind it.
+fn found_at(list: &[u8], p: AvPair) -> Search
+    requires { ⌜ p .at + p .len ≤ length (now list) ⌝ }
+    ensures { λ r. ⌜ r ≡ onClear Unsearched (stopFrom (suc (length (now (list .entry)) - (p .at + p .len))) (now (list .entry)) (p .at + p .len)) (Done (At p)) ⌝ }
+{
+    match check_from(list, p.at + p.len as usize) {
+        Verdict::Clear => Search::Done(Found::At(p)),
+        Verdict::Refused(e) => Search::Refused(e),
+    }
+}
+
+// The first pair with the id in a list without fault. One pass: the checks are made up to the pair, and then behind it.
 pub fn find_pair(list: &[u8], id: AvId) -> Search
     ensures { λ r. ⌜ r ≡ findPair id (now (list .entry)) ⌝ }
 {
-    let verdict = check_pairs(list);
-    let Verdict::Clear = verdict else {
-        return Search::Refused(verdict.refusal());
+    let mut at: usize = 0;
+    let search = loop {
+        match step_at(list, at) {
+            Step::Pair(p) => {
+                if p.id.same(id) {
+                    break found_at(list, p);
+                }
+                at = p.at + p.len as usize;
+            }
+            Step::End => break Search::Done(Found::Nothing),
+            Step::Refused(e) => break Search::Refused(e),
+        }
     };
-    Search::Done(first_pair(list, id))
+    search
 }
 
 impl Found {

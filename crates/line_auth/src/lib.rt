@@ -3,6 +3,7 @@ ghost use mathlib.Core.Path.{_≡_};
 ghost use Prim.Native.Nat.{_+_, _≤_};
 ghost use lib.ListN.{length};
 ghost use Rattle.place.specs.Place.{Wrote};
+ghost use Rattle.place.specs.Written.{roomHolds};
 ghost use Rattle.word.specs.Words.{Room, micWord, kindWord};
 ghost use Rattle.line_auth.specs.Auth.{authNames, authLengths, authEnd, authText};
 ghost use Rattle.word.specs.Call.{lineAnswer, lineAfter};
@@ -43,14 +44,19 @@ fn kind_size(nt: u16) -> usize
     8
 }
 
-fn size(msg: &[u8], a: Authenticate, unicode: bool) -> usize
-    ensures { λ r. ⌜ r ≡ length (authText unicode (now (msg .entry)) a) ⌝ }
+// Check 33. A line with four bytes for each of its names' has room whatever they hold, and need not be measured: 25 for the
+// start, 20 for the labels, 6 for the MIC's word, 10 for the kind's and 1 for the line's end.
+fn fits(msg: &[u8], a: Authenticate, unicode: bool, room: usize) -> Checked
+    ensures { λ r. ⌜ r ≡ roomHolds (length (authText unicode (now (msg .entry)) a)) room ⌝ }
 {
     let f = a.fields;
-    let names = names_size(msg, f.domain, f.user, f.workstation, unicode);
     let lengths = lengths_size(f.lm.len, f.nt.len, f.key.len);
-    // 25 for the start, 6 for the MIC's word and 1 for the line's end
-    25 + names + lengths + 6 + kind_size(f.nt.len) + 1
+    let most = f.domain.len as usize + f.user.len as usize + f.workstation.len as usize;
+    if 62 + lengths + 4 * most <= room {
+        return Checked::Held;
+    }
+    let names = names_size(msg, f.domain, f.user, f.workstation, unicode);
+    room_holds(25 + names + lengths + 6 + kind_size(f.nt.len) + 1, room)
 }
 
 fn put_names(
@@ -127,7 +133,7 @@ pub fn write(out: &mut [u8], msg: &[u8], a: Authenticate, unicode: bool) -> Writ
     ensures answer { λ r. ⌜ r ≡ lineAnswer (authText unicode (now (msg .entry)) a) (now (out .entry)) ⌝ }
     ensures content { λ _. ⌜ now (out .exit) ≡ lineAfter (authText unicode (now (msg .entry)) a) (now (out .entry)) ⌝ }
 {
-    let Checked::Held = room_holds(size(msg, a, unicode), out.len()) else {
+    let Checked::Held = fits(msg, a, unicode, out.len()) else {
         return Written::Refused(Refusal::NoRoom);
     };
     let p = put(out, msg, a, unicode);

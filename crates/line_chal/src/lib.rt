@@ -3,6 +3,7 @@ ghost use mathlib.Core.Path.{_≡_};
 ghost use Prim.Native.Nat.{_+_, _≤_};
 ghost use lib.ListN.{length};
 ghost use Rattle.place.specs.Place.{Wrote};
+ghost use Rattle.place.specs.Written.{roomHolds};
 ghost use Rattle.word.specs.Words.{Room};
 ghost use Rattle.line_chal.specs.Chal.{timeText, timeWord, chalEnd, chalText};
 ghost use Rattle.word.specs.Call.{lineAnswer, lineAfter};
@@ -29,12 +30,24 @@ fn time_size(time: Timestamp) -> usize
     22
 }
 
-fn size(msg: &[u8], c: Challenge, unicode: bool, pairs: usize, time: Timestamp) -> usize
-    ensures { λ r. ⌜ r ≡ length (chalText unicode (now (msg .entry)) c pairs time) ⌝ }
+// Check 33. A line with four bytes for each of its name's has room whatever that holds, and need not be measured: 25 for the
+// start, 8 for the label, 22 for the time's word and 1 for the line's end.
+fn fits(
+    msg: &[u8],
+    c: Challenge,
+    unicode: bool,
+    pairs: usize,
+    time: Timestamp,
+    room: usize,
+) -> Checked
+    ensures { λ r. ⌜ r ≡ roomHolds (length (chalText unicode (now (msg .entry)) c pairs time)) room ⌝ }
 {
+    let count = number_word_size(b" pairs=", pairs);
+    if 56 + count + 4 * c.fields.target_name.len as usize <= room {
+        return Checked::Held;
+    }
     let target = name_word_size(b" target=", msg, c.fields.target_name, unicode);
-    // 25 for the start and 1 for the line's end
-    25 + target + number_word_size(b" pairs=", pairs) + time_size(time) + 1
+    room_holds(25 + target + count + time_size(time) + 1, room)
 }
 
 fn put_time_text(p: Place, out: &mut [u8], t: u64) -> Place
@@ -95,7 +108,7 @@ pub fn write(
     ensures answer { λ r. ⌜ r ≡ lineAnswer (chalText unicode (now (msg .entry)) c pairs time) (now (out .entry)) ⌝ }
     ensures content { λ _. ⌜ now (out .exit) ≡ lineAfter (chalText unicode (now (msg .entry)) c pairs time) (now (out .entry)) ⌝ }
 {
-    let Checked::Held = room_holds(size(msg, c, unicode, pairs, time), out.len()) else {
+    let Checked::Held = fits(msg, c, unicode, pairs, time, out.len()) else {
         return Written::Refused(Refusal::NoRoom);
     };
     let p = put(out, msg, c, unicode, pairs, time);

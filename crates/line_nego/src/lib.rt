@@ -3,6 +3,7 @@ ghost use mathlib.Core.Path.{_≡_};
 ghost use Prim.Native.Nat.{_≤_};
 ghost use lib.ListN.{length};
 ghost use Rattle.place.specs.Place.{Wrote};
+ghost use Rattle.place.specs.Written.{roomHolds};
 ghost use Rattle.word.specs.Words.{Room};
 ghost use Rattle.line_nego.specs.Nego.{negoNames, negoText};
 ghost use Rattle.word.specs.Call.{lineAnswer, lineAfter};
@@ -24,11 +25,16 @@ fn names_size(msg: &[u8], m: Negotiate) -> usize
         + name_word_size(b" work=", msg, f.workstation, false)
 }
 
-fn size(msg: &[u8], m: Negotiate) -> usize
-    ensures { λ r. ⌜ r ≡ length (negoText (now (msg .entry)) m) ⌝ }
+// Check 33. A line with four bytes for each of its names' has room whatever they hold, and need not be measured: 19 for the
+// start, 14 for the labels and 1 for the line's end.
+fn fits(msg: &[u8], m: Negotiate, room: usize) -> Checked
+    ensures { λ r. ⌜ r ≡ roomHolds (length (negoText (now (msg .entry)) m)) room ⌝ }
 {
-    // 19 for the start and 1 for the line's end
-    19 + names_size(msg, m) + 1
+    let f = m.fields;
+    if 34 + 4 * (f.domain.len as usize + f.workstation.len as usize) <= room {
+        return Checked::Held;
+    }
+    room_holds(19 + names_size(msg, m) + 1, room)
 }
 
 // The names' units are bytes, also where UNICODE is set.
@@ -56,7 +62,7 @@ pub fn write(out: &mut [u8], msg: &[u8], m: Negotiate) -> Written
     ensures answer { λ r. ⌜ r ≡ lineAnswer (negoText (now (msg .entry)) m) (now (out .entry)) ⌝ }
     ensures content { λ _. ⌜ now (out .exit) ≡ lineAfter (negoText (now (msg .entry)) m) (now (out .entry)) ⌝ }
 {
-    let Checked::Held = room_holds(size(msg, m), out.len()) else {
+    let Checked::Held = fits(msg, m, out.len()) else {
         return Written::Refused(Refusal::NoRoom);
     };
     let p = put(out, msg, m);

@@ -4,6 +4,7 @@ ghost use Prim.Native.Nat.{_+_, _*_, _≤_};
 ghost use lib.ListN.{length};
 ghost use Rattle.field.specs.Field.{fieldBytes};
 ghost use Rattle.place.specs.Place.{Wrote};
+ghost use Rattle.place.specs.Written.{roomHolds};
 ghost use Rattle.word.specs.Words.{Room, stringWord};
 ghost use Rattle.line_nl.specs.Nl.{nlStart, nlOem, nlUtf8, givenBy, nlText};
 ghost use Rattle.word.specs.Call.{lineAnswer, lineAfter};
@@ -73,6 +74,15 @@ fn utf8_size(
         + (string_size(b" d=", msg, d, dns_host) + string_size(b" e=", msg, e, utf8_computer))
 }
 
+// Four bytes for each of the strings'.
+fn most(m: NlAuth) -> usize
+    ensures { λ r. ⌜ (r ≡ 4 * (m .strings .«nb_domain» .len + m .strings .«nb_computer» .len + m .strings .«dns_domain» .len + m .strings .«dns_host» .len + m .strings .«utf8_computer» .len)) × (r ≤ 1400000) ⌝ }
+{
+    let s = m.strings;
+    let oem = s.nb_domain.len as usize + s.nb_computer.len as usize;
+    4 * (oem + s.dns_domain.len as usize + s.dns_host.len as usize + s.utf8_computer.len as usize)
+}
+
 fn size(msg: &[u8], m: NlAuth, given: Given) -> usize
     ensures { λ r. ⌜ r ≡ length (nlText given (now (msg .entry)) m) ⌝ }
 {
@@ -89,6 +99,17 @@ fn size(msg: &[u8], m: NlAuth, given: Given) -> usize
     );
     // 15 for the flags' word and 1 for the line's end
     number_word_size(b"nl type=", m.message_type as usize) + 15 + oem + utf8 + 1
+}
+
+// Check 33. A line with four bytes for each of its strings' has room whatever they hold, and need not be measured: 15 for the
+// flags' word, 15 for the labels and 1 for the line's end.
+fn fits(msg: &[u8], m: NlAuth, given: Given, room: usize) -> Checked
+    ensures { λ r. ⌜ r ≡ roomHolds (length (nlText given (now (msg .entry)) m)) room ⌝ }
+{
+    if number_word_size(b"nl type=", m.message_type as usize) + 31 + most(m) <= room {
+        return Checked::Held;
+    }
+    room_holds(size(msg, m, given), room)
 }
 
 fn put_start(out: &mut [u8], message_type: u32, bits: u32) -> Place
@@ -178,7 +199,7 @@ pub fn write(out: &mut [u8], msg: &[u8], m: NlAuth, given: Given) -> Written
     ensures answer { λ r. ⌜ r ≡ lineAnswer (nlText given (now (msg .entry)) m) (now (out .entry)) ⌝ }
     ensures content { λ _. ⌜ now (out .exit) ≡ lineAfter (nlText given (now (msg .entry)) m) (now (out .entry)) ⌝ }
 {
-    let Checked::Held = room_holds(size(msg, m, given), out.len()) else {
+    let Checked::Held = fits(msg, m, given, out.len()) else {
         return Written::Refused(Refusal::NoRoom);
     };
     let p = put(out, msg, m, given);

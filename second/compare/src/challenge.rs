@@ -234,24 +234,12 @@ pub fn boundaries(random: &mut Random) -> Vec<Vec<u8>> {
     messages
 }
 
-/// Types beside 2, in the shortest messages in which the type decides too.
+/// Types beside 2.
 fn types(random: &mut Random, messages: &mut Vec<Vec<u8>>) {
     for number in [0_u32, 1, 3, 0x102, 0x2_0000, 0x200_0000, u32::MAX] {
         let mut message = Challenge::usual(random, UNICODE | BOTH_FIELDS).bytes();
         message[8..12].copy_from_slice(&number.to_le_bytes());
         messages.push(message);
-    }
-    for len in [11, 12, 13, 47, 48, 63, 64] {
-        for number in [2_u32, 3] {
-            let mut message = vec![0; len.max(12)];
-            message[..8].copy_from_slice(&SIGNATURE);
-            message[8..12].copy_from_slice(&number.to_le_bytes());
-            message.truncate(len);
-            messages.push(message.clone());
-            // The signature is looked at by the reader that the type chose.
-            message[0] ^= 0x20;
-            messages.push(message);
-        }
     }
 }
 

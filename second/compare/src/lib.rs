@@ -50,6 +50,7 @@ pub fn cases(seed: u64, drawn: usize) -> Vec<Case> {
     add(Program::Ntlm, authenticate::boundaries(random));
     add(Program::Ntlm, challenge::boundaries(random));
     add(Program::Ntlm, negotiate::boundaries(random));
+    add(Program::Ntlm, wire::short_of_each_type());
     add(Program::NlAuth, nl_auth::boundaries(random));
     for _ in 0..drawn {
         cases.push(drawn_case(random));

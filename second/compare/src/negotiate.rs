@@ -88,26 +88,13 @@ pub fn boundaries(random: &mut Random) -> Vec<Vec<u8>> {
     messages
 }
 
-/// Types beside 1, in the shortest messages in which the type decides too.
+/// Types beside 1.
 fn types(random: &mut Random, messages: &mut Vec<Vec<u8>>) {
     for number in [0_u32, 2, 3, 0x101, 0x1_0000, 0x100_0000, u32::MAX] {
         let mut message = Negotiate::usual(random, UNICODE | BOTH_NAMES).bytes();
         message.resize(100, 0);
         message[8..12].copy_from_slice(&number.to_le_bytes());
         messages.push(message);
-    }
-    for len in [11, 12, 13, 31, 32, 33, 47, 48, 63, 64] {
-        for number in [1_u32, 2, 3] {
-            let mut message = vec![0; len.max(20)];
-            message[..8].copy_from_slice(&SIGNATURE);
-            message[8..12].copy_from_slice(&number.to_le_bytes());
-            message[12] = 1;
-            message.truncate(len);
-            messages.push(message.clone());
-            // The signature is looked at by the reader that the type chose.
-            message[0] ^= 0x20;
-            messages.push(message);
-        }
     }
 }
 

@@ -112,6 +112,27 @@ pub fn offsets(len: u16, total: usize) -> Vec<u32> {
     offsets
 }
 
+/// Messages of each type around the lengths of the fixed parts, the shortest
+/// in which the type decides among them.
+pub fn short_of_each_type() -> Vec<Vec<u8>> {
+    let mut messages = Vec::new();
+    for len in [11, 12, 13, 31, 32, 33, 47, 48, 63, 64] {
+        for number in [1_u32, 2, 3] {
+            let mut message = vec![0; len.max(20)];
+            message[..8].copy_from_slice(&SIGNATURE);
+            message[8..12].copy_from_slice(&number.to_le_bytes());
+            // UNICODE, for a NEGOTIATE.
+            message[12] = 1;
+            message.truncate(len);
+            messages.push(message.clone());
+            // The signature is looked at by the reader that the type chose.
+            message[0] ^= 0x20;
+            messages.push(message);
+        }
+    }
+    messages
+}
+
 /// Each length that a message can be cut off at, and a few bytes more.
 pub fn cut_off(random: &mut Random, message: &[u8]) -> Vec<Vec<u8>> {
     let longer = (1..=3).map(|more| [message, &random.bytes(more)].concat());
