@@ -12,9 +12,9 @@ use borrow.Author.Tests.{eqb-true, eqb-false, leb-true}
 use Rattle.wire.specs.declared.check.Checked.the-variants.{Held}
 use Rattle.wire.specs.declared.check.Verdict.the-variants.{Clear}
 use Rattle.wire.specs.declared.refusal.Refusal.the-variants.{NoCharset, TooLongToWrite, NoRoom}
-use Rattle.wire.specs.Number.{u32At, has, withBit}
+use Rattle.wire.specs.Number.{u32At, withBit}
 use Rattle.wire.proofs.Laws.{held-true}
-use Rattle.wire.proofs.Bits.{within}
+use Rattle.wire.proofs.Bits.{one-bit}
 use Rattle.field.specs.declared.Field.{Field}
 use Rattle.field.specs.Field.{headAt}
 use Rattle.negotiate_flags.specs.declared.NegotiateFlags.{NegotiateFlags}
@@ -45,48 +45,6 @@ use Rattle.demands.proofs.Negotiate.{negotiate-taken, negotiate-own}
 
 -- ---- the two bits
 
--- one bit, those below it and those above it
-record OneBit (n z below above at : ℕ) : Type 0 where
-  low : z % below ≡ n % below
-  high : z / above ≡ n / above
-  bit : z / below % 2 ≡ at
-
-domain-bit : (n : ℕ) (on : Bool) → OneBit n (withBit n 0x1000 on) 0x1000 0x2000 (cond on 1 0)
-domain-bit n on = go (has n 0x1000) refl on where
-  go : (t : Bool) → has n 0x1000 ≡ t → (on : Bool) → OneBit n (withBit n 0x1000 on) 0x1000 0x2000 (cond on 1 0)
-  go true p true =
-      let l = within n 0x1000 _ refl p in
-      let o = eqb-true (n / 0x1000 % 2) 1 p in
-      simp p (record { low = omega arith; high = omega arith; bit = omega arith })
-  go true p false =
-      let l = within n 0x1000 _ refl p in
-      let o = eqb-true (n / 0x1000 % 2) 1 p in
-      simp p (record { low = omega arith; high = omega arith; bit = omega arith })
-  go false p true =
-      let o = eqb-false (n / 0x1000 % 2) 1 p in
-      simp p (record { low = omega (arith, o); high = omega (arith, o); bit = omega (arith, o) })
-  go false p false =
-      let o = eqb-false (n / 0x1000 % 2) 1 p in
-      simp p (record { low = omega (arith, o); high = omega (arith, o); bit = omega (arith, o) })
-
-workstation-bit : (n : ℕ) (on : Bool) → OneBit n (withBit n 0x2000 on) 0x2000 0x4000 (cond on 1 0)
-workstation-bit n on = go (has n 0x2000) refl on where
-  go : (t : Bool) → has n 0x2000 ≡ t → (on : Bool) → OneBit n (withBit n 0x2000 on) 0x2000 0x4000 (cond on 1 0)
-  go true p true =
-      let l = within n 0x2000 _ refl p in
-      let o = eqb-true (n / 0x2000 % 2) 1 p in
-      simp p (record { low = omega arith; high = omega arith; bit = omega arith })
-  go true p false =
-      let l = within n 0x2000 _ refl p in
-      let o = eqb-true (n / 0x2000 % 2) 1 p in
-      simp p (record { low = omega arith; high = omega arith; bit = omega arith })
-  go false p true =
-      let o = eqb-false (n / 0x2000 % 2) 1 p in
-      simp p (record { low = omega (arith, o); high = omega (arith, o); bit = omega (arith, o) })
-  go false p false =
-      let o = eqb-false (n / 0x2000 % 2) 1 p in
-      simp p (record { low = omega (arith, o); high = omega (arith, o); bit = omega (arith, o) })
-
 -- both, as the names make them
 record BothBits (n z : ℕ) (domain workstation : List ℕ) : Type 0 where
   low : z % 0x1000 ≡ n % 0x1000
@@ -98,14 +56,20 @@ both-bits : (w : NegotiateFlags) (domain workstation : List ℕ) → BothBits (w
 unfolding flagsToWrite
 both-bits w domain workstation =
     let n = withBit (w .bits) 0x1000 (nonempty domain) in
-    let a = domain-bit (w .bits) (nonempty domain) in
-    let b = workstation-bit n (nonempty workstation) in
+    let a = one-bit (w .bits) 0x1000 (nonempty domain) (omega arith) in
+    let b = one-bit n 0x2000 (nonempty workstation) (omega arith) in
+    let d = one-or-none (nonempty domain) in
+    let k = one-or-none (nonempty workstation) in
     record {
-      low = omega (arith, a .low, b .low);
-      high = omega (arith, a .high, b .high);
-      domain-bit = omega (arith, a .bit, b .low);
-      workstation-bit = b .bit;
+      low = omega (arith, a .left, b .left);
+      high = omega (arith, a .times, b .times, d, k);
+      domain-bit = omega (arith, a .times, b .left, d);
+      workstation-bit = omega (arith, b .times, k);
     }
+  where
+    one-or-none : (on : Bool) → cond on 1 0 ≤ 1
+    one-or-none true = omega arith
+    one-or-none false = omega arith
 
 -- a name's bit is set exactly where it has bytes
 bit-is : (x : List ℕ) (b : ℕ) → b ≡ cond (nonempty x) 1 0 → (b ≡ 1) ↔ (0 < length x)
