@@ -22,7 +22,7 @@ use Rattle.authenticate.specs.declared.Answer.{Answer}
 
 -- a fixed part of 64 bytes (house), type 3, flags at 60
 abbrev pub layout : Layout
-layout = record { fixed = 64; kind = 3; flags = 60 }
+layout = record { fixed = 64; «message_type» = 3; flags = 60 }
 
 -- the heads at 12, 20, 28, 36, 44 and 52; the session key counts only with KEY_EXCH
 unfoldable pub fieldsAt : List ℕ → NegotiateFlags → Fields

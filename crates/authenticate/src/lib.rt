@@ -256,7 +256,7 @@ fn reading_of(msg: &[u8]) -> Reading
         msg,
         Layout {
             fixed: 64,
-            kind: 3,
+            message_type: 3,
             flags: 60,
         },
     );

@@ -1,9 +1,12 @@
 -- What a reader looks at is not ignored, for every kind of message whose parts lie apart.
-use Prim.Native.Nat.{ℕ, _+_, _≤_, _<_}
-use mathlib.Core.Path.{_≡_, subst}
+use Prim.Native.Nat.{ℕ, _+_, _*_, _≤_, _<_}
+use mathlib.Core.Path.{_≡_, refl, subst}
 use mathlib.Core.Logic.{_⊎_, inl, inr, ⊎-elim}
+use mathlib.Core.Bool.{Bool, true, false}
 use mathlib.Core.List.{List}
 use native.Mathlib.Omega.{arith}
+use lib.Dec.{ltb}
+use borrow.Author.Tests.{ltb-true, ltb-false}
 use Rattle.demands.specs.Message.{Kind, lenOf, Counts, Nonempty, Covers, MicThere, Ignored, max-len, uncounted-head, empty-offset, unused, uncovered}
 use Rattle.demands.proofs.Unchanged.{Seen}
 
@@ -17,6 +20,14 @@ pub record Apart (k : Kind) : Type 0 where
   pub unused : (p : ℕ) → k .Unused p →
       (12 ≤ p) × (p < k .fixed) × ((p < k .flags) ⊎ (k .flags + 4 ≤ p))
       × ((i : ℕ) → 1 ≤ i → i ≤ k .last → (p < k .head i) ⊎ (k .head i + 8 ≤ p))
+
+-- heads that stand one after the other, eight bytes each
+pub spaced : (from i j : ℕ) → (i ≡ j) ⊎ ((from + 8 * i + 8 ≤ from + 8 * j) ⊎ (from + 8 * j + 8 ≤ from + 8 * i))
+spaced from i j = go (ltb i j) (ltb j i) refl refl where
+  go : (x y : Bool) → ltb i j ≡ x → ltb j i ≡ y → (i ≡ j) ⊎ ((from + 8 * i + 8 ≤ from + 8 * j) ⊎ (from + 8 * j + 8 ≤ from + 8 * i))
+  go true y p q = inr (inl (omega (arith, ltb-true i j p)))
+  go false true p q = inr (inr (omega (arith, ltb-true j i q)))
+  go false false p q = inl (omega (arith, ltb-false i j p, ltb-false j i q))
 
 -- why a byte of a head is ignored: MaxLen, a field that doesn't count, or the offset of an empty one
 abbrev HeadIgnored : Kind → List ℕ → ℕ → ℕ → Type 0

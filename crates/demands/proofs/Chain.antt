@@ -32,7 +32,7 @@ use Rattle.demands.proofs.Order.{Free, first, next-field, next-check}
 use Rattle.demands.proofs.Bools.{true-not-false, both-ways, failed-false}
 
 abbrev pub layoutOf : Kind → Layout
-layoutOf k = record { fixed = k .fixed; kind = k .number; flags = k .flags }
+layoutOf k = record { fixed = k .fixed; «message_type» = k .number; flags = k .flags }
 
 -- a chain of checks, a check at a time
 pub chained : {A : Type 0} (P : A → Type 0) (c : Checked) (e x : A) → (c ≡ Failed → P e) → (c ≡ Held → P x) → P (after c e x)

@@ -1,13 +1,12 @@
 -- MaxLen and ignored bytes change nothing.
-use Prim.Native.Nat.{ℕ, _+_, _*_, _≤_, _<_}
+use Prim.Native.Nat.{ℕ, _≤_, _<_}
 use mathlib.Core.Path.{_≡_, refl, ap, _∙_}
-use mathlib.Core.Logic.{_⊎_, inl, inr, ⊎-elim}
+use mathlib.Core.Logic.{_⊎_, inr, ⊎-elim}
 use mathlib.Core.Bool.{Bool, true, false, cond}
 use mathlib.Core.List.{List}
 use native.Mathlib.Omega.{arith}
-use lib.Dec.{ltb}
 use lib.ListN.{length, take, drop, replicate}
-use borrow.Author.Tests.{eqb-true, ltb-true, ltb-false}
+use borrow.Author.Tests.{eqb-true}
 use Rattle.negotiate_flags.specs.declared.NegotiateFlags.{NegotiateFlags}
 use Rattle.head.specs.declared.Head.{Head}
 use Rattle.head.specs.declared.Head.the-variants.{Flags, Refused as Stopped}
@@ -22,7 +21,7 @@ use Rattle.demands.specs.Message.{authenticate, MicThere, Fails, Ignored
 use Rattle.demands.specs.Ignored.{SameBytes, AuthenticateIgnored}
 use Rattle.demands.proofs.Alike.{same-part}
 use Rattle.demands.proofs.Chain.{JudgedH, head-judged}
-use Rattle.demands.proofs.Apart.{Apart, lies, seen as apart-seen}
+use Rattle.demands.proofs.Apart.{Apart, spaced, lies, seen as apart-seen}
 use Rattle.demands.proofs.Unchanged.{Seen}
 use Rattle.demands.proofs.Unchanged as same
 use Rattle.demands.proofs.TakenExactly.{six}
@@ -35,14 +34,9 @@ apart =
       flags = (omega arith, omega arith);
       heads = λ i a b. (omega arith, omega arith);
       from-flags = λ i a b. inr (omega arith);
-      from-heads = λ i j a b c d. by i j (ltb i j) (ltb j i) refl refl;
+      from-heads = λ i j a b c d. spaced 4 i j;
       unused = λ p u. absurd u;
     }
-  where
-    by : (i j : ℕ) (x y : Bool) → ltb i j ≡ x → ltb j i ≡ y → (i ≡ j) ⊎ ((4 + 8 * i + 8 ≤ 4 + 8 * j) ⊎ (4 + 8 * j + 8 ≤ 4 + 8 * i))
-    by i j true y p q = inr (inl (omega (arith, ltb-true i j p)))
-    by i j false true p q = inr (inr (omega (arith, ltb-true j i q)))
-    by i j false false p q = inl (omega (arith, ltb-false i j p, ltb-false j i q))
 
 pub seen : (s : List ℕ) → Seen authenticate s
 seen s = apart-seen authenticate apart s

@@ -1,14 +1,12 @@
 -- NEGOTIATE is taken exactly when every check holds, and refused by the first that fails; its names are its own; MaxLen and
 -- ignored bytes change nothing.
-use Prim.Native.Nat.{ℕ, _+_, _*_, _≤_}
+use Prim.Native.Nat.{ℕ}
 use mathlib.Core.Path.{_≡_, refl, sym, ap, _∙_, subst}
-use mathlib.Core.Logic.{_⊎_, inl, inr, _↔_}
-use mathlib.Core.Bool.{Bool, true, false}
+use mathlib.Core.Logic.{inl, _↔_}
 use mathlib.Core.List.{List}
 use native.Mathlib.Omega.{arith}
-use lib.Dec.{ltb}
 use lib.ListN.{length}
-use borrow.Author.Tests.{eqb-true, eqb-false, ltb-true, ltb-false}
+use borrow.Author.Tests.{eqb-true, eqb-false}
 use Rattle.wire.specs.declared.check.Verdict.{Verdict}
 use Rattle.wire.specs.declared.check.Verdict.the-variants.{Clear, Refused as Not}
 use Rattle.wire.specs.Check.{onClear}
@@ -35,7 +33,7 @@ use Rattle.demands.proofs.Message as fields
 use Rattle.demands.proofs.Fields.{AllStand, ends-judged, begins-judged}
 use Rattle.demands.proofs.Chain.{JudgedV, JudgedH, head-judged, then, beyond}
 use Rattle.demands.proofs.OwnBytes.{own-field}
-use Rattle.demands.proofs.Apart.{Apart, seen}
+use Rattle.demands.proofs.Apart.{Apart, spaced, seen}
 use Rattle.demands.proofs.Unchanged as same
 
 module _ (s : List ℕ) where
@@ -129,14 +127,9 @@ apart =
       flags = (omega arith, omega arith);
       heads = λ i a b. (omega arith, omega arith);
       from-flags = λ i a b. inl (omega arith);
-      from-heads = λ i j a b c d. by i j (ltb i j) (ltb j i) refl refl;
+      from-heads = λ i j a b c d. spaced 8 i j;
       unused = λ p u. absurd u;
     }
-  where
-    by : (i j : ℕ) (x y : Bool) → ltb i j ≡ x → ltb j i ≡ y → (i ≡ j) ⊎ ((8 + 8 * i + 8 ≤ 8 + 8 * j) ⊎ (8 + 8 * j + 8 ≤ 8 + 8 * i))
-    by i j true y p q = inr (inl (omega (arith, ltb-true i j p)))
-    by i j false true p q = inr (inr (omega (arith, ltb-true j i q)))
-    by i j false false p q = inl (omega (arith, ltb-false i j p, ltb-false j i q))
 
 module _ (a b : List ℕ) (d : DifferInIgnored negotiate a b) where
   fields-same : fieldsAt a (flagsAt a 12) ≡ fieldsAt b (flagsAt a 12)

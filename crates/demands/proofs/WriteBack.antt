@@ -1,12 +1,12 @@
 -- What AUTHENTICATE's writer writes, byte by byte.
 use Prim.Native.Nat.{ℕ, _+_, _-_, _/_, _%_, _≤_, _<_}
 use mathlib.Core.Path.{_≡_, refl, sym, ap, _∙_, subst}
-use mathlib.Core.Bool.{Bool, true, false, _||_, _&&_, not, cond}
+use mathlib.Core.Bool.{Bool, true, false, _||_, _&&_, not}
 use mathlib.Core.Logic.{_⊎_, inl, inr, ⊎-elim}
 use mathlib.Core.List.{List, [], _∷_, _++_, append-assoc}
 use native.Mathlib.Omega.{arith}
 use lib.Dec.{eqb, ltb}
-use lib.ListN.{List·getD-append, List·getD-eq-default, getD, length, take, drop, replicate, length-append}
+use lib.ListN.{List·getD-append, List·getD-eq-default, getD, length, take, drop, length-append}
 use lib.Seq.{take-at, drop-at, getD-append-add}
 use borrow.Author.Tests.{eqb-true, eqb-false, eq-eqb, leb-true, ltb-true, ltb-false}
 use Rattle.field.specs.declared.Field.{Field}
@@ -15,8 +15,8 @@ use Rattle.wire.specs.declared.check.Verdict.the-variants.{Clear}
 use Rattle.wire.proofs.Laws.{held-true}
 use Rattle.negotiate_flags.specs.declared.NegotiateFlags.{NegotiateFlags}
 use Rattle.wire.specs.declared.refusal.Refusal.the-variants.{NoCharset, OddNameToWrite, WrongKey, TooLongToWrite}
-use Rattle.field.specs.Field.{headAt, fieldBytes}
-use Rattle.negotiate_flags.specs.Flags.{unicode, oem, keyExch, version, charsetHolds}
+use Rattle.field.specs.Field.{headAt}
+use Rattle.negotiate_flags.specs.Flags.{unicode, oem, keyExch, charsetHolds}
 use Rattle.head.specs.Head.{signature}
 use Rattle.wire.specs.Number.{u32At}
 use Rattle.wire.proofs.Bools.{and-right}

@@ -44,8 +44,8 @@ fn kind_size(nt: u16) -> usize
     8
 }
 
-// Check 33. A line with four bytes for each of its names' has room whatever they hold, and need not be measured: 25 for the
-// start, 20 for the labels, 6 for the MIC's word, 10 for the kind's and 1 for the line's end.
+// Check 33. Where there is room for four bytes to each byte of the names, the line has room whatever they hold and need not be
+// measured: 25 for the start, 20 for the labels, 6 for the MIC's word, 10 for the kind's and 1 for the line's end.
 fn fits(msg: &[u8], a: Authenticate, unicode: bool, room: usize) -> Checked
     ensures { λ r. ⌜ r ≡ roomHolds (length (authText unicode (now (msg .entry)) a)) room ⌝ }
 {

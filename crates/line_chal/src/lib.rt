@@ -30,8 +30,8 @@ fn time_size(time: Timestamp) -> usize
     22
 }
 
-// Check 33. A line with four bytes for each of its name's has room whatever that holds, and need not be measured: 25 for the
-// start, 8 for the label, 22 for the time's word and 1 for the line's end.
+// Check 33. Where there is room for four bytes to each byte of the name, the line has room whatever it holds and need not be
+// measured: 25 for the start, 8 for the label, 22 for the time's word and 1 for the line's end.
 fn fits(
     msg: &[u8],
     c: Challenge,

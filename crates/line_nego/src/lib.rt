@@ -25,8 +25,8 @@ fn names_size(msg: &[u8], m: Negotiate) -> usize
         + name_word_size(b" work=", msg, f.workstation, false)
 }
 
-// Check 33. A line with four bytes for each of its names' has room whatever they hold, and need not be measured: 19 for the
-// start, 14 for the labels and 1 for the line's end.
+// Check 33. Where there is room for four bytes to each byte of the names, the line has room whatever they hold and need not be
+// measured: 19 for the start, 14 for the labels and 1 for the line's end.
 fn fits(msg: &[u8], m: Negotiate, room: usize) -> Checked
     ensures { λ r. ⌜ r ≡ roomHolds (length (negoText (now (msg .entry)) m)) room ⌝ }
 {

@@ -74,7 +74,7 @@ fn utf8_size(
         + (string_size(b" d=", msg, d, dns_host) + string_size(b" e=", msg, e, utf8_computer))
 }
 
-// Four bytes for each of the strings'.
+// Four bytes to each byte of the strings.
 fn most(m: NlAuth) -> usize
     ensures { λ r. ⌜ (r ≡ 4 * (m .strings .«nb_domain» .len + m .strings .«nb_computer» .len + m .strings .«dns_domain» .len + m .strings .«dns_host» .len + m .strings .«utf8_computer» .len)) × (r ≤ 1400000) ⌝ }
 {
@@ -101,8 +101,8 @@ fn size(msg: &[u8], m: NlAuth, given: Given) -> usize
     number_word_size(b"nl type=", m.message_type as usize) + 15 + oem + utf8 + 1
 }
 
-// Check 33. A line with four bytes for each of its strings' has room whatever they hold, and need not be measured: 15 for the
-// flags' word, 15 for the labels and 1 for the line's end.
+// Check 33. Where there is room for four bytes to each byte of the strings, the line has room whatever they hold and need not be
+// measured: 15 for the flags' word, 15 for the labels and 1 for the line's end.
 fn fits(msg: &[u8], m: NlAuth, given: Given, room: usize) -> Checked
     ensures { λ r. ⌜ r ≡ roomHolds (length (nlText given (now (msg .entry)) m)) room ⌝ }
 {

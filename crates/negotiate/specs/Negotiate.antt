@@ -19,7 +19,7 @@ use Rattle.negotiate.specs.declared.Reading.the-variants.{Taken, Refused
 
 -- a fixed part of 32 bytes (house), type 1, flags at 12
 abbrev pub layout : Layout
-layout = record { fixed = 32; kind = 1; flags = 12 }
+layout = record { fixed = 32; «message_type» = 1; flags = 12 }
 
 -- the heads at 16 and 24; the domain counts only with OEM_DOMAIN_SUPPLIED, the workstation only with OEM_WORKSTATION_SUPPLIED
 unfoldable pub fieldsAt : List ℕ → NegotiateFlags → Fields

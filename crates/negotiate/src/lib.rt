@@ -84,7 +84,7 @@ pub fn read(msg: &[u8]) -> Reading
         msg,
         Layout {
             fixed: 32,
-            kind: 1,
+            message_type: 1,
             flags: 12,
         },
     );

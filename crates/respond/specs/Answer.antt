@@ -2,7 +2,7 @@
 use Prim.Native.Nat.{ℕ}
 use mathlib.Core.Bool.{Bool, true, false, _||_, _&&_, cond}
 use mathlib.Core.List.{List, []}
-use lib.ListN.{length, replicate}
+use lib.ListN.{replicate}
 use Rattle.negotiate_flags.specs.declared.NegotiateFlags.{NegotiateFlags}
 use Rattle.negotiate_flags.specs.Flags.{sign, seal, keyExch}
 use Rattle.place.specs.declared.written.Written.{Written}
