@@ -8,28 +8,15 @@ use lib.Dec.{eqb}
 use lib.ListN.{length, take}
 use lib.Seq.{sets}
 use Rattle.text.specs.Text.{ascii}
-use Rattle.field.specs.Field.{fieldAt, fieldBytes}
-use Rattle.head.specs.Head.{signatureHolds, readHead, kindOf}
 use Rattle.wire.specs.Number.{standsAt}
 use Rattle.wire.specs.Refusal.{numberOf, fieldOf}
-use Rattle.challenge.specs.Challenge.{readChallenge, readingOf as challengeReadingOf, fieldsOf}
-use Rattle.word.specs.Digits.{hexDigit, hex, decimalSize, decimal}
-use Rattle.word.specs.Name.{escape, unitText, textOf, nameText}
-use Rattle.word.specs.Words.{numberWord, nameWord, stringWord, flagsWord, setWord, startText, micWord, kindWord}
-use Rattle.line_chal.specs.Chal.{timeText, timeWord}
-use Rattle.line_refused.specs.Refused.{refusedText, refusedLine}
-use Rattle.line_auth.specs.Auth.{authNames, authLengths, authEnd, authText}
-use Rattle.line.specs.Line.{authenticateLine, nlAuthLine, challengeLine, ntlmLine, shownLine}
-use Rattle.line_nl.specs.Nl.{nlStart, nlOem, nlUtf8, nlText}
-use Rattle.line_chal.specs.Chal.{chalEnd, chalText}
-use Rattle.word.specs.Call.{lineAnswer, lineAfter}
-use Rattle.nl_auth.specs.NlAuth.{readNlAuth, readRequest, readUtf8, readResponse, stringUnder, stringAt}
+use Rattle.line.specs.Line.{nlAuthLine, ntlmLine}
 use Rattle.av_pairs.specs.declared.Count.{Count}
 use Rattle.av_pairs.specs.declared.Count.the-variants.{Pairs, Refused as Uncounted}
-use Rattle.av_pairs.specs.AvPairs.{countPairs, checkPairs, pairsOf, stepAt, pairOf, left}
+use Rattle.av_pairs.specs.AvPairs.{countPairs}
 use Rattle.authenticate.specs.declared.Reading.{Reading}
 use Rattle.authenticate.specs.declared.Reading.the-variants.{Taken, Refused}
-use Rattle.authenticate.specs.Authenticate.{fieldsAt, checkEnds, checkBegins, checkNames, checkShared, checkFields, micPresent, readingOf, readAuthenticate}
+use Rattle.authenticate.specs.Authenticate.{readAuthenticate}
 
 -- what reading gives: taken, with a MIC or without, or refused with a number and a field
 pub data Expected : Type 0 where
@@ -70,7 +57,6 @@ abbrev prints : List ℕ → String → Bool
 prints line text = eqb (length line) (length (ascii text) + 1) && standsAt line 0 (ascii text ++ (0x0A ∷ []))
 
 abbrev pub holds : Case → Bool
-unfolding readAuthenticate readingOf readHead signatureHolds fieldsAt fieldAt checkFields checkEnds checkBegins checkNames checkShared micPresent countPairs checkPairs pairsOf stepAt pairOf left readNlAuth readRequest readUtf8 readResponse stringUnder stringAt fieldBytes readChallenge challengeReadingOf fieldsOf hexDigit hex decimalSize decimal escape unitText textOf nameText numberWord nameWord stringWord flagsWord setWord startText micWord kindWord timeText timeWord refusedText refusedLine authNames authLengths authEnd authText authenticateLine nlStart nlOem nlUtf8 nlText nlAuthLine chalEnd chalText challengeLine kindOf ntlmLine lineAnswer lineAfter shownLine
 holds (authenticate s expected) = gives (readAuthenticate s .reading) expected
 holds (pairs s n) = counts (countPairs s) n
 holds (pairsRefused s n) = refuses (countPairs s) n
@@ -78,7 +64,6 @@ holds (ntlm s text) = prints (ntlmLine s) text
 holds (nl s text) = prints (nlAuthLine s) text
 
 abbrev pub allHold : List Case → Bool
-unfolding readAuthenticate readingOf readHead signatureHolds fieldsAt fieldAt checkFields checkEnds checkBegins checkNames checkShared micPresent countPairs checkPairs pairsOf stepAt pairOf left readNlAuth readRequest readUtf8 readResponse stringUnder stringAt fieldBytes readChallenge challengeReadingOf fieldsOf hexDigit hex decimalSize decimal escape unitText textOf nameText numberWord nameWord stringWord flagsWord setWord startText micWord kindWord timeText timeWord refusedText refusedLine authNames authLengths authEnd authText authenticateLine nlStart nlOem nlUtf8 nlText nlAuthLine chalEnd chalText challengeLine kindOf ntlmLine lineAnswer lineAfter shownLine
 allHold [] = true
 allHold (c ∷ cs) = holds c && allHold cs
 
