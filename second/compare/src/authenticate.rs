@@ -3,8 +3,8 @@
 use crate::names::{name, name_of_width, Set, EDGES, UNIT_EDGES};
 use crate::random::Random;
 use crate::wire::{
-    byte_by_byte, cut_off, damage, offsets, set_of, Head, FIELD_LENGTHS, FLAG_SETS, KEY_EXCH, LONG,
-    LONG_LINES, MAX_MESSAGE, OEM, SIGNATURE, UNICODE,
+    cut_or_changed, damage, offsets, set_of, set_type, Head, FIELD_LENGTHS, FLAG_SETS, KEY_EXCH,
+    LONG, LONG_LINES, MAX_MESSAGE, OEM, SIGNATURE, UNICODE,
 };
 
 const FIXED: usize = 64;
@@ -91,8 +91,7 @@ pub fn boundaries(random: &mut Random) -> Vec<Vec<u8>> {
     let mut messages = Vec::new();
     for flags in [UNICODE | KEY_EXCH, OEM] {
         let message = Authenticate::usual(random, flags).bytes();
-        messages.extend(cut_off(random, &message));
-        messages.extend(byte_by_byte(random, &message, 0, FIXED));
+        messages.extend(cut_or_changed(random, &message, FIXED));
     }
     types(random, &mut messages);
     flag_bits(random, &mut messages);
@@ -111,7 +110,7 @@ pub fn boundaries(random: &mut Random) -> Vec<Vec<u8>> {
 fn types(random: &mut Random, messages: &mut Vec<Vec<u8>>) {
     for number in [0_u32, 1, 2, 4, 0x103, 0x3_0000, 0x300_0000, u32::MAX] {
         let mut message = Authenticate::usual(random, UNICODE).bytes();
-        message[8..12].copy_from_slice(&number.to_le_bytes());
+        set_type(&mut message, number);
         messages.push(message);
     }
 }

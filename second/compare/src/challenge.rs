@@ -3,7 +3,7 @@
 use crate::names::{name, name_of_width, Set, EDGES, UNIT_EDGES};
 use crate::random::Random;
 use crate::wire::{
-    byte_by_byte, cut_off, damage, offsets, set_of, Head, FIELD_LENGTHS, FLAG_SETS, LONG,
+    cut_or_changed, damage, offsets, set_of, set_type, Head, FIELD_LENGTHS, FLAG_SETS, LONG,
     LONG_LINES, MAX_MESSAGE, OEM, REQUEST_TARGET, SIGNATURE, TARGET_INFO, UNICODE,
 };
 
@@ -219,8 +219,7 @@ pub fn boundaries(random: &mut Random) -> Vec<Vec<u8>> {
     let mut messages = Vec::new();
     for flags in [UNICODE | BOTH_FIELDS, OEM | BOTH_FIELDS] {
         let message = Challenge::usual(random, flags).bytes();
-        messages.extend(cut_off(random, &message));
-        messages.extend(byte_by_byte(random, &message, 0, FIXED));
+        messages.extend(cut_or_changed(random, &message, FIXED));
     }
     types(random, &mut messages);
     flag_bits(random, &mut messages);
@@ -238,7 +237,7 @@ pub fn boundaries(random: &mut Random) -> Vec<Vec<u8>> {
 fn types(random: &mut Random, messages: &mut Vec<Vec<u8>>) {
     for number in [0_u32, 1, 3, 0x102, 0x2_0000, 0x200_0000, u32::MAX] {
         let mut message = Challenge::usual(random, UNICODE | BOTH_FIELDS).bytes();
-        message[8..12].copy_from_slice(&number.to_le_bytes());
+        set_type(&mut message, number);
         messages.push(message);
     }
 }

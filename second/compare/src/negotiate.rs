@@ -3,7 +3,7 @@
 use crate::names::{name, name_of_width, Set, EDGES};
 use crate::random::Random;
 use crate::wire::{
-    byte_by_byte, cut_off, damage, offsets, Head, FIELD_LENGTHS, FLAG_SETS, LONG, LONG_LINES,
+    cut_or_changed, damage, offsets, set_type, Head, FIELD_LENGTHS, FLAG_SETS, LONG, LONG_LINES,
     MAX_MESSAGE, OEM, OEM_DOMAIN, OEM_WORKSTATION, SIGNATURE, UNICODE,
 };
 
@@ -73,8 +73,7 @@ pub fn boundaries(random: &mut Random) -> Vec<Vec<u8>> {
     let mut messages = Vec::new();
     for flags in [UNICODE | BOTH_NAMES, OEM | BOTH_NAMES] {
         let message = Negotiate::usual(random, flags).bytes();
-        messages.extend(cut_off(random, &message));
-        messages.extend(byte_by_byte(random, &message, 0, PAYLOAD));
+        messages.extend(cut_or_changed(random, &message, PAYLOAD));
     }
     types(random, &mut messages);
     flag_bits(random, &mut messages);
@@ -93,7 +92,7 @@ fn types(random: &mut Random, messages: &mut Vec<Vec<u8>>) {
     for number in [0_u32, 2, 3, 0x101, 0x1_0000, 0x100_0000, u32::MAX] {
         let mut message = Negotiate::usual(random, UNICODE | BOTH_NAMES).bytes();
         message.resize(100, 0);
-        message[8..12].copy_from_slice(&number.to_le_bytes());
+        set_type(&mut message, number);
         messages.push(message);
     }
 }

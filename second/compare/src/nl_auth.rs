@@ -2,7 +2,7 @@
 
 use crate::names::{name_of_width, string, Set, EDGES};
 use crate::random::Random;
-use crate::wire::{byte_by_byte, cut_off, damage, LONG, LONG_LINES};
+use crate::wire::{cut_or_changed, damage, LONG, LONG_LINES};
 
 /// Type, flags and buffer.
 fn message(number: u32, flags: u32, buffer: &[u8]) -> Vec<u8> {
@@ -51,8 +51,7 @@ fn requests(random: &mut Random, messages: &mut Vec<Vec<u8>>) {
     }
     for bits in [0x01, 0x0A, 0x1F] {
         let sound = request(random, bits);
-        messages.extend(cut_off(random, &sound));
-        messages.extend(byte_by_byte(random, &sound, 0, 8));
+        messages.extend(cut_or_changed(random, &sound, 8));
     }
 }
 
@@ -99,8 +98,7 @@ fn responses(random: &mut Random, messages: &mut Vec<Vec<u8>>) {
         }
     }
     let sound = message(1, 0, b"\0");
-    messages.extend(cut_off(random, &sound));
-    messages.extend(byte_by_byte(random, &sound, 0, sound.len()));
+    messages.extend(cut_or_changed(random, &sound, sound.len()));
 }
 
 fn types(random: &mut Random, messages: &mut Vec<Vec<u8>>) {

@@ -120,7 +120,7 @@ pub fn short_of_each_type() -> Vec<Vec<u8>> {
         for number in [1_u32, 2, 3] {
             let mut message = vec![0; len.max(20)];
             message[..8].copy_from_slice(&SIGNATURE);
-            message[8..12].copy_from_slice(&number.to_le_bytes());
+            set_type(&mut message, number);
             // UNICODE, for a NEGOTIATE.
             message[12] = 1;
             message.truncate(len);
@@ -134,17 +134,17 @@ pub fn short_of_each_type() -> Vec<Vec<u8>> {
 }
 
 /// Each length that a message can be cut off at, and a few bytes more.
-pub fn cut_off(random: &mut Random, message: &[u8]) -> Vec<Vec<u8>> {
+fn cut_off(random: &mut Random, message: &[u8]) -> Vec<Vec<u8>> {
     let longer = (1..=3).map(|more| [message, &random.bytes(more)].concat());
     let longer: Vec<_> = longer.collect();
     let shorter = (0..=message.len()).map(|len| message[..len].to_vec());
     shorter.chain(longer).collect()
 }
 
-/// Each byte from `start` to before `end` changed by one bit and to any other.
-pub fn byte_by_byte(random: &mut Random, message: &[u8], start: usize, end: usize) -> Vec<Vec<u8>> {
+/// Each byte before `end` changed by one bit and to any other.
+fn byte_by_byte(random: &mut Random, message: &[u8], end: usize) -> Vec<Vec<u8>> {
     let mut messages = Vec::new();
-    for at in start..end {
+    for at in 0..end {
         for change in [1 << random.below(8), random.between(1, 255)] {
             let mut damaged = message.to_vec();
             damaged[at] ^= u8::try_from(change).expect("a byte");
@@ -152,6 +152,18 @@ pub fn byte_by_byte(random: &mut Random, message: &[u8], start: usize, end: usiz
         }
     }
     messages
+}
+
+/// A message cut off everywhere, and each byte of it before `end` changed.
+pub fn cut_or_changed(random: &mut Random, message: &[u8], end: usize) -> Vec<Vec<u8>> {
+    let mut messages = cut_off(random, message);
+    messages.extend(byte_by_byte(random, message, end));
+    messages
+}
+
+/// Gives a message another type.
+pub fn set_type(message: &mut [u8], number: u32) {
+    message[8..12].copy_from_slice(&number.to_le_bytes());
 }
 
 /// Damages a message somewhere, in one of the ways that captures and boxes do.
