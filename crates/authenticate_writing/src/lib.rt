@@ -15,7 +15,7 @@ use field_writing::put_version;
 use negotiate_flags::NegotiateFlags;
 use place::Place;
 use place::written::Written;
-use place::written::plus;
+use place::written::add_capped;
 use place::written::room_holds;
 use place::written::size_holds;
 use wire::check::Checked;
@@ -64,12 +64,12 @@ fn size_to_write(
 ) -> usize
     ensures { λ r. ⌜ r ≡ counted (sizeToWrite (now (lm .entry)) (now (nt .entry)) (now (domain .entry)) (now (user .entry)) (now (workstation .entry)) (now (key .entry))) ⌝ }
 {
-    let n = plus(88, domain.len());
-    let n = plus(n, user.len());
-    let n = plus(n, workstation.len());
-    let n = plus(n, lm.len());
-    let n = plus(n, nt.len());
-    plus(n, key.len())
+    let n = add_capped(88, domain.len());
+    let n = add_capped(n, user.len());
+    let n = add_capped(n, workstation.len());
+    let n = add_capped(n, lm.len());
+    let n = add_capped(n, nt.len());
+    add_capped(n, key.len())
 }
 
 // Checks 5, 31, 32, 30 and 33, for an output of `room` bytes.

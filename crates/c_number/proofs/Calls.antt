@@ -15,7 +15,7 @@ use Rattle.wire.specs.Check.{checked}
 use Rattle.wire.proofs.Laws.{held-true}
 use Rattle.place.specs.Written.{roomHolds, atFront}
 use Rattle.c_number.specs.Number.{refusalNumber}
-use Rattle.c_number.specs.Handed.{Handed, numbers, refused, callNumber, callOut, roomsHold, besideNumber, besideOut, besideBytes}
+use Rattle.c_number.specs.Outcome.{Outcome, numbers, refused, callNumber, callOut, roomsHold, twoArrayNumber, twoArrayOut, twoArrayBytes}
 
 -- numbers whose room was found to be there
 pub fits : (n room : ℕ) (k : Checked) (xs : List ℕ) → k ≡ roomHolds n room → k ≡ Held → length xs ≡ n → length xs ≤ room
@@ -27,7 +27,7 @@ fits-from-start n room k p h = omega (arith, leb-true n room (held-true (leb n r
 
 -- ---- one array
 
-module _ (n : ℕ) (h : Handed) (out : List ℕ) (k : Checked) (p : k ≡ roomHolds n (length out)) where
+module _ (n : ℕ) (h : Outcome) (out : List ℕ) (k : Checked) (p : k ≡ roomHolds n (length out)) where
   pub short-number : (r : ℕ) → k ≡ Failed → r ≡ refusalNumber NoRoom → r ≡ callNumber n h (length out)
   unfolding callNumber
   short-number r f e = e ∙ simp (← p, f)
@@ -72,40 +72,40 @@ module _ (n room m room′ : ℕ) (k : Checked) (p : k ≡ roomsHold n room m ro
   pub second-room : m ≤ room′
   second-room = leb-true m room′ (both (leb n room) (leb m room′) (sym p ∙ h) .1)
 
-module _ (n m : ℕ) (h : Handed) (out bytes beside : List ℕ) (k : Checked) (p : k ≡ roomsHold n (length out) m (length beside)) where
-  pub shorts-number : (r : ℕ) → k ≡ Failed → r ≡ refusalNumber NoRoom → r ≡ besideNumber n m h (length out) (length beside)
-  unfolding besideNumber
+module _ (n m : ℕ) (h : Outcome) (out bytes beside : List ℕ) (k : Checked) (p : k ≡ roomsHold n (length out) m (length beside)) where
+  pub shorts-number : (r : ℕ) → k ≡ Failed → r ≡ refusalNumber NoRoom → r ≡ twoArrayNumber n m h (length out) (length beside)
+  unfolding twoArrayNumber
   shorts-number r f e = e ∙ simp (← p, f)
 
-  pub shorts-out : k ≡ Failed → out ≡ besideOut n m h out (length beside)
-  unfolding besideOut
+  pub shorts-out : k ≡ Failed → out ≡ twoArrayOut n m h out (length beside)
+  unfolding twoArrayOut
   shorts-out f = simp (← p, f)
 
-  pub shorts-bytes : k ≡ Failed → beside ≡ besideBytes n m h bytes (length out) beside
-  unfolding besideBytes
+  pub shorts-bytes : k ≡ Failed → beside ≡ twoArrayBytes n m h bytes (length out) beside
+  unfolding twoArrayBytes
   shorts-bytes f = simp (← p, f)
 
   module _ (f : k ≡ Held) where
-    pub givens-number : (r : ℕ) (xs ys : List ℕ) → ys ≡ atFront xs out → numbers xs ≡ h → r ≡ 0 → r ≡ besideNumber n m h (length out) (length beside)
-    unfolding besideNumber
+    pub givens-number : (r : ℕ) (xs ys : List ℕ) → ys ≡ atFront xs out → numbers xs ≡ h → r ≡ 0 → r ≡ twoArrayNumber n m h (length out) (length beside)
+    unfolding twoArrayNumber
     givens-number r xs ys e d z = z ∙ simp (← p, f, ← d)
 
-    pub givens-out : (xs ys : List ℕ) → ys ≡ atFront xs out → numbers xs ≡ h → ys ≡ besideOut n m h out (length beside)
-    unfolding besideOut
+    pub givens-out : (xs ys : List ℕ) → ys ≡ atFront xs out → numbers xs ≡ h → ys ≡ twoArrayOut n m h out (length beside)
+    unfolding twoArrayOut
     givens-out xs ys e d = e ∙ simp (← p, f, ← d)
 
-    pub givens-bytes : (xs ys zs : List ℕ) → ys ≡ atFront xs out → zs ≡ atFront bytes beside → numbers xs ≡ h → zs ≡ besideBytes n m h bytes (length out) beside
-    unfolding besideBytes
+    pub givens-bytes : (xs ys zs : List ℕ) → ys ≡ atFront xs out → zs ≡ atFront bytes beside → numbers xs ≡ h → zs ≡ twoArrayBytes n m h bytes (length out) beside
+    unfolding twoArrayBytes
     givens-bytes xs ys zs o e d = e ∙ simp (← p, f, ← d)
 
-    pub tolds-number : (r : ℕ) (e : Refusal) → r ≡ refusalNumber e → refused e ≡ h → r ≡ besideNumber n m h (length out) (length beside)
-    unfolding besideNumber
+    pub tolds-number : (r : ℕ) (e : Refusal) → r ≡ refusalNumber e → refused e ≡ h → r ≡ twoArrayNumber n m h (length out) (length beside)
+    unfolding twoArrayNumber
     tolds-number r e z d = z ∙ simp (← p, f, ← d)
 
-    pub tolds-out : (r : ℕ) (e : Refusal) → r ≡ refusalNumber e → refused e ≡ h → out ≡ besideOut n m h out (length beside)
-    unfolding besideOut
+    pub tolds-out : (r : ℕ) (e : Refusal) → r ≡ refusalNumber e → refused e ≡ h → out ≡ twoArrayOut n m h out (length beside)
+    unfolding twoArrayOut
     tolds-out r e z d = simp (← p, f, ← d)
 
-    pub tolds-bytes : (r : ℕ) (e : Refusal) → r ≡ refusalNumber e → refused e ≡ h → beside ≡ besideBytes n m h bytes (length out) beside
-    unfolding besideBytes
+    pub tolds-bytes : (r : ℕ) (e : Refusal) → r ≡ refusalNumber e → refused e ≡ h → beside ≡ twoArrayBytes n m h bytes (length out) beside
+    unfolding twoArrayBytes
     tolds-bytes r e z d = simp (← p, f, ← d)

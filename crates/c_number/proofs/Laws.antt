@@ -17,8 +17,7 @@ use Rattle.wire.specs.declared.check.Verdict.the-variants.{Clear, Refused as No
 use Rattle.wire.specs.Check.{checked, after}
 use Rattle.place.specs.declared.written.Written.{Written}
 use Rattle.place.specs.declared.written.Written.the-variants.{Refused}
-use Rattle.place.specs.Written.{answered, atFront}
-use Rattle.word.specs.Call.{lineAnswer, lineAfter}
+use Rattle.place.specs.Written.{answered, atFront, bytesAnswer, bytesAfter}
 use Rattle.c_number.specs.Number.{refusalNumber, verdictNumber, writtenNumber}
 
 -- the loop of `fill`: one number more is the source's, and in the end all are
@@ -58,8 +57,8 @@ pub line-refused : (v : Written) (e : Refusal) (r : ℕ) → v ≡ Refused e →
     r ≡ refusalNumber NoRoom → r ≡ writtenNumber v
 line-refused v e r p h q = rw (p, h e p) q
 
-pub no-room : (v : Written) (line out : List ℕ) → v ≡ lineAnswer line out → (e : Refusal) → v ≡ Refused e → e ≡ NoRoom
-unfolding lineAnswer
+pub no-room : (v : Written) (line out : List ℕ) → v ≡ bytesAnswer line out → (e : Refusal) → v ≡ Refused e → e ≡ NoRoom
+unfolding bytesAnswer
 no-room v line out p e q = go (leb (length line) (length out)) (sym p ∙ q) where
   go : (b : Bool) → answered (after (checked b) (Not NoRoom) Clear) line ≡ Refused e → e ≡ NoRoom
   go true h = absurd (let z : _≡_ {A = ℕ} 0 1 = cc in omega arith)
@@ -71,8 +70,8 @@ of-front out xs ys zs p q = rw (← q) p
 
 -- bytes that were copied, known to be others
 module _ (xs ys out : List ℕ) (q : xs ≡ ys) where
-  pub of-copied : (r : ℕ) (v : Written) → r ≡ writtenNumber v → v ≡ lineAnswer xs out → r ≡ writtenNumber (lineAnswer ys out)
+  pub of-copied : (r : ℕ) (v : Written) → r ≡ writtenNumber v → v ≡ bytesAnswer xs out → r ≡ writtenNumber (bytesAnswer ys out)
   of-copied r v p e = rw (← q, ← e) p
 
-  pub of-copy : (k : List ℕ) → k ≡ lineAfter xs out → k ≡ lineAfter ys out
+  pub of-copy : (k : List ℕ) → k ≡ bytesAfter xs out → k ≡ bytesAfter ys out
   of-copy k e = rw (← q) e

@@ -5,10 +5,9 @@ ghost use lib.ListN.{length, take};
 ghost use Rattle.wire.specs.declared.refusal.Refusal.{Refusal};
 ghost use Rattle.wire.specs.declared.refusal.Refusal.the-variants.{NoRoom};
 ghost use Rattle.place.specs.declared.written.Written.the-variants.{Refused};
-ghost use Rattle.place.specs.Written.{atFront};
-ghost use Rattle.word.specs.Call.{lineAnswer, lineAfter};
+ghost use Rattle.place.specs.Written.{atFront, bytesAnswer, bytesAfter};
 ghost use Rattle.c_number.specs.Number.{refusalNumber, verdictNumber, writtenNumber, bit};
-ghost use Rattle.c_number.specs.Handed.{roomsHold};
+ghost use Rattle.c_number.specs.Outcome.{roomsHold};
 use field::Field;
 use place::Place;
 use place::written::Written;
@@ -120,8 +119,8 @@ pub fn give_bytes(out: &mut [u8], bytes: &[u8])
 
 // Copies bytes into a lent output: how many, or 33 with the output as it was.
 pub fn copy(out: &mut [u8], bytes: &[u8]) -> Written
-    ensures answer { λ r. ⌜ r ≡ lineAnswer (now (bytes .entry)) (now (out .entry)) ⌝ }
-    ensures content { λ _. ⌜ now (out .exit) ≡ lineAfter (now (bytes .entry)) (now (out .entry)) ⌝ }
+    ensures answer { λ r. ⌜ r ≡ bytesAnswer (now (bytes .entry)) (now (out .entry)) ⌝ }
+    ensures content { λ _. ⌜ now (out .exit) ≡ bytesAfter (now (bytes .entry)) (now (out .entry)) ⌝ }
 {
     let Checked::Held = room_holds(bytes.len(), out.len()) else {
         return Written::Refused(Refusal::NoRoom);

@@ -12,8 +12,8 @@ use Rattle.av_pairs.specs.declared.Found.the-variants.{At, Nothing}
 use Rattle.av_pairs.specs.declared.Search.{Search}
 use Rattle.av_pairs.specs.declared.Search.the-variants.{Done, Refused as Unsearched}
 use Rattle.av_pairs.specs.declared.Step.the-variants.{Pair, End, Refused as Faulty}
-use Rattle.c_number.specs.Handed.{numbers, refused}
-use Rattle.c_pairs.specs.Pairs.{countHanded, foundNumbers, searchHanded, pairNumbers, askedHanded}
+use Rattle.c_number.specs.Outcome.{numbers, refused}
+use Rattle.c_pairs.specs.Pairs.{countOutcome, foundNumbers, searchOutcome, pairNumbers, askedOutcome}
 
 pub one-found : (f : Found) (p : AvPair) → f ≡ At p → (1 ∷ p .at ∷ p .len ∷ []) ≡ foundNumbers f
 unfolding foundNumbers
@@ -24,25 +24,25 @@ unfolding foundNumbers
 none-found f h = rw h
 
 module _ (w v : Count) (e : w ≡ v) where
-  pub counted : (n : ℕ) → w ≡ Pairs n → numbers (n ∷ []) ≡ countHanded v
+  pub counted : (n : ℕ) → w ≡ Pairs n → numbers (n ∷ []) ≡ countOutcome v
   counted n h = simp (← e, h)
 
-  pub uncounted : (d : Refusal) → w ≡ Uncounted d → refused d ≡ countHanded v
+  pub uncounted : (d : Refusal) → w ≡ Uncounted d → refused d ≡ countOutcome v
   uncounted d h = simp (← e, h)
 
 module _ (w v : Search) (e : w ≡ v) where
-  pub searched : (f : Found) (xs : List ℕ) → xs ≡ foundNumbers f → w ≡ Done f → numbers xs ≡ searchHanded v
+  pub searched : (f : Found) (xs : List ℕ) → xs ≡ foundNumbers f → w ≡ Done f → numbers xs ≡ searchOutcome v
   searched f xs p h = simp (← e, h, p)
 
-  pub unsearched : (d : Refusal) → w ≡ Unsearched d → refused d ≡ searchHanded v
+  pub unsearched : (d : Refusal) → w ≡ Unsearched d → refused d ≡ searchOutcome v
   unsearched d h = simp (← e, h)
 
 module _ (w v : Asked) (e : w ≡ v) where
-  pub asked : (p : AvPair) (xs : List ℕ) → xs ≡ pairNumbers p (w .next) → w .step ≡ Pair p → numbers xs ≡ askedHanded v
+  pub asked : (p : AvPair) (xs : List ℕ) → xs ≡ pairNumbers p (w .next) → w .step ≡ Pair p → numbers xs ≡ askedOutcome v
   asked p xs q h = simp (← e, h, q)
 
-  pub ended : w .step ≡ End → numbers (0 ∷ 0 ∷ 0 ∷ 0 ∷ w .next ∷ []) ≡ askedHanded v
+  pub ended : w .step ≡ End → numbers (0 ∷ 0 ∷ 0 ∷ 0 ∷ w .next ∷ []) ≡ askedOutcome v
   ended h = simp (← e, h)
 
-  pub faulty : (d : Refusal) → w .step ≡ Faulty d → refused d ≡ askedHanded v
+  pub faulty : (d : Refusal) → w .step ≡ Faulty d → refused d ≡ askedOutcome v
   faulty d h = simp (← e, h)

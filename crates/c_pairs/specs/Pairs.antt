@@ -11,30 +11,30 @@ use Rattle.av_pairs.specs.declared.Search.{Search}
 use Rattle.av_pairs.specs.declared.Search.the-variants.{Done, Refused as Unsearched}
 use Rattle.av_pairs.specs.declared.Step.{Step}
 use Rattle.av_pairs.specs.declared.Step.the-variants.{Pair, End, Refused as Faulty}
-use Rattle.c_number.specs.Handed.{Handed, numbers, refused}
+use Rattle.c_number.specs.Outcome.{Outcome, numbers, refused}
 
 -- how many pairs
-abbrev pub countHanded : Count → Handed
-countHanded (Pairs n) = numbers (n ∷ [])
-countHanded (Uncounted e) = refused e
+abbrev pub countOutcome : Count → Outcome
+countOutcome (Pairs n) = numbers (n ∷ [])
+countOutcome (Uncounted e) = refused e
 
 -- whether one is there, and its value's place and length
 unfoldable pub foundNumbers : Found → List ℕ
 foundNumbers (At p) = 1 ∷ p .at ∷ p .len ∷ []
 foundNumbers Nothing = 0 ∷ 0 ∷ 0 ∷ []
 
-abbrev pub searchHanded : Search → Handed
-searchHanded (Done f) = numbers (foundNumbers f)
-searchHanded (Unsearched e) = refused e
+abbrev pub searchOutcome : Search → Outcome
+searchOutcome (Done f) = numbers (foundNumbers f)
+searchOutcome (Unsearched e) = refused e
 
 -- whether a pair is there, its id, its value's place and length, and where to ask next
 unfoldable pub pairNumbers : AvPair → ℕ → List ℕ
 pairNumbers p next = 1 ∷ p .id .id ∷ p .at ∷ p .len ∷ next ∷ []
 
-abbrev pub stepHanded : Step → ℕ → Handed
-stepHanded (Pair p) next = numbers (pairNumbers p next)
-stepHanded End next = numbers (0 ∷ 0 ∷ 0 ∷ 0 ∷ next ∷ [])
-stepHanded (Faulty e) next = refused e
+abbrev pub stepOutcome : Step → ℕ → Outcome
+stepOutcome (Pair p) next = numbers (pairNumbers p next)
+stepOutcome End next = numbers (0 ∷ 0 ∷ 0 ∷ 0 ∷ next ∷ [])
+stepOutcome (Faulty e) next = refused e
 
-abbrev pub askedHanded : Asked → Handed
-askedHanded a = stepHanded (a .step) (a .next)
+abbrev pub askedOutcome : Asked → Outcome
+askedOutcome a = stepOutcome (a .step) (a .next)

@@ -2,8 +2,8 @@
 ghost use mathlib.Core.Path.{_≡_};
 ghost use lib.ListN.{length};
 ghost use Rattle.av_pairs.specs.AvPairs.{countPairs, findPair, askAt};
-ghost use Rattle.c_number.specs.Handed.{callNumber, callOut};
-ghost use Rattle.c_pairs.specs.Pairs.{countHanded, foundNumbers, searchHanded, pairNumbers, askedHanded};
+ghost use Rattle.c_number.specs.Outcome.{callNumber, callOut};
+ghost use Rattle.c_pairs.specs.Pairs.{countOutcome, foundNumbers, searchOutcome, pairNumbers, askedOutcome};
 use av_id::AvId;
 use av_pairs::AvPair;
 use av_pairs::Count;
@@ -18,8 +18,8 @@ use wire::refusal::Refusal;
 
 // Counts the pairs of a list.
 pub fn count_pairs(list: &[u8], numbers: &mut [u64]) -> u64
-    ensures answer { λ r. ⌜ r ≡ callNumber 1 (countHanded (countPairs (now (list .entry)))) (length (now (numbers .entry))) ⌝ }
-    ensures content { λ _. ⌜ now (numbers .exit) ≡ callOut 1 (countHanded (countPairs (now (list .entry)))) (now (numbers .entry)) ⌝ }
+    ensures answer { λ r. ⌜ r ≡ callNumber 1 (countOutcome (countPairs (now (list .entry)))) (length (now (numbers .entry))) ⌝ }
+    ensures content { λ _. ⌜ now (numbers .exit) ≡ callOut 1 (countOutcome (countPairs (now (list .entry)))) (now (numbers .entry)) ⌝ }
 {
     let Checked::Held = room_holds(1, numbers.len()) else {
         return refusal_number(Refusal::NoRoom);
@@ -41,8 +41,8 @@ fn found_numbers(found: Found) -> [u64; 3]
 
 // Finds the first pair with an id.
 pub fn find_pair(list: &[u8], id: u16, numbers: &mut [u64]) -> u64
-    ensures answer { λ r. ⌜ r ≡ callNumber 3 (searchHanded (findPair (record { id = id }) (now (list .entry)))) (length (now (numbers .entry))) ⌝ }
-    ensures content { λ _. ⌜ now (numbers .exit) ≡ callOut 3 (searchHanded (findPair (record { id = id }) (now (list .entry)))) (now (numbers .entry)) ⌝ }
+    ensures answer { λ r. ⌜ r ≡ callNumber 3 (searchOutcome (findPair (record { id = id }) (now (list .entry)))) (length (now (numbers .entry))) ⌝ }
+    ensures content { λ _. ⌜ now (numbers .exit) ≡ callOut 3 (searchOutcome (findPair (record { id = id }) (now (list .entry)))) (now (numbers .entry)) ⌝ }
 {
     let Checked::Held = room_holds(3, numbers.len()) else {
         return refusal_number(Refusal::NoRoom);
@@ -61,8 +61,8 @@ fn pair_numbers(p: AvPair, next: usize) -> [u64; 5]
 
 // Asks at a place of a list, for a walk.
 pub fn next_pair(list: &[u8], at: usize, numbers: &mut [u64]) -> u64
-    ensures answer { λ r. ⌜ r ≡ callNumber 5 (askedHanded (askAt (now (list .entry)) at)) (length (now (numbers .entry))) ⌝ }
-    ensures content { λ _. ⌜ now (numbers .exit) ≡ callOut 5 (askedHanded (askAt (now (list .entry)) at)) (now (numbers .entry)) ⌝ }
+    ensures answer { λ r. ⌜ r ≡ callNumber 5 (askedOutcome (askAt (now (list .entry)) at)) (length (now (numbers .entry))) ⌝ }
+    ensures content { λ _. ⌜ now (numbers .exit) ≡ callOut 5 (askedOutcome (askAt (now (list .entry)) at)) (now (numbers .entry)) ⌝ }
 {
     let Checked::Held = room_holds(5, numbers.len()) else {
         return refusal_number(Refusal::NoRoom);

@@ -23,8 +23,8 @@ use Rattle.nl_auth.specs.declared.NlAuth.{NlAuth}
 use Rattle.nl_auth.specs.declared.Reading.{Reading as NlReading}
 use Rattle.nl_auth.specs.declared.Reading.the-variants.{Taken as NlTaken, Refused as NlRefused}
 use Rattle.place.specs.Written.{atFront}
-use Rattle.c_number.specs.Handed.{numbers, refused}
-use Rattle.c_reading.specs.Numbers.{negotiateNumbers, authenticateNumbers, challengeNumbers, timestampNumbers, serverNamesNumbers, nlAuthNumbers, negoHanded, authHanded, chalHanded, timeHanded, namesHanded, nlHanded}
+use Rattle.c_number.specs.Outcome.{numbers, refused}
+use Rattle.c_reading.specs.Numbers.{negotiateNumbers, authenticateNumbers, challengeNumbers, timestampNumbers, serverNamesNumbers, nlAuthNumbers, negotiateOutcome, authenticateOutcome, challengeOutcome, timestampOutcome, serverNamesOutcome, nlAuthOutcome}
 
 pub timed : (w : Timestamp) (t : ℕ) → w ≡ Time t → (1 ∷ t ∷ []) ≡ timestampNumbers w
 unfolding timestampNumbers
@@ -37,49 +37,49 @@ untimed w h = rw h
 -- ---- what is handed out
 
 module _ (w v : TimestampReading) (e : w ≡ v) where
-  pub time-taken : (x : Timestamp) (xs : List ℕ) → xs ≡ timestampNumbers x → w ≡ TimeTaken x → numbers xs ≡ timeHanded v
+  pub time-taken : (x : Timestamp) (xs : List ℕ) → xs ≡ timestampNumbers x → w ≡ TimeTaken x → numbers xs ≡ timestampOutcome v
   time-taken x xs p h = simp (← e, h, p)
 
-  pub time-refused : (d : Refusal) → w ≡ TimeRefused d → refused d ≡ timeHanded v
+  pub time-refused : (d : Refusal) → w ≡ TimeRefused d → refused d ≡ timestampOutcome v
   time-refused d h = simp (← e, h)
 
 module _ (w v : ServerNamesReading) (e : w ≡ v) where
-  pub names-taken : (x : ServerNames) (xs : List ℕ) → xs ≡ serverNamesNumbers x → w ≡ NamesTaken x → numbers xs ≡ namesHanded v
+  pub names-taken : (x : ServerNames) (xs : List ℕ) → xs ≡ serverNamesNumbers x → w ≡ NamesTaken x → numbers xs ≡ serverNamesOutcome v
   names-taken x xs p h = simp (← e, h, p)
 
-  pub names-refused : (d : Refusal) → w ≡ NamesRefused d → refused d ≡ namesHanded v
+  pub names-refused : (d : Refusal) → w ≡ NamesRefused d → refused d ≡ serverNamesOutcome v
   names-refused d h = simp (← e, h)
 
 module _ (w v : NlReading) (e : w ≡ v) where
-  pub nl-taken : (x : NlAuth) (xs : List ℕ) → xs ≡ nlAuthNumbers x → w ≡ NlTaken x → numbers xs ≡ nlHanded v
+  pub nl-taken : (x : NlAuth) (xs : List ℕ) → xs ≡ nlAuthNumbers x → w ≡ NlTaken x → numbers xs ≡ nlAuthOutcome v
   nl-taken x xs p h = simp (← e, h, p)
 
-  pub nl-refused : (d : Refusal) → w ≡ NlRefused d → refused d ≡ nlHanded v
+  pub nl-refused : (d : Refusal) → w ≡ NlRefused d → refused d ≡ nlAuthOutcome v
   nl-refused d h = simp (← e, h)
 
 module _ (w v : Answer) (e : w ≡ v) where
-  pub auth-taken : (x : Authenticate) (xs : List ℕ) → xs ≡ authenticateNumbers x → w .reading ≡ Taken x → numbers xs ≡ authHanded (v .reading)
+  pub auth-taken : (x : Authenticate) (xs : List ℕ) → xs ≡ authenticateNumbers x → w .reading ≡ Taken x → numbers xs ≡ authenticateOutcome (v .reading)
   auth-taken x xs p h = simp (← e, h, p)
 
   pub auth-bytes : (zs out : List ℕ) → zs ≡ atFront (w .mic) out → zs ≡ atFront (v .mic) out
   auth-bytes zs out p = rw (← e) p
 
-  pub auth-refused : (d : Refusal) → w .reading ≡ Refused d → refused d ≡ authHanded (v .reading)
+  pub auth-refused : (d : Refusal) → w .reading ≡ Refused d → refused d ≡ authenticateOutcome (v .reading)
   auth-refused d h = simp (← e, h)
 
 module _ (w v : ChalAnswer) (e : w ≡ v) where
-  pub chal-taken : (x : Challenge) (xs : List ℕ) → xs ≡ challengeNumbers x → w .reading ≡ ChalTaken x → numbers xs ≡ chalHanded (v .reading)
+  pub chal-taken : (x : Challenge) (xs : List ℕ) → xs ≡ challengeNumbers x → w .reading ≡ ChalTaken x → numbers xs ≡ challengeOutcome (v .reading)
   chal-taken x xs p h = simp (← e, h, p)
 
   pub chal-bytes : (zs out : List ℕ) → zs ≡ atFront (w .«server_challenge») out → zs ≡ atFront (v .«server_challenge») out
   chal-bytes zs out p = rw (← e) p
 
-  pub chal-refused : (d : Refusal) → w .reading ≡ ChalRefused d → refused d ≡ chalHanded (v .reading)
+  pub chal-refused : (d : Refusal) → w .reading ≡ ChalRefused d → refused d ≡ challengeOutcome (v .reading)
   chal-refused d h = simp (← e, h)
 
 module _ (w v : NegoReading) (e : w ≡ v) where
-  pub nego-taken : (x : Negotiate) (xs : List ℕ) → xs ≡ negotiateNumbers x → w ≡ NegoTaken x → numbers xs ≡ negoHanded v
+  pub nego-taken : (x : Negotiate) (xs : List ℕ) → xs ≡ negotiateNumbers x → w ≡ NegoTaken x → numbers xs ≡ negotiateOutcome v
   nego-taken x xs p h = simp (← e, h, p)
 
-  pub nego-refused : (d : Refusal) → w ≡ NegoRefused d → refused d ≡ negoHanded v
+  pub nego-refused : (d : Refusal) → w ≡ NegoRefused d → refused d ≡ negotiateOutcome v
   nego-refused d h = simp (← e, h)

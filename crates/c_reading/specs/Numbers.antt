@@ -21,7 +21,7 @@ use Rattle.nl_auth.specs.declared.NlAuth.{NlAuth}
 use Rattle.nl_auth.specs.declared.Reading.{Reading as NlReading}
 use Rattle.nl_auth.specs.declared.Reading.the-variants.{Taken as NlTaken, Refused as NlRefused}
 use Rattle.c_number.specs.Number.{bit}
-use Rattle.c_number.specs.Handed.{Handed, numbers, refused}
+use Rattle.c_number.specs.Outcome.{Outcome, numbers, refused}
 
 -- flags, and the offset and length of fields 1 and 2
 unfoldable pub negotiateNumbers : Negotiate → List ℕ
@@ -86,26 +86,26 @@ nlAuthNumbers m =
 
 -- ---- what each reading hands out
 
-abbrev pub negoHanded : NegoReading → Handed
-negoHanded (NegoTaken m) = numbers (negotiateNumbers m)
-negoHanded (NegoRefused e) = refused e
+abbrev pub negotiateOutcome : NegoReading → Outcome
+negotiateOutcome (NegoTaken m) = numbers (negotiateNumbers m)
+negotiateOutcome (NegoRefused e) = refused e
 
-abbrev pub authHanded : Reading → Handed
-authHanded (Taken a) = numbers (authenticateNumbers a)
-authHanded (Refused e) = refused e
+abbrev pub authenticateOutcome : Reading → Outcome
+authenticateOutcome (Taken a) = numbers (authenticateNumbers a)
+authenticateOutcome (Refused e) = refused e
 
-abbrev pub chalHanded : ChalReading → Handed
-chalHanded (ChalTaken c) = numbers (challengeNumbers c)
-chalHanded (ChalRefused e) = refused e
+abbrev pub challengeOutcome : ChalReading → Outcome
+challengeOutcome (ChalTaken c) = numbers (challengeNumbers c)
+challengeOutcome (ChalRefused e) = refused e
 
-abbrev pub timeHanded : TimestampReading → Handed
-timeHanded (TimeTaken t) = numbers (timestampNumbers t)
-timeHanded (TimeRefused e) = refused e
+abbrev pub timestampOutcome : TimestampReading → Outcome
+timestampOutcome (TimeTaken t) = numbers (timestampNumbers t)
+timestampOutcome (TimeRefused e) = refused e
 
-abbrev pub namesHanded : ServerNamesReading → Handed
-namesHanded (NamesTaken n) = numbers (serverNamesNumbers n)
-namesHanded (NamesRefused e) = refused e
+abbrev pub serverNamesOutcome : ServerNamesReading → Outcome
+serverNamesOutcome (NamesTaken n) = numbers (serverNamesNumbers n)
+serverNamesOutcome (NamesRefused e) = refused e
 
-abbrev pub nlHanded : NlReading → Handed
-nlHanded (NlTaken m) = numbers (nlAuthNumbers m)
-nlHanded (NlRefused e) = refused e
+abbrev pub nlAuthOutcome : NlReading → Outcome
+nlAuthOutcome (NlTaken m) = numbers (nlAuthNumbers m)
+nlAuthOutcome (NlRefused e) = refused e

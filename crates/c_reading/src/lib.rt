@@ -3,12 +3,12 @@ ghost use mathlib.Core.Path.{_≡_};
 ghost use Prim.Native.Nat.{_≤_};
 ghost use lib.ListN.{length};
 ghost use Rattle.place.specs.Written.{atFront};
-ghost use Rattle.c_reading.specs.Numbers.{negotiateNumbers, authenticateNumbers, challengeNumbers, timestampNumbers, serverNamesNumbers, nlAuthNumbers, negoHanded, authHanded, chalHanded, timeHanded, namesHanded, nlHanded};
+ghost use Rattle.c_reading.specs.Numbers.{negotiateNumbers, authenticateNumbers, challengeNumbers, timestampNumbers, serverNamesNumbers, nlAuthNumbers, negotiateOutcome, authenticateOutcome, challengeOutcome, timestampOutcome, serverNamesOutcome, nlAuthOutcome};
 ghost use Rattle.authenticate.specs.Authenticate.{readAuthenticate};
 ghost use Rattle.challenge.specs.Challenge.{readChallenge, timestampOf, serverNamesOf};
 ghost use Rattle.negotiate.specs.Negotiate.{readNegotiate};
 ghost use Rattle.nl_auth.specs.NlAuth.{readNlAuth};
-ghost use Rattle.c_number.specs.Handed.{callNumber, callOut, besideNumber, besideOut, besideBytes};
+ghost use Rattle.c_number.specs.Outcome.{callNumber, callOut, twoArrayNumber, twoArrayOut, twoArrayBytes};
 use authenticate::Authenticate;
 use authenticate::Reading as AuthenticateReading;
 use c_number::bit;
@@ -117,8 +117,8 @@ fn nl_auth_numbers(m: NlAuth) -> [u64; 12]
 
 // Reads NEGOTIATE.
 pub fn read_negotiate(msg: &[u8], numbers: &mut [u64]) -> u64
-    ensures answer { λ r. ⌜ r ≡ callNumber 5 (negoHanded (readNegotiate (now (msg .entry)))) (length (now (numbers .entry))) ⌝ }
-    ensures content { λ _. ⌜ now (numbers .exit) ≡ callOut 5 (negoHanded (readNegotiate (now (msg .entry)))) (now (numbers .entry)) ⌝ }
+    ensures answer { λ r. ⌜ r ≡ callNumber 5 (negotiateOutcome (readNegotiate (now (msg .entry)))) (length (now (numbers .entry))) ⌝ }
+    ensures content { λ _. ⌜ now (numbers .exit) ≡ callOut 5 (negotiateOutcome (readNegotiate (now (msg .entry)))) (now (numbers .entry)) ⌝ }
 {
     let Checked::Held = room_holds(5, numbers.len()) else {
         return refusal_number(Refusal::NoRoom);
@@ -142,9 +142,9 @@ fn give_authenticate(numbers: &mut [u64], mic: &mut [u8], a: Authenticate, bytes
 
 // Reads AUTHENTICATE.
 pub fn read_authenticate(msg: &[u8], numbers: &mut [u64], mic: &mut [u8]) -> u64
-    ensures answer { λ r. ⌜ r ≡ besideNumber 14 16 (authHanded (readAuthenticate (now (msg .entry)) .reading)) (length (now (numbers .entry))) (length (now (mic .entry))) ⌝ }
-    ensures content { λ _. ⌜ now (numbers .exit) ≡ besideOut 14 16 (authHanded (readAuthenticate (now (msg .entry)) .reading)) (now (numbers .entry)) (length (now (mic .entry))) ⌝ }
-    ensures beside { λ _. ⌜ now (mic .exit) ≡ besideBytes 14 16 (authHanded (readAuthenticate (now (msg .entry)) .reading)) (readAuthenticate (now (msg .entry)) .mic) (length (now (numbers .entry))) (now (mic .entry)) ⌝ }
+    ensures answer { λ r. ⌜ r ≡ twoArrayNumber 14 16 (authenticateOutcome (readAuthenticate (now (msg .entry)) .reading)) (length (now (numbers .entry))) (length (now (mic .entry))) ⌝ }
+    ensures content { λ _. ⌜ now (numbers .exit) ≡ twoArrayOut 14 16 (authenticateOutcome (readAuthenticate (now (msg .entry)) .reading)) (now (numbers .entry)) (length (now (mic .entry))) ⌝ }
+    ensures beside { λ _. ⌜ now (mic .exit) ≡ twoArrayBytes 14 16 (authenticateOutcome (readAuthenticate (now (msg .entry)) .reading)) (readAuthenticate (now (msg .entry)) .mic) (length (now (numbers .entry))) (now (mic .entry)) ⌝ }
 {
     let Checked::Held = rooms_hold(14, numbers.len(), 16, mic.len()) else {
         return refusal_number(Refusal::NoRoom);
@@ -171,9 +171,9 @@ fn give_challenge(numbers: &mut [u64], out: &mut [u8], c: Challenge, bytes: &[u8
 
 // Reads CHALLENGE; `out` is for ServerChallenge.
 pub fn read_challenge(msg: &[u8], numbers: &mut [u64], out: &mut [u8]) -> u64
-    ensures answer { λ r. ⌜ r ≡ besideNumber 5 8 (chalHanded (readChallenge (now (msg .entry)) .reading)) (length (now (numbers .entry))) (length (now (out .entry))) ⌝ }
-    ensures content { λ _. ⌜ now (numbers .exit) ≡ besideOut 5 8 (chalHanded (readChallenge (now (msg .entry)) .reading)) (now (numbers .entry)) (length (now (out .entry))) ⌝ }
-    ensures beside { λ _. ⌜ now (out .exit) ≡ besideBytes 5 8 (chalHanded (readChallenge (now (msg .entry)) .reading)) (readChallenge (now (msg .entry)) .«server_challenge») (length (now (numbers .entry))) (now (out .entry)) ⌝ }
+    ensures answer { λ r. ⌜ r ≡ twoArrayNumber 5 8 (challengeOutcome (readChallenge (now (msg .entry)) .reading)) (length (now (numbers .entry))) (length (now (out .entry))) ⌝ }
+    ensures content { λ _. ⌜ now (numbers .exit) ≡ twoArrayOut 5 8 (challengeOutcome (readChallenge (now (msg .entry)) .reading)) (now (numbers .entry)) (length (now (out .entry))) ⌝ }
+    ensures beside { λ _. ⌜ now (out .exit) ≡ twoArrayBytes 5 8 (challengeOutcome (readChallenge (now (msg .entry)) .reading)) (readChallenge (now (msg .entry)) .«server_challenge») (length (now (numbers .entry))) (now (out .entry)) ⌝ }
 {
     let Checked::Held = rooms_hold(5, numbers.len(), 8, out.len()) else {
         return refusal_number(Refusal::NoRoom);
@@ -189,8 +189,8 @@ pub fn read_challenge(msg: &[u8], numbers: &mut [u64], out: &mut [u8]) -> u64
 
 // Reads a CHALLENGE for its first timestamp.
 pub fn read_timestamp(msg: &[u8], numbers: &mut [u64]) -> u64
-    ensures answer { λ r. ⌜ r ≡ callNumber 2 (timeHanded (timestampOf (now (msg .entry)))) (length (now (numbers .entry))) ⌝ }
-    ensures content { λ _. ⌜ now (numbers .exit) ≡ callOut 2 (timeHanded (timestampOf (now (msg .entry)))) (now (numbers .entry)) ⌝ }
+    ensures answer { λ r. ⌜ r ≡ callNumber 2 (timestampOutcome (timestampOf (now (msg .entry)))) (length (now (numbers .entry))) ⌝ }
+    ensures content { λ _. ⌜ now (numbers .exit) ≡ callOut 2 (timestampOutcome (timestampOf (now (msg .entry)))) (now (numbers .entry)) ⌝ }
 {
     let Checked::Held = room_holds(2, numbers.len()) else {
         return refusal_number(Refusal::NoRoom);
@@ -203,8 +203,8 @@ pub fn read_timestamp(msg: &[u8], numbers: &mut [u64]) -> u64
 
 // Reads a CHALLENGE for whether pairs 1 and 2 are there.
 pub fn read_server_names(msg: &[u8], numbers: &mut [u64]) -> u64
-    ensures answer { λ r. ⌜ r ≡ callNumber 2 (namesHanded (serverNamesOf (now (msg .entry)))) (length (now (numbers .entry))) ⌝ }
-    ensures content { λ _. ⌜ now (numbers .exit) ≡ callOut 2 (namesHanded (serverNamesOf (now (msg .entry)))) (now (numbers .entry)) ⌝ }
+    ensures answer { λ r. ⌜ r ≡ callNumber 2 (serverNamesOutcome (serverNamesOf (now (msg .entry)))) (length (now (numbers .entry))) ⌝ }
+    ensures content { λ _. ⌜ now (numbers .exit) ≡ callOut 2 (serverNamesOutcome (serverNamesOf (now (msg .entry)))) (now (numbers .entry)) ⌝ }
 {
     let Checked::Held = room_holds(2, numbers.len()) else {
         return refusal_number(Refusal::NoRoom);
@@ -217,8 +217,8 @@ pub fn read_server_names(msg: &[u8], numbers: &mut [u64]) -> u64
 
 // Reads NL_AUTH.
 pub fn read_nl_auth(msg: &[u8], numbers: &mut [u64]) -> u64
-    ensures answer { λ r. ⌜ r ≡ callNumber 12 (nlHanded (readNlAuth (now (msg .entry)))) (length (now (numbers .entry))) ⌝ }
-    ensures content { λ _. ⌜ now (numbers .exit) ≡ callOut 12 (nlHanded (readNlAuth (now (msg .entry)))) (now (numbers .entry)) ⌝ }
+    ensures answer { λ r. ⌜ r ≡ callNumber 12 (nlAuthOutcome (readNlAuth (now (msg .entry)))) (length (now (numbers .entry))) ⌝ }
+    ensures content { λ _. ⌜ now (numbers .exit) ≡ callOut 12 (nlAuthOutcome (readNlAuth (now (msg .entry)))) (now (numbers .entry)) ⌝ }
 {
     let Checked::Held = room_holds(12, numbers.len()) else {
         return refusal_number(Refusal::NoRoom);

@@ -25,8 +25,8 @@ use Rattle.respond.specs.declared.decision.Settings.{Settings}
 use Rattle.respond.specs.Answer.{respondAnswer, respondOut}
 use Rattle.respond.specs.Decision.{decisionOn}
 use Rattle.c_number.specs.Number.{refusalNumber, bit}
-use Rattle.c_number.specs.Handed.{numbers, refused}
-use Rattle.c_respond.specs.Respond.{settingsOf, decisionNumbers, decidedHanded, answeredNumber, answeredOut, respondedNumber, respondedNumbers, respondedOut}
+use Rattle.c_number.specs.Outcome.{numbers, refused}
+use Rattle.c_respond.specs.Respond.{settingsOf, decisionNumbers, decidedOutcome, answeredNumber, answeredOut, respondedNumber, respondedNumbers, respondedOut}
 
 pub settings-are : (bits : ℕ) (a b c d : Bool) → a ≡ has bits 0x1 → b ≡ has bits 0x2 → c ≡ has bits 0x4 → d ≡ has bits 0x8 →
     record { «demand_128» = a; ntlmv2 = b; integrity = c; confidentiality = d } ≡ settingsOf bits
@@ -45,10 +45,10 @@ module _ (flags : ℕ) (w : Timestamp) where
 
 module _ (t u : Settings) (s : List ℕ) (w : Decided) (p : w ≡ decisionOn t s) (q : t ≡ u) where
   pub decided : (d : Decision) (xs : List ℕ) → xs ≡ decisionNumbers (d .flags .bits) (d .timestamp) → w ≡ Taken d →
-      numbers xs ≡ decidedHanded (decisionOn u s)
+      numbers xs ≡ decidedOutcome (decisionOn u s)
   decided d xs e h = simp (← q, ← p, h, e)
 
-  pub undecided : (e : Refusal) → w ≡ Undecided e → refused e ≡ decidedHanded (decisionOn u s)
+  pub undecided : (e : Refusal) → w ≡ Undecided e → refused e ≡ decidedOutcome (decisionOn u s)
   undecided e h = simp (← q, ← p, h)
 
 -- ---- the answer

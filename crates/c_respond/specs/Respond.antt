@@ -14,7 +14,7 @@ use Rattle.respond.specs.declared.decision.Decided.{Decided}
 use Rattle.respond.specs.declared.decision.Decided.the-variants.{Taken, Refused as Undecided}
 use Rattle.respond.specs.declared.decision.Settings.{Settings}
 use Rattle.c_number.specs.Number.{refusalNumber, bit}
-use Rattle.c_number.specs.Handed.{Handed, numbers, refused}
+use Rattle.c_number.specs.Outcome.{Outcome, numbers, refused}
 
 -- the settings' bits: 128-bit demanded, NTLMv2, integrity, confidentiality
 abbrev pub settingsOf : ℕ → Settings
@@ -32,9 +32,9 @@ unfoldable pub decisionNumbers : ℕ → Timestamp → List ℕ
 decisionNumbers flags (Time t) = flags ∷ 1 ∷ t ∷ []
 decisionNumbers flags Nothing = flags ∷ 0 ∷ 0 ∷ []
 
-abbrev pub decidedHanded : Decided → Handed
-decidedHanded (Taken d) = numbers (decisionNumbers (d .flags .bits) (d .timestamp))
-decidedHanded (Undecided e) = refused e
+abbrev pub decidedOutcome : Decided → Outcome
+decidedOutcome (Taken d) = numbers (decisionNumbers (d .flags .bits) (d .timestamp))
+decidedOutcome (Undecided e) = refused e
 
 -- ---- the answer: its length; beside it Time and whether a MIC is due
 

@@ -4,8 +4,8 @@ ghost use Prim.Native.Nat.{_≤_};
 ghost use lib.ListN.{length};
 ghost use Rattle.respond.specs.Answer.{respondAnswer, respondOut};
 ghost use Rattle.respond.specs.Decision.{defaults, decisionOn};
-ghost use Rattle.c_number.specs.Handed.{callNumber, callOut};
-ghost use Rattle.c_respond.specs.Respond.{settingsOf, decisionNumbers, decidedHanded, answeredNumber, answeredOut, respondedNumber, respondedNumbers, respondedOut};
+ghost use Rattle.c_number.specs.Outcome.{callNumber, callOut};
+ghost use Rattle.c_respond.specs.Respond.{settingsOf, decisionNumbers, decidedOutcome, answeredNumber, answeredOut, respondedNumber, respondedNumbers, respondedOut};
 use c_number::bit;
 use c_number::give;
 use c_number::refusal_number;
@@ -44,8 +44,8 @@ fn decision_numbers(flags: u32, timestamp: Timestamp) -> [u64; 3]
 
 // Reading, 20 and 21.
 pub fn decide(settings: u32, challenge: &[u8], numbers: &mut [u64]) -> u64
-    ensures answer { λ r. ⌜ r ≡ callNumber 3 (decidedHanded (decisionOn (settingsOf settings) (now (challenge .entry)))) (length (now (numbers .entry))) ⌝ }
-    ensures content { λ _. ⌜ now (numbers .exit) ≡ callOut 3 (decidedHanded (decisionOn (settingsOf settings) (now (challenge .entry)))) (now (numbers .entry)) ⌝ }
+    ensures answer { λ r. ⌜ r ≡ callNumber 3 (decidedOutcome (decisionOn (settingsOf settings) (now (challenge .entry)))) (length (now (numbers .entry))) ⌝ }
+    ensures content { λ _. ⌜ now (numbers .exit) ≡ callOut 3 (decidedOutcome (decisionOn (settingsOf settings) (now (challenge .entry)))) (now (numbers .entry)) ⌝ }
 {
     let Checked::Held = room_holds(3, numbers.len()) else {
         return refusal_number(Refusal::NoRoom);

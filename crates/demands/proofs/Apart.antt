@@ -7,11 +7,11 @@ use mathlib.Core.List.{List}
 use native.Mathlib.Omega.{arith}
 use lib.Dec.{ltb}
 use borrow.Author.Tests.{ltb-true, ltb-false}
-use Rattle.demands.specs.Message.{Kind, lenOf, Counts, Nonempty, Covers, MicThere, Ignored, max-len, uncounted-head, empty-offset, unused, uncovered}
+use Rattle.demands.specs.Message.{Format, lenOf, Counts, Nonempty, Covers, MicThere, Ignored, max-len, uncounted-head, empty-offset, unused, uncovered}
 use Rattle.demands.proofs.Unchanged.{Seen}
 
 -- the heads lie after the type, within the fixed part, and apart from each other, from the flags and from unused bytes
-pub record Apart (k : Kind) : Type 0 where
+pub record Apart (k : Format) : Type 0 where
   pub flags : (12 ≤ k .flags) × (k .flags + 4 ≤ k .fixed)
   pub heads : (i : ℕ) → 1 ≤ i → i ≤ k .last → (12 ≤ k .head i) × (k .head i + 8 ≤ k .fixed)
   pub from-flags : (i : ℕ) → 1 ≤ i → i ≤ k .last → (k .flags + 4 ≤ k .head i) ⊎ (k .head i + 8 ≤ k .flags)
@@ -30,11 +30,11 @@ spaced from i j = go (ltb i j) (ltb j i) refl refl where
   go false false p q = inl (omega (arith, ltb-false i j p, ltb-false j i q))
 
 -- why a byte of a head is ignored: MaxLen, a field that doesn't count, or the offset of an empty one
-abbrev HeadIgnored : Kind → List ℕ → ℕ → ℕ → Type 0
+abbrev HeadIgnored : Format → List ℕ → ℕ → ℕ → Type 0
 HeadIgnored k s i p =
     ((p ≡ k .head i + 2) ⊎ (p ≡ k .head i + 3)) ⊎ ((Counts k s i → ⊥) ⊎ ((lenOf k s i ≡ 0) × (k .head i + 4 ≤ p)))
 
-pub record InHead (k : Kind) (s : List ℕ) (p : ℕ) : Type 0 where
+pub record InHead (k : Format) (s : List ℕ) (p : ℕ) : Type 0 where
   pub field : ℕ
   pub first : 1 ≤ field
   pub last : field ≤ k .last
@@ -43,7 +43,7 @@ pub record InHead (k : Kind) (s : List ℕ) (p : ℕ) : Type 0 where
   pub why : HeadIgnored k s field p
 
 -- where an ignored byte lies: among the unused, in a head, or after the fixed part
-pub lies : (k : Kind) (s : List ℕ) (p : ℕ) → Ignored k s p →
+pub lies : (k : Format) (s : List ℕ) (p : ℕ) → Ignored k s p →
     k .Unused p
     ⊎ (InHead k s p ⊎ ((k .fixed ≤ p) × ((i : ℕ) → Nonempty k s i → Covers k s i p → ⊥) × (MicThere k s → 72 ≤ p → p < 88 → ⊥)))
 lies k s p (max-len i a b e) =
@@ -62,7 +62,7 @@ lies k s p (empty-offset i a b e c d) =
 lies k s p (unused u) = inl u
 lies k s p (uncovered a c m) = inr (inr (a, c, m))
 
-module _ (k : Kind) (x : Apart k) (s : List ℕ) where
+module _ (k : Format) (x : Apart k) (s : List ℕ) where
   -- a place lies in one head only
   same-head : (p j : ℕ) (h : InHead k s p) → 1 ≤ j → j ≤ k .last → k .head j ≤ p → p < k .head j + 8 → h .field ≡ j
   same-head p j h a b c d =

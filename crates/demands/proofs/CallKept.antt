@@ -16,27 +16,27 @@ use Rattle.respond.specs.declared.answer.Answered.{Answered}
 use Rattle.respond.specs.declared.answer.Answered.the-variants.{Refused}
 use Rattle.respond.specs.Answer.{respondAnswer, respondOut}
 use Rattle.c_number.specs.Number.{refusalNumber}
-use Rattle.c_number.specs.Handed.{Handed, numbers, refused, handedNumber, handedOut, handedBytes, callNumber, callOut, besideNumber, besideOut, besideBytes}
+use Rattle.c_number.specs.Outcome.{Outcome, numbers, refused, outcomeNumber, outcomeOut, outcomeBytes, callNumber, callOut, twoArrayNumber, twoArrayOut, twoArrayBytes}
 use Rattle.c_respond.specs.Respond.{answeredOut, respondedNumbers, respondedOut}
-use Rattle.demands.specs.Kept.{CallKept, BesideKept, CallFront, KeptAnswer, RespondedKept}
+use Rattle.demands.specs.Kept.{CallKept, TwoArraysKept, CallFront, KeptAnswer, RespondedKept}
 use Rattle.demands.proofs.AnswerKept.{respond-kept}
 use Rattle.demands.proofs.Bools.{true-not-false}
 
 pub call-kept : CallKept
 unfolding callNumber callOut
 call-kept n h out = go (leb n (length out)) h where
-  go : (t : Bool) (h : Handed) →
-      (after (checked t) (refusalNumber NoRoom) (handedNumber h) ≡ 0) ⊎ (after (checked t) out (handedOut h out) ≡ out)
+  go : (t : Bool) (h : Outcome) →
+      (after (checked t) (refusalNumber NoRoom) (outcomeNumber h) ≡ 0) ⊎ (after (checked t) out (outcomeOut h out) ≡ out)
   go true (numbers xs) = inl refl
   go true (refused e) = inr refl
   go false h = inr refl
 
-pub beside-kept : BesideKept
-unfolding besideNumber besideOut besideBytes
+pub beside-kept : TwoArraysKept
+unfolding twoArrayNumber twoArrayOut twoArrayBytes
 beside-kept n m h bytes out beside = go (leb n (length out) && leb m (length beside)) h where
-  go : (t : Bool) (h : Handed) →
-      (after (checked t) (refusalNumber NoRoom) (handedNumber h) ≡ 0)
-      ⊎ ((after (checked t) out (handedOut h out) ≡ out) × (after (checked t) beside (handedBytes h bytes beside) ≡ beside))
+  go : (t : Bool) (h : Outcome) →
+      (after (checked t) (refusalNumber NoRoom) (outcomeNumber h) ≡ 0)
+      ⊎ ((after (checked t) out (outcomeOut h out) ≡ out) × (after (checked t) beside (outcomeBytes h bytes beside) ≡ beside))
   go true (numbers xs) = inl refl
   go true (refused e) = inr (refl, refl)
   go false h = inr (refl, refl)

@@ -27,11 +27,11 @@ use Rattle.wire.specs.Number.{u32At, standsAt}
 use Rattle.wire.specs.Refusal.{numberOf, fieldOf}
 use Rattle.head.proofs.Stands.{stands, stand}
 use Rattle.demands.specs.Order.{First}
-use Rattle.demands.specs.Message.{Kind, Fails}
+use Rattle.demands.specs.Message.{Format, Fails}
 use Rattle.demands.proofs.Order.{Free, first, next-field, next-check}
 use Rattle.demands.proofs.Bools.{true-not-false, both-ways, failed-false}
 
-abbrev pub layoutOf : Kind → Layout
+abbrev pub layoutOf : Format → Layout
 layoutOf k = record { fixed = k .fixed; «message_type» = k .number; flags = k .flags }
 
 -- a chain of checks, a check at a time
@@ -40,17 +40,17 @@ chained P Held e x f h = h refl
 chained P Failed e x f h = f refl
 
 -- what a verdict says: nothing fails up to the next check, or its refusal is the first failure
-abbrev pub JudgedV : Kind → List ℕ → ℕ → Verdict → Type 0
+abbrev pub JudgedV : Format → List ℕ → ℕ → Verdict → Type 0
 JudgedV k s next Clear = Free (Fails k s) next 0
 JudgedV k s next (Not e) = First (Fails k s) (numberOf e) (fieldOf e)
 
 -- a check over numbered fields, against the table's row n, from field i on
-abbrev pub Links : Kind → List ℕ → ℕ → (Field → Checked) → ℕ → List (ℕ × Field) → Type 0
+abbrev pub Links : Format → List ℕ → ℕ → (Field → Checked) → ℕ → List (ℕ × Field) → Type 0
 Links k s n ok i [] = Unit
 Links k s n ok i (f ∷ fs) =
     (f .0 ≡ i) × (ok (f .1) ≡ Failed → Fails k s n i) × (ok (f .1) ≡ Held → Fails k s n i → ⊥) × Links k s n ok (i + 1) fs
 
-pub over-judged : (k : Kind) (s : List ℕ) (n next : ℕ) (ok : Field → Checked) (e : ℕ → Refusal) → next ≡ n + 1 →
+pub over-judged : (k : Format) (s : List ℕ) (n next : ℕ) (ok : Field → Checked) (e : ℕ → Refusal) → next ≡ n + 1 →
     ((j : ℕ) → (numberOf (e j) ≡ n) × (fieldOf (e j) ≡ j)) →
     (fs : List (ℕ × Field)) (i : ℕ) → Links k s n ok i fs → Free (Fails k s) n i →
     ((j : ℕ) → i + length fs ≤ j → Fails k s n j → ⊥) → JudgedV k s next (overAll ok e fs)
@@ -64,7 +64,7 @@ over-judged k s n next ok e is-next named (f ∷ fs) i links free rest =
     (next-field (Fails k s) n i (i + 1) refl free (links .2 held))
     (λ j l. rest j (omega arith)))
 
-module _ (k : Kind) (s : List ℕ) where
+module _ (k : Format) (s : List ℕ) where
   -- checks 1 to 5
   abbrev pub JudgedH : Head → Type 0
   JudgedH (Flags w) = (w ≡ flagsAt s (k .flags)) × Free (Fails k s) 6 0

@@ -16,11 +16,10 @@ use Rattle.wire.specs.declared.refusal.Refusal.the-variants.{NoStrings, TooLong
 use Rattle.wire.specs.Check.{checked, after, onClear}
 use Rattle.wire.proofs.Laws.{held-true}
 use Rattle.place.specs.declared.written.Written.the-variants.{Length, Refused}
-use Rattle.place.specs.Written.{atFront, answered, outAfter, sizeHolds, roomHolds}
+use Rattle.place.specs.Written.{atFront, answered, outAfter, sizeHolds, roomHolds, bytesHold, bytesAnswer, bytesAfter}
 use Rattle.nl_auth_flags.specs.declared.NlAuthFlags.{NlAuthFlags}
 use Rattle.nl_auth_flags.specs.Flags.{known, stringsHold}
 use Rattle.nl_auth_writing.specs.Writing.{requestBytes, responseBytes, checkZeros, checkRequest, requestAnswer, requestOut, responseAnswer, responseOut}
-use Rattle.word.specs.Call.{lineHolds, lineAnswer, lineAfter}
 use Rattle.demands.specs.Kept.{Kept, NlRequestKept, NlResponseKept, LineKept}
 use Rattle.demands.proofs.Bools.{after-held}
 
@@ -94,7 +93,7 @@ nl-response-kept out = go (leb (length responseBytes) (length out)) refl where
   go false p = by-verdict (Not NoRoom) responseBytes out (λ h. absurd (let z : _≡_ {A = ℕ} 0 1 = cc in omega arith))
 
 pub line-kept : LineKept
-unfolding lineAnswer lineAfter
+unfolding bytesAnswer bytesAfter
 line-kept line out =
-    by-verdict (lineHolds line out) line out
+    by-verdict (bytesHold line out) line out
     (λ h. leb-true (length line) (length out) (held-true _ (after-held (roomHolds (length line) (length out)) NoRoom Clear h .0)))

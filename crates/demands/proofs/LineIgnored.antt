@@ -27,7 +27,7 @@ use Rattle.line.specs.Line.{negoLine, negotiateLine, authLine, authenticateLine
 use Rattle.line_chal.specs.Chal.{chalText}
 use Rattle.line_nl.specs.Nl.{nlOem, nlUtf8, nlText}
 use Rattle.demands.specs.Ignored.{SameFields, SameNegotiate, SameChallenge, SameNlAuth, AuthenticateLineIgnored, NegotiateLineIgnored, ChallengeLineIgnored, NtlmLineIgnored, NlAuthLineIgnored}
-use Rattle.demands.specs.Message.{Kind, negotiate, authenticate, challenge, DifferInIgnored}
+use Rattle.demands.specs.Message.{Format, negotiate, authenticate, challenge, DifferInIgnored}
 use Rattle.demands.proofs.Alike.{same32}
 use Rattle.demands.proofs.Negotiate.{negotiate-ignored, negotiate-seen}
 use Rattle.demands.proofs.ChallengeIgnored.{challenge-ignored, seen as challenge-seen}
@@ -83,7 +83,7 @@ negotiate-line-ignored s t d =
     negotiate-line-same s t (readNegotiate s) w refl ∙ ap (λ (r : NegotiateReading). negoLine t r) (w .answer)
 
 -- the type, by which the NTLM program chooses, is no ignored byte of any kind
-kind-same : (k : Kind) (s t : List ℕ) → Seen k s → DifferInIgnored k s t → kindOf s ≡ kindOf t
+kind-same : (k : Format) (s t : List ℕ) → Seen k s → DifferInIgnored k s t → kindOf s ≡ kindOf t
 unfolding kindOf
 kind-same k s t seen d = simp (d .length-same, same32 s t 8 (λ p l r. looked k s t seen d p (seen .early p (omega arith))))
 

@@ -13,18 +13,18 @@ use Rattle.wire.proofs.Laws.{held-true}
 use Rattle.field.specs.declared.Field.{Field}
 use Rattle.field.specs.Field.{headAt, isEmpty, noField, fieldAt, endsInside, beginsAfter, evenName, share}
 use Rattle.wire.proofs.Bools.{and-left, and-right, and-both}
-use Rattle.demands.specs.Message.{Kind, lenOf, offsetOf, Set, Counts, Nonempty, Covers, Fails}
+use Rattle.demands.specs.Message.{Format, lenOf, offsetOf, Set, Counts, Nonempty, Covers, Fails}
 use Rattle.demands.proofs.Bools.{true-not-false, both-ways, failed-false}
 
 -- f is what the reader makes of the head of field i
-pub record Stands (k : Kind) (s : List ℕ) (i : ℕ) (f : Field) : Type 0 where
+pub record Stands (k : Format) (s : List ℕ) (i : ℕ) (f : Field) : Type 0 where
   pub empty : isEmpty f ≡ true → Nonempty k s i → ⊥
   pub none : isEmpty f ≡ true → f ≡ noField
   pub full : isEmpty f ≡ false → Nonempty k s i
   pub offset : isEmpty f ≡ false → f .offset ≡ offsetOf k s i
   pub len : isEmpty f ≡ false → f .len ≡ lenOf k s i
 
-pub stands : (k : Kind) (s : List ℕ) (i : ℕ) (b : Bool) → 1 ≤ i → i ≤ k .last → (b ≡ true → Counts k s i) → (b ≡ false → Counts k s i → ⊥) →
+pub stands : (k : Format) (s : List ℕ) (i : ℕ) (b : Bool) → 1 ≤ i → i ≤ k .last → (b ≡ true → Counts k s i) → (b ≡ false → Counts k s i → ⊥) →
     Stands k s i (fieldAt s (k .head i) b)
 unfolding fieldAt
 stands k s i b h1 h6 on off = go b (eqb (lenOf k s i) 0) refl on off where
@@ -56,7 +56,7 @@ stands k s i b h1 h6 on off = go b (eqb (lenOf k s i) 0) refl on off where
       }
 
 -- a test that an empty field passes
-module _ (k : Kind) (s : List ℕ) (i : ℕ) (f : Field) (w : Stands k s i f) where
+module _ (k : Format) (s : List ℕ) (i : ℕ) (f : Field) (w : Stands k s i f) where
   -- what a nonempty field is, with the test's answer
   pub record Tested (b : Bool) : Type 0 where
     pub field : Nonempty k s i
@@ -125,7 +125,7 @@ module _ (k : Kind) (s : List ℕ) (i : ℕ) (f : Field) (w : Stands k s i f) wh
     go false p q = true-not-false (sym p)
 
 -- check 9's question, of the reader's fields f and g for i and j: whether a byte lies in both
-module _ (k : Kind) (s : List ℕ) (i j : ℕ) (f g : Field) (w : Stands k s i f) (v : Stands k s j g) where
+module _ (k : Format) (s : List ℕ) (i j : ℕ) (f g : Field) (w : Stands k s i f) (v : Stands k s j g) where
   pub share-true : share f g ≡ true → Nonempty k s i × Nonempty k s j × ((p : ℕ) × Covers k s i p × Covers k s j p)
   share-true h = go (isEmpty f) (isEmpty g) refl refl h where
     go : (a b : Bool) → isEmpty f ≡ a → isEmpty g ≡ b →

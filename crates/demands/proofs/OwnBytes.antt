@@ -14,15 +14,15 @@ use Rattle.authenticate.specs.declared.Reading.{Reading}
 use Rattle.authenticate.specs.declared.Reading.the-variants.{Taken}
 use Rattle.authenticate.specs.Authenticate.{fieldsAt, micPresent, micBytes, readAuthenticate}
 use Rattle.authenticate.proofs.Laws.{taken-by}
-use Rattle.demands.specs.Message.{Kind, authenticate, lenOf, offsetOf, Nonempty, Fails}
+use Rattle.demands.specs.Message.{Format, authenticate, lenOf, offsetOf, Nonempty, Fails}
 use Rattle.demands.specs.OwnBytes.{OwnField, AuthenticateOwn, AuthenticateRefusedMic}
-use Rattle.demands.specs.TakenExactly.{IsTaken}
+use Rattle.demands.specs.TakenExactly.{IsTakenAuthenticate}
 use Rattle.demands.proofs.Chain.{JudgedH, head-judged}
 use Rattle.demands.proofs.Message.{Stands}
 use Rattle.demands.proofs.TakenExactly.{six, authenticate-taken}
 use Rattle.demands.proofs.Mic.{mic-there}
 
-module _ (k : Kind) (s : List ℕ) (i : ℕ) (f : Field) (w : Stands k s i f) where
+module _ (k : Format) (s : List ℕ) (i : ℕ) (f : Field) (w : Stands k s i f) where
   pub is-full : Nonempty k s i → isEmpty f ≡ false
   is-full ne = go (isEmpty f) refl where
     go : (e : Bool) → isEmpty f ≡ e → isEmpty f ≡ false
@@ -66,7 +66,7 @@ taken-answer s a h =
 
 -- a taken message fails no check
 pub none-fails : (s : List ℕ) (a : Authenticate) → readAuthenticate s .reading ≡ Taken a → (n i : ℕ) → Fails authenticate s n i → ⊥
-none-fails s a h = authenticate-taken s .0 (subst IsTaken (sym h) tt)
+none-fails s a h = authenticate-taken s .0 (subst IsTakenAuthenticate (sym h) tt)
 
 not-there : (s : List ℕ) → (micPresent (length s) (fieldsAt s (flagsAt s 60)) ≡ true → ⊥) → micPresent (length s) (fieldsAt s (flagsAt s 60)) ≡ false
 not-there s h = go (micPresent (length s) (fieldsAt s (flagsAt s 60))) refl where
@@ -104,7 +104,7 @@ unfolding readAuthenticate
 authenticate-refused-mic s e h = ap (λ (r : Reading). micBytes r s) h
 
 -- a field that holds these bytes hands them out, also where they are none
-pub own-same : (k : Kind) (M : List ℕ) (i : ℕ) (g : Field) (x : List ℕ) → OwnField k M i g → (0 < lenOf k M i → Nonempty k M i) →
+pub own-same : (k : Format) (M : List ℕ) (i : ℕ) (g : Field) (x : List ℕ) → OwnField k M i g → (0 < lenOf k M i → Nonempty k M i) →
     lenOf k M i ≡ length x → take (length x) (drop (offsetOf k M i) M) ≡ x → fieldBytes M g ≡ x
 own-same k M i g x o full l e = go (length x) refl where
   go : (n : ℕ) → length x ≡ n → fieldBytes M g ≡ x

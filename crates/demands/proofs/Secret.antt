@@ -21,7 +21,7 @@ use Rattle.authenticate.specs.declared.Reading.the-variants.{Taken, Refused}
 use Rattle.authenticate.specs.Authenticate.{layout, fieldsAt, readingOf, readAuthenticate}
 use Rattle.line_auth.specs.Auth.{authNames, authText}
 use Rattle.line.specs.Line.{authLine, authenticateLine}
-use Rattle.word.specs.Call.{lineAnswer, lineAfter}
+use Rattle.place.specs.Written.{bytesAnswer, bytesAfter}
 use Rattle.demands.specs.Bench.{p1}
 use Rattle.demands.specs.Ignored.{SameBytes}
 use Rattle.demands.specs.Message.{authenticate, lenOf, offsetOf, Nonempty, Covers, Fails}
@@ -102,8 +102,8 @@ secret-read s t d =
       user = λ a h. names-same s t d a h .1;
       workstation = λ a h. names-same s t d a h .2;
       line = line-same s t d;
-      line-answer = λ out. ap (λ (l : List ℕ). lineAnswer l out) (line-same s t d);
-      line-out = λ out. ap (λ (l : List ℕ). lineAfter l out) (line-same s t d);
+      line-answer = λ out. ap (λ (l : List ℕ). bytesAnswer l out) (line-same s t d);
+      line-out = λ out. ap (λ (l : List ℕ). bytesAfter l out) (line-same s t d);
     }
 
 -- P1's byte 96 is one of its NT response

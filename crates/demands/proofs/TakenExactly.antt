@@ -29,7 +29,7 @@ use Rattle.authenticate.specs.declared.Reading.the-variants.{Taken, Refused}
 use Rattle.authenticate.specs.Authenticate.{layout, fieldsAt, allFields, names, checkEnds, checkBegins, checkNames, checkShared, checkFields, apart, micPresent, readingOf, readAuthenticate}
 use Rattle.demands.specs.Order.{First}
 use Rattle.demands.specs.Message.{authenticate, Nonempty, Covers, Fails}
-use Rattle.demands.specs.TakenExactly.{IsTaken, RefusedWith, AuthenticateTaken, AuthenticateRefused}
+use Rattle.demands.specs.TakenExactly.{IsTakenAuthenticate, AuthenticateRefusedWith, AuthenticateIsTaken, AuthenticateIsRefused}
 use Rattle.demands.proofs.Order.{Free, only-first, skip}
 use Rattle.demands.proofs.Message.{Stands, even-failed, even-held, share-true, share-false}
 use Rattle.demands.proofs.Fields.{AllStand, Link, ends-judged, begins-judged}
@@ -159,15 +159,15 @@ module _ (s : List ℕ) where
     go (Flags w) j = subst (λ (x : NegotiateFlags). Judged (rest x)) (sym (j .0)) (last (checkFields (length s) (unicode (flagsAt s 60)) (fieldsAt s (flagsAt s 60))) (answer (flagsAt s 60)) (fields-judged (j .1)))
     go (Stopped e) j = j
 
-pub authenticate-taken : AuthenticateTaken
+pub authenticate-taken : AuthenticateIsTaken
 authenticate-taken s = go (readAuthenticate s .reading) (judged s) where
-  go : (r : Reading) → Judged s r → IsTaken r ↔ ((n i : ℕ) → Fails authenticate s n i → ⊥)
+  go : (r : Reading) → Judged s r → IsTakenAuthenticate r ↔ ((n i : ℕ) → Fails authenticate s n i → ⊥)
   go (Taken a) j = (λ t. j, λ h. tt)
   go (Refused e) j = (λ t. absurd t, λ h. h (numberOf e) (fieldOf e) (j .fails))
 
-pub authenticate-refused : AuthenticateRefused
+pub authenticate-refused : AuthenticateIsRefused
 authenticate-refused s n i = go (readAuthenticate s .reading) (judged s) where
-  go : (r : Reading) → Judged s r → RefusedWith r n i ↔ First (Fails authenticate s) n i
+  go : (r : Reading) → Judged s r → AuthenticateRefusedWith r n i ↔ First (Fails authenticate s) n i
   go (Taken a) j = (λ t. absurd t, λ f. j n i (f .fails))
   go (Refused e) j = (
     λ t. subst (λ (x : ℕ). First (Fails authenticate s) n x) (t .1) (subst (λ (x : ℕ). First (Fails authenticate s) x (fieldOf e)) (t .0) j),

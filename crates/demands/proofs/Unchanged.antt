@@ -13,20 +13,20 @@ use Rattle.field.specs.Field.{headAt, isEmpty, noField, fieldAt, fieldBytes}
 use Rattle.head.specs.Head.{flagsAt, signatureHolds, readHead}
 use Rattle.field.proofs.Fields.{own-bytes}
 use Rattle.demands.specs.Ignored.{SameBytes}
-use Rattle.demands.specs.Message.{Kind, lenOf, offsetOf, Counts, Nonempty, Covers, Fails, Ignored, DifferInIgnored}
+use Rattle.demands.specs.Message.{Format, lenOf, offsetOf, Counts, Nonempty, Covers, Fails, Ignored, DifferInIgnored}
 use Rattle.demands.proofs.Alike.{same-part, same16, same32}
 use Rattle.demands.proofs.Chain.{layoutOf}
 use Rattle.demands.proofs.Message.{Stands}
 
 -- what a reader looks at is not ignored
-pub record Seen (k : Kind) (s : List ℕ) : Type 0 where
+pub record Seen (k : Format) (s : List ℕ) : Type 0 where
   pub early : (p : ℕ) → p < 12 → Ignored k s p → ⊥
   pub at-flags : (p : ℕ) → k .flags ≤ p → p < k .flags + 4 → Ignored k s p → ⊥
   pub at-len : (i p : ℕ) → 1 ≤ i → i ≤ k .last → Counts k s i → k .head i ≤ p → p < k .head i + 2 → Ignored k s p → ⊥
   pub at-offset : (i p : ℕ) → Nonempty k s i → k .head i + 4 ≤ p → p < k .head i + 8 → Ignored k s p → ⊥
   pub at-field : (i p : ℕ) → Nonempty k s i → k .fixed ≤ p → Covers k s i p → Ignored k s p → ⊥
 
-module _ (k : Kind) (a b : List ℕ) (seen : Seen k a) (d : DifferInIgnored k a b) where
+module _ (k : Format) (a b : List ℕ) (seen : Seen k a) (d : DifferInIgnored k a b) where
   -- the two are alike wherever a byte is not ignored
   pub looked : (p : ℕ) → (Ignored k a p → ⊥) → getD a p 0 ≡ getD b p 0
   looked p h = ⊎-elim (λ e. e) (λ i. absurd (h i)) (d .bytes-same p)

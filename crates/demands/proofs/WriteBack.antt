@@ -32,7 +32,7 @@ use Rattle.demands.proofs.Kept.{clear-both}
 use Rattle.demands.proofs.NlAuth.{above, five}
 use Rattle.demands.specs.Secret.{Secret, secret-field, mic as mic-byte, AsLong, AlikeOutside}
 use Rattle.demands.specs.ReadBack.{AuthenticateBack, AuthenticateReadsBack}
-use Rattle.demands.specs.TakenExactly.{IsTaken}
+use Rattle.demands.specs.TakenExactly.{IsTakenAuthenticate}
 use Rattle.demands.proofs.Chain.{by-row}
 use Rattle.demands.proofs.OwnBytes.{authenticate-own, own-same}
 use Rattle.demands.proofs.Sent.{back-at, in-payload}
@@ -408,7 +408,7 @@ module _ (w : NegotiateFlags) (v mic lm nt dom usr wks key : List ℕ) (v8 : len
 
     back : keyHolds w key ≡ Held → AuthenticateBack M w mic lm nt dom usr wks key
     back held = go (readAuthenticate M .reading) refl (authenticate-taken M .1 none-fails) where
-      go : (r : Reading) → readAuthenticate M .reading ≡ r → IsTaken r → AuthenticateBack M w mic lm nt dom usr wks key
+      go : (r : Reading) → readAuthenticate M .reading ≡ r → IsTakenAuthenticate r → AuthenticateBack M w mic lm nt dom usr wks key
       go (Taken a) e t =
           let o = authenticate-own M a e in
           record {

@@ -16,8 +16,8 @@ use Rattle.respond.specs.declared.answer.Answered.{Answered}
 use Rattle.respond.specs.declared.answer.Answered.the-variants.{Sent, Refused as Unanswered}
 use Rattle.respond.specs.declared.decision.Settings.{Settings}
 use Rattle.respond.specs.Answer.{respondAnswer, respondOut}
-use Rattle.word.specs.Call.{lineAnswer, lineAfter}
-use Rattle.c_number.specs.Handed.{Handed, numbers, callNumber, callOut, besideNumber, besideOut, besideBytes}
+use Rattle.place.specs.Written.{bytesAnswer, bytesAfter}
+use Rattle.c_number.specs.Outcome.{Outcome, numbers, callNumber, callOut, twoArrayNumber, twoArrayOut, twoArrayBytes}
 use Rattle.c_respond.specs.Respond.{respondedNumbers, respondedOut}
 use Rattle.nl_auth_flags.specs.declared.NlAuthFlags.{NlAuthFlags}
 use Rattle.nl_auth_flags.specs.Flags.{known}
@@ -39,7 +39,7 @@ NlResponseKept = (out : List ℕ) → Kept (responseAnswer (length out)) out (re
 
 -- every call of a line, whatever the line
 abbrev pub LineKept : Type 0
-LineKept = (line out : List ℕ) → Kept (lineAnswer line out) out (lineAfter line out)
+LineKept = (line out : List ℕ) → Kept (bytesAnswer line out) out (bytesAfter line out)
 
 -- Version and MIC are of 8 and 16 bytes, as the call takes them
 abbrev pub AuthenticateKept : Type 0
@@ -66,13 +66,13 @@ RespondKept =
 
 -- the C interface: a call that hands out numbers is answered 0, or leaves its arrays as they were
 abbrev pub CallKept : Type 0
-CallKept = (n : ℕ) (h : Handed) (out : List ℕ) → (callNumber n h (length out) ≡ 0) ⊎ (callOut n h out ≡ out)
+CallKept = (n : ℕ) (h : Outcome) (out : List ℕ) → (callNumber n h (length out) ≡ 0) ⊎ (callOut n h out ≡ out)
 
-abbrev pub BesideKept : Type 0
-BesideKept =
-    (n m : ℕ) (h : Handed) (bytes out beside : List ℕ) →
-    (besideNumber n m h (length out) (length beside) ≡ 0)
-    ⊎ ((besideOut n m h out (length beside) ≡ out) × (besideBytes n m h bytes (length out) beside ≡ beside))
+abbrev pub TwoArraysKept : Type 0
+TwoArraysKept =
+    (n m : ℕ) (h : Outcome) (bytes out beside : List ℕ) →
+    (twoArrayNumber n m h (length out) (length beside) ≡ 0)
+    ⊎ ((twoArrayOut n m h out (length beside) ≡ out) × (twoArrayBytes n m h bytes (length out) beside ≡ beside))
 
 -- what it hands out stands at the front, and nothing after that changes
 abbrev pub CallFront : Type 0

@@ -10,7 +10,7 @@ use Rattle.wire.specs.Number.{u16At, u32At}
 use Rattle.demands.specs.Order.{check}
 
 -- a kind of message
-pub record Kind : Type 1 where
+pub record Format : Type 1 where
   -- the fixed part's length (house), the type, and the place of the flags
   pub fixed : ℕ
   pub number : ℕ
@@ -28,7 +28,7 @@ pub record Kind : Type 1 where
   pub HasMic : Type 0
 
 -- NEGOTIATE: heads at 16 and 24; both names are OEM bytes whatever the flags say
-abbrev pub negotiate : Kind
+abbrev pub negotiate : Format
 negotiate =
     record {
       fixed = 32;
@@ -44,7 +44,7 @@ negotiate =
     }
 
 -- AUTHENTICATE: heads at 12, 20, 28, 36, 44 and 52
-abbrev pub authenticate : Kind
+abbrev pub authenticate : Format
 authenticate =
     record {
       fixed = 64;
@@ -60,7 +60,7 @@ authenticate =
     }
 
 -- CHALLENGE: heads at 12 and 40; Reserved from 32 to 39
-abbrev pub challenge : Kind
+abbrev pub challenge : Format
 challenge =
     record {
       fixed = 48;
@@ -76,32 +76,32 @@ challenge =
     }
 
 -- a flag is set, by its mask
-abbrev pub Set : Kind → List ℕ → ℕ → Type 0
+abbrev pub Set : Format → List ℕ → ℕ → Type 0
 Set k s mask = u32At s (k .flags) / mask % 2 ≡ 1
 
-abbrev pub Counts : Kind → List ℕ → ℕ → Type 0
+abbrev pub Counts : Format → List ℕ → ℕ → Type 0
 Counts k s i = k .Counts (Set k s) i
 
 -- a head: Len at its place, the offset four bytes on
-abbrev pub lenOf : Kind → List ℕ → ℕ → ℕ
+abbrev pub lenOf : Format → List ℕ → ℕ → ℕ
 lenOf k s i = u16At s (k .head i)
 
-abbrev pub offsetOf : Kind → List ℕ → ℕ → ℕ
+abbrev pub offsetOf : Format → List ℕ → ℕ → ℕ
 offsetOf k s i = u32At s (k .head i + 4)
 
 -- a field that counts and isn't empty
-pub record Nonempty (k : Kind) (s : List ℕ) (i : ℕ) : Type 0 where
+pub record Nonempty (k : Format) (s : List ℕ) (i : ℕ) : Type 0 where
   pub first : 1 ≤ i
   pub last : i ≤ k .last
   pub counts : Counts k s i
   pub some : 0 < lenOf k s i
 
 -- the byte at p is one of the field's
-abbrev pub Covers : Kind → List ℕ → ℕ → ℕ → Type 0
+abbrev pub Covers : Format → List ℕ → ℕ → ℕ → Type 0
 Covers k s i p = (offsetOf k s i ≤ p) × (p < offsetOf k s i + lenOf k s i)
 
 -- document 01's table, rows 1 to 9: check n fails at field i
-abbrev pub Fails : Kind → List ℕ → ℕ → ℕ → Type 0
+abbrev pub Fails : Format → List ℕ → ℕ → ℕ → Type 0
 Fails k s n i =
     check 1 n ((i ≡ 0) × (65535 < length s)) (
     check 2 n ((i ≡ 0) × (length s < k .fixed)) (
@@ -116,13 +116,13 @@ Fails k s n i =
 
 -- document 01: "The MIC is present exactly when the lowest offset of a nonempty field, or the message length if all
 -- are empty, is at least 88"
-pub record MicThere (k : Kind) (s : List ℕ) : Type 0 where
+pub record MicThere (k : Format) (s : List ℕ) : Type 0 where
   pub kind : k .HasMic
   pub fields : (i : ℕ) → Nonempty k s i → 88 ≤ offsetOf k s i
   pub message : ((i : ℕ) → Nonempty k s i → ⊥) → 88 ≤ length s
 
 -- the byte at p is ignored
-pub data Ignored (k : Kind) (s : List ℕ) (p : ℕ) : Type 0 where
+pub data Ignored (k : Format) (s : List ℕ) (p : ℕ) : Type 0 where
   -- MaxLen of a field
   max-len : (i : ℕ) → 1 ≤ i → i ≤ k .last → (p ≡ k .head i + 2) ⊎ (p ≡ k .head i + 3) → Ignored k s p
   -- the head of a field that doesn't count
@@ -135,6 +135,6 @@ pub data Ignored (k : Kind) (s : List ℕ) (p : ℕ) : Type 0 where
   uncovered : k .fixed ≤ p → ((i : ℕ) → Nonempty k s i → Covers k s i p → ⊥) → (MicThere k s → 72 ≤ p → p < 88 → ⊥) → Ignored k s p
 
 -- two messages of one length that differ only in ignored bytes
-pub record DifferInIgnored (k : Kind) (s t : List ℕ) : Type 0 where
+pub record DifferInIgnored (k : Format) (s t : List ℕ) : Type 0 where
   pub length-same : length s ≡ length t
   pub bytes-same : (p : ℕ) → (getD s p 0 ≡ getD t p 0) ⊎ Ignored k s p

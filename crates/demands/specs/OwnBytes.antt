@@ -31,13 +31,13 @@ use Rattle.nl_auth.specs.declared.NlAuth.{NlAuth}
 use Rattle.nl_auth.specs.declared.Reading.the-variants.{Taken as NlTaken}
 use Rattle.nl_auth.specs.NlAuth.{readNlAuth}
 use Rattle.demands.specs.NlAuth.{typeOf, maskOf, BitSet, ZeroAt, StartsAt}
-use Rattle.demands.specs.Message.{Kind, negotiate, authenticate, challenge, lenOf, offsetOf, Nonempty, MicThere}
+use Rattle.demands.specs.Message.{Format, negotiate, authenticate, challenge, lenOf, offsetOf, Nonempty, MicThere}
 use Rattle.demands.specs.PairList.{sizeOf, FirstWith}
 use Rattle.demands.specs.TakenExactly.{InfoBytes}
 
 -- field i of s is handed out as f: the Len bytes from its offset on and nothing else; a field that is empty or doesn't
 -- count has none, and place 0
-pub record OwnField (k : Kind) (s : List ℕ) (i : ℕ) (f : Field) : Type 0 where
+pub record OwnField (k : Format) (s : List ℕ) (i : ℕ) (f : Field) : Type 0 where
   pub place : Nonempty k s i → (f .offset ≡ offsetOf k s i) × (f .len ≡ lenOf k s i)
   pub whole : Nonempty k s i → offsetOf k s i + lenOf k s i ≤ length s
   pub bytes : Nonempty k s i → fieldBytes s f ≡ take (lenOf k s i) (drop (offsetOf k s i) s)

@@ -10,7 +10,7 @@ use Rattle.authenticate.specs.declared.Authenticate.{Authenticate}
 use Rattle.authenticate.specs.declared.Reading.the-variants.{Taken}
 use Rattle.authenticate.specs.Authenticate.{readAuthenticate}
 use Rattle.line.specs.Line.{authenticateLine}
-use Rattle.word.specs.Call.{lineAnswer, lineAfter}
+use Rattle.place.specs.Written.{bytesAnswer, bytesAfter}
 use Rattle.respond.specs.declared.answer.Answer.{Answer}
 use Rattle.respond.specs.declared.answer.Answered.the-variants.{Sent}
 use Rattle.respond.specs.declared.decision.Settings.{Settings}
@@ -40,8 +40,8 @@ pub record SamePublic (s t : List ℕ) : Type 0 where
   pub user : (a : Authenticate) → readAuthenticate s .reading ≡ Taken a → SameBytes s t (a .fields .user)
   pub workstation : (a : Authenticate) → readAuthenticate s .reading ≡ Taken a → SameBytes s t (a .fields .workstation)
   pub line : authenticateLine s ≡ authenticateLine t
-  pub line-answer : (out : List ℕ) → lineAnswer (authenticateLine s) out ≡ lineAnswer (authenticateLine t) out
-  pub line-out : (out : List ℕ) → lineAfter (authenticateLine s) out ≡ lineAfter (authenticateLine t) out
+  pub line-answer : (out : List ℕ) → bytesAnswer (authenticateLine s) out ≡ bytesAnswer (authenticateLine t) out
+  pub line-out : (out : List ℕ) → bytesAfter (authenticateLine s) out ≡ bytesAfter (authenticateLine t) out
 
 abbrev pub SecretRead : Type 0
 SecretRead = (s t : List ℕ) → DifferInSecrets s t → SamePublic s t

@@ -26,21 +26,21 @@ use Rattle.demands.specs.Order.{First}
 use Rattle.demands.specs.Message.{Fails, negotiate, authenticate, challenge, Nonempty, lenOf, offsetOf}
 use Rattle.demands.specs.PairList.{Holds, FirstFault}
 
-abbrev pub IsTaken : Reading → Type 0
-IsTaken (Taken a) = Unit
-IsTaken (Refused e) = ⊥
+abbrev pub IsTakenAuthenticate : Reading → Type 0
+IsTakenAuthenticate (Taken a) = Unit
+IsTakenAuthenticate (Refused e) = ⊥
 
-abbrev pub RefusedWith : Reading → ℕ → ℕ → Type 0
-RefusedWith (Taken a) n i = ⊥
-RefusedWith (Refused e) n i = (numberOf e ≡ n) × (fieldOf e ≡ i)
+abbrev pub AuthenticateRefusedWith : Reading → ℕ → ℕ → Type 0
+AuthenticateRefusedWith (Taken a) n i = ⊥
+AuthenticateRefusedWith (Refused e) n i = (numberOf e ≡ n) × (fieldOf e ≡ i)
 
 -- AUTHENTICATE is taken if and only if no check fails at any field
-abbrev pub AuthenticateTaken : Type 0
-AuthenticateTaken = (s : List ℕ) → IsTaken (readAuthenticate s .reading) ↔ ((n i : ℕ) → Fails authenticate s n i → ⊥)
+abbrev pub AuthenticateIsTaken : Type 0
+AuthenticateIsTaken = (s : List ℕ) → IsTakenAuthenticate (readAuthenticate s .reading) ↔ ((n i : ℕ) → Fails authenticate s n i → ⊥)
 
 -- and refused with number n and field i if and only if that is the first failure, in document 01's order
-abbrev pub AuthenticateRefused : Type 0
-AuthenticateRefused = (s : List ℕ) (n i : ℕ) → RefusedWith (readAuthenticate s .reading) n i ↔ First (Fails authenticate s) n i
+abbrev pub AuthenticateIsRefused : Type 0
+AuthenticateIsRefused = (s : List ℕ) (n i : ℕ) → AuthenticateRefusedWith (readAuthenticate s .reading) n i ↔ First (Fails authenticate s) n i
 
 abbrev pub IsTakenNegotiate : NegotiateReading → Type 0
 IsTakenNegotiate (NegotiateTaken m) = Unit

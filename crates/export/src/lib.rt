@@ -3,7 +3,7 @@
 ghost use mathlib.Core.Path.{_≡_};
 ghost use lib.ListN.{length};
 ghost use Rattle.field.specs.Field.{fieldBytes};
-ghost use Rattle.word.specs.Call.{lineAnswer, lineAfter};
+ghost use Rattle.place.specs.Written.{bytesAnswer, bytesAfter};
 ghost use Rattle.av_pairs.specs.AvPairs.{checkPairs, countPairs, findPair, askAt};
 ghost use Rattle.authenticate.specs.Authenticate.{readAuthenticate};
 ghost use Rattle.authenticate_writing.specs.Writing.{writeAnswer, writeOut};
@@ -18,10 +18,10 @@ ghost use Rattle.respond.specs.Answer.{respondAnswer, respondOut};
 ghost use Rattle.respond.specs.Decision.{defaults, decisionOn};
 ghost use Rattle.respond.specs.Domain.{domainToSend};
 ghost use Rattle.c_number.specs.Number.{verdictNumber, writtenNumber};
-ghost use Rattle.c_number.specs.Handed.{callNumber, callOut, besideNumber, besideOut, besideBytes};
-ghost use Rattle.c_reading.specs.Numbers.{negoHanded, authHanded, chalHanded, timeHanded, namesHanded, nlHanded};
-ghost use Rattle.c_pairs.specs.Pairs.{countHanded, searchHanded, askedHanded};
-ghost use Rattle.c_respond.specs.Respond.{settingsOf, decidedHanded, respondedNumber, respondedNumbers, respondedOut};
+ghost use Rattle.c_number.specs.Outcome.{callNumber, callOut, twoArrayNumber, twoArrayOut, twoArrayBytes};
+ghost use Rattle.c_reading.specs.Numbers.{negotiateOutcome, authenticateOutcome, challengeOutcome, timestampOutcome, serverNamesOutcome, nlAuthOutcome};
+ghost use Rattle.c_pairs.specs.Pairs.{countOutcome, searchOutcome, askedOutcome};
+ghost use Rattle.c_respond.specs.Respond.{settingsOf, decidedOutcome, respondedNumber, respondedNumbers, respondedOut};
 use authenticate_writing::write;
 use c_number::copy;
 use c_number::line_number;
@@ -36,8 +36,8 @@ use respond::domain::domain_to_send;
 
 #[no_mangle]
 pub extern "C" fn dialtable_read_negotiate(msg: &[u8], numbers: &mut [u64]) -> u64
-    ensures answer { λ r. ⌜ r ≡ callNumber 5 (negoHanded (readNegotiate (now (msg .entry)))) (length (now (numbers .entry))) ⌝ }
-    ensures content { λ _. ⌜ now (numbers .exit) ≡ callOut 5 (negoHanded (readNegotiate (now (msg .entry)))) (now (numbers .entry)) ⌝ }
+    ensures answer { λ r. ⌜ r ≡ callNumber 5 (negotiateOutcome (readNegotiate (now (msg .entry)))) (length (now (numbers .entry))) ⌝ }
+    ensures content { λ _. ⌜ now (numbers .exit) ≡ callOut 5 (negotiateOutcome (readNegotiate (now (msg .entry)))) (now (numbers .entry)) ⌝ }
 {
     c_reading::read_negotiate(msg, numbers)
 }
@@ -48,74 +48,74 @@ pub extern "C" fn dialtable_read_authenticate(
     numbers: &mut [u64],
     mic: &mut [u8],
 ) -> u64
-    ensures answer { λ r. ⌜ r ≡ besideNumber 14 16 (authHanded (readAuthenticate (now (msg .entry)) .reading)) (length (now (numbers .entry))) (length (now (mic .entry))) ⌝ }
-    ensures content { λ _. ⌜ now (numbers .exit) ≡ besideOut 14 16 (authHanded (readAuthenticate (now (msg .entry)) .reading)) (now (numbers .entry)) (length (now (mic .entry))) ⌝ }
-    ensures beside { λ _. ⌜ now (mic .exit) ≡ besideBytes 14 16 (authHanded (readAuthenticate (now (msg .entry)) .reading)) (readAuthenticate (now (msg .entry)) .mic) (length (now (numbers .entry))) (now (mic .entry)) ⌝ }
+    ensures answer { λ r. ⌜ r ≡ twoArrayNumber 14 16 (authenticateOutcome (readAuthenticate (now (msg .entry)) .reading)) (length (now (numbers .entry))) (length (now (mic .entry))) ⌝ }
+    ensures content { λ _. ⌜ now (numbers .exit) ≡ twoArrayOut 14 16 (authenticateOutcome (readAuthenticate (now (msg .entry)) .reading)) (now (numbers .entry)) (length (now (mic .entry))) ⌝ }
+    ensures beside { λ _. ⌜ now (mic .exit) ≡ twoArrayBytes 14 16 (authenticateOutcome (readAuthenticate (now (msg .entry)) .reading)) (readAuthenticate (now (msg .entry)) .mic) (length (now (numbers .entry))) (now (mic .entry)) ⌝ }
 {
     c_reading::read_authenticate(msg, numbers, mic)
 }
 
 #[no_mangle]
 pub extern "C" fn dialtable_read_challenge(msg: &[u8], numbers: &mut [u64], out: &mut [u8]) -> u64
-    ensures answer { λ r. ⌜ r ≡ besideNumber 5 8 (chalHanded (readChallenge (now (msg .entry)) .reading)) (length (now (numbers .entry))) (length (now (out .entry))) ⌝ }
-    ensures content { λ _. ⌜ now (numbers .exit) ≡ besideOut 5 8 (chalHanded (readChallenge (now (msg .entry)) .reading)) (now (numbers .entry)) (length (now (out .entry))) ⌝ }
-    ensures beside { λ _. ⌜ now (out .exit) ≡ besideBytes 5 8 (chalHanded (readChallenge (now (msg .entry)) .reading)) (readChallenge (now (msg .entry)) .«server_challenge») (length (now (numbers .entry))) (now (out .entry)) ⌝ }
+    ensures answer { λ r. ⌜ r ≡ twoArrayNumber 5 8 (challengeOutcome (readChallenge (now (msg .entry)) .reading)) (length (now (numbers .entry))) (length (now (out .entry))) ⌝ }
+    ensures content { λ _. ⌜ now (numbers .exit) ≡ twoArrayOut 5 8 (challengeOutcome (readChallenge (now (msg .entry)) .reading)) (now (numbers .entry)) (length (now (out .entry))) ⌝ }
+    ensures beside { λ _. ⌜ now (out .exit) ≡ twoArrayBytes 5 8 (challengeOutcome (readChallenge (now (msg .entry)) .reading)) (readChallenge (now (msg .entry)) .«server_challenge») (length (now (numbers .entry))) (now (out .entry)) ⌝ }
 {
     c_reading::read_challenge(msg, numbers, out)
 }
 
 #[no_mangle]
 pub extern "C" fn dialtable_read_timestamp(msg: &[u8], numbers: &mut [u64]) -> u64
-    ensures answer { λ r. ⌜ r ≡ callNumber 2 (timeHanded (timestampOf (now (msg .entry)))) (length (now (numbers .entry))) ⌝ }
-    ensures content { λ _. ⌜ now (numbers .exit) ≡ callOut 2 (timeHanded (timestampOf (now (msg .entry)))) (now (numbers .entry)) ⌝ }
+    ensures answer { λ r. ⌜ r ≡ callNumber 2 (timestampOutcome (timestampOf (now (msg .entry)))) (length (now (numbers .entry))) ⌝ }
+    ensures content { λ _. ⌜ now (numbers .exit) ≡ callOut 2 (timestampOutcome (timestampOf (now (msg .entry)))) (now (numbers .entry)) ⌝ }
 {
     c_reading::read_timestamp(msg, numbers)
 }
 
 #[no_mangle]
 pub extern "C" fn dialtable_read_server_names(msg: &[u8], numbers: &mut [u64]) -> u64
-    ensures answer { λ r. ⌜ r ≡ callNumber 2 (namesHanded (serverNamesOf (now (msg .entry)))) (length (now (numbers .entry))) ⌝ }
-    ensures content { λ _. ⌜ now (numbers .exit) ≡ callOut 2 (namesHanded (serverNamesOf (now (msg .entry)))) (now (numbers .entry)) ⌝ }
+    ensures answer { λ r. ⌜ r ≡ callNumber 2 (serverNamesOutcome (serverNamesOf (now (msg .entry)))) (length (now (numbers .entry))) ⌝ }
+    ensures content { λ _. ⌜ now (numbers .exit) ≡ callOut 2 (serverNamesOutcome (serverNamesOf (now (msg .entry)))) (now (numbers .entry)) ⌝ }
 {
     c_reading::read_server_names(msg, numbers)
 }
 
 #[no_mangle]
 pub extern "C" fn dialtable_read_nl_auth(msg: &[u8], numbers: &mut [u64]) -> u64
-    ensures answer { λ r. ⌜ r ≡ callNumber 12 (nlHanded (readNlAuth (now (msg .entry)))) (length (now (numbers .entry))) ⌝ }
-    ensures content { λ _. ⌜ now (numbers .exit) ≡ callOut 12 (nlHanded (readNlAuth (now (msg .entry)))) (now (numbers .entry)) ⌝ }
+    ensures answer { λ r. ⌜ r ≡ callNumber 12 (nlAuthOutcome (readNlAuth (now (msg .entry)))) (length (now (numbers .entry))) ⌝ }
+    ensures content { λ _. ⌜ now (numbers .exit) ≡ callOut 12 (nlAuthOutcome (readNlAuth (now (msg .entry)))) (now (numbers .entry)) ⌝ }
 {
     c_reading::read_nl_auth(msg, numbers)
 }
 
 #[no_mangle]
 pub extern "C" fn dialtable_count_pairs(list: &[u8], numbers: &mut [u64]) -> u64
-    ensures answer { λ r. ⌜ r ≡ callNumber 1 (countHanded (countPairs (now (list .entry)))) (length (now (numbers .entry))) ⌝ }
-    ensures content { λ _. ⌜ now (numbers .exit) ≡ callOut 1 (countHanded (countPairs (now (list .entry)))) (now (numbers .entry)) ⌝ }
+    ensures answer { λ r. ⌜ r ≡ callNumber 1 (countOutcome (countPairs (now (list .entry)))) (length (now (numbers .entry))) ⌝ }
+    ensures content { λ _. ⌜ now (numbers .exit) ≡ callOut 1 (countOutcome (countPairs (now (list .entry)))) (now (numbers .entry)) ⌝ }
 {
     c_pairs::count_pairs(list, numbers)
 }
 
 #[no_mangle]
 pub extern "C" fn dialtable_find_pair(list: &[u8], id: u16, numbers: &mut [u64]) -> u64
-    ensures answer { λ r. ⌜ r ≡ callNumber 3 (searchHanded (findPair (record { id = id }) (now (list .entry)))) (length (now (numbers .entry))) ⌝ }
-    ensures content { λ _. ⌜ now (numbers .exit) ≡ callOut 3 (searchHanded (findPair (record { id = id }) (now (list .entry)))) (now (numbers .entry)) ⌝ }
+    ensures answer { λ r. ⌜ r ≡ callNumber 3 (searchOutcome (findPair (record { id = id }) (now (list .entry)))) (length (now (numbers .entry))) ⌝ }
+    ensures content { λ _. ⌜ now (numbers .exit) ≡ callOut 3 (searchOutcome (findPair (record { id = id }) (now (list .entry)))) (now (numbers .entry)) ⌝ }
 {
     c_pairs::find_pair(list, id, numbers)
 }
 
 #[no_mangle]
 pub extern "C" fn dialtable_next_pair(list: &[u8], at: usize, numbers: &mut [u64]) -> u64
-    ensures answer { λ r. ⌜ r ≡ callNumber 5 (askedHanded (askAt (now (list .entry)) at)) (length (now (numbers .entry))) ⌝ }
-    ensures content { λ _. ⌜ now (numbers .exit) ≡ callOut 5 (askedHanded (askAt (now (list .entry)) at)) (now (numbers .entry)) ⌝ }
+    ensures answer { λ r. ⌜ r ≡ callNumber 5 (askedOutcome (askAt (now (list .entry)) at)) (length (now (numbers .entry))) ⌝ }
+    ensures content { λ _. ⌜ now (numbers .exit) ≡ callOut 5 (askedOutcome (askAt (now (list .entry)) at)) (now (numbers .entry)) ⌝ }
 {
     c_pairs::next_pair(list, at, numbers)
 }
 
 #[no_mangle]
 pub extern "C" fn dialtable_decide(settings: u32, challenge: &[u8], numbers: &mut [u64]) -> u64
-    ensures answer { λ r. ⌜ r ≡ callNumber 3 (decidedHanded (decisionOn (settingsOf settings) (now (challenge .entry)))) (length (now (numbers .entry))) ⌝ }
-    ensures content { λ _. ⌜ now (numbers .exit) ≡ callOut 3 (decidedHanded (decisionOn (settingsOf settings) (now (challenge .entry)))) (now (numbers .entry)) ⌝ }
+    ensures answer { λ r. ⌜ r ≡ callNumber 3 (decidedOutcome (decisionOn (settingsOf settings) (now (challenge .entry)))) (length (now (numbers .entry))) ⌝ }
+    ensures content { λ _. ⌜ now (numbers .exit) ≡ callOut 3 (decidedOutcome (decisionOn (settingsOf settings) (now (challenge .entry)))) (now (numbers .entry)) ⌝ }
 {
     c_respond::decide(settings, challenge, numbers)
 }
@@ -264,56 +264,56 @@ pub extern "C" fn dialtable_respond_for_relay<'a>(
 
 #[no_mangle]
 pub extern "C" fn dialtable_negotiate_line(msg: &[u8], out: &mut [u8]) -> u64
-    ensures answer { λ r. ⌜ r ≡ writtenNumber (lineAnswer (negotiateLine (now (msg .entry))) (now (out .entry))) ⌝ }
-    ensures content { λ _. ⌜ now (out .exit) ≡ lineAfter (negotiateLine (now (msg .entry))) (now (out .entry)) ⌝ }
+    ensures answer { λ r. ⌜ r ≡ writtenNumber (bytesAnswer (negotiateLine (now (msg .entry))) (now (out .entry))) ⌝ }
+    ensures content { λ _. ⌜ now (out .exit) ≡ bytesAfter (negotiateLine (now (msg .entry))) (now (out .entry)) ⌝ }
 {
     line_number(line::negotiate_line(msg, out))
 }
 
 #[no_mangle]
 pub extern "C" fn dialtable_authenticate_line(msg: &[u8], out: &mut [u8]) -> u64
-    ensures answer { λ r. ⌜ r ≡ writtenNumber (lineAnswer (authenticateLine (now (msg .entry))) (now (out .entry))) ⌝ }
-    ensures content { λ _. ⌜ now (out .exit) ≡ lineAfter (authenticateLine (now (msg .entry))) (now (out .entry)) ⌝ }
+    ensures answer { λ r. ⌜ r ≡ writtenNumber (bytesAnswer (authenticateLine (now (msg .entry))) (now (out .entry))) ⌝ }
+    ensures content { λ _. ⌜ now (out .exit) ≡ bytesAfter (authenticateLine (now (msg .entry))) (now (out .entry)) ⌝ }
 {
     line_number(line::authenticate_line(msg, out))
 }
 
 #[no_mangle]
 pub extern "C" fn dialtable_challenge_line(msg: &[u8], out: &mut [u8]) -> u64
-    ensures answer { λ r. ⌜ r ≡ writtenNumber (lineAnswer (challengeLine (now (msg .entry))) (now (out .entry))) ⌝ }
-    ensures content { λ _. ⌜ now (out .exit) ≡ lineAfter (challengeLine (now (msg .entry))) (now (out .entry)) ⌝ }
+    ensures answer { λ r. ⌜ r ≡ writtenNumber (bytesAnswer (challengeLine (now (msg .entry))) (now (out .entry))) ⌝ }
+    ensures content { λ _. ⌜ now (out .exit) ≡ bytesAfter (challengeLine (now (msg .entry))) (now (out .entry)) ⌝ }
 {
     line_number(line::challenge_line(msg, out))
 }
 
 #[no_mangle]
 pub extern "C" fn dialtable_nl_auth_line(msg: &[u8], out: &mut [u8]) -> u64
-    ensures answer { λ r. ⌜ r ≡ writtenNumber (lineAnswer (nlAuthLine (now (msg .entry))) (now (out .entry))) ⌝ }
-    ensures content { λ _. ⌜ now (out .exit) ≡ lineAfter (nlAuthLine (now (msg .entry))) (now (out .entry)) ⌝ }
+    ensures answer { λ r. ⌜ r ≡ writtenNumber (bytesAnswer (nlAuthLine (now (msg .entry))) (now (out .entry))) ⌝ }
+    ensures content { λ _. ⌜ now (out .exit) ≡ bytesAfter (nlAuthLine (now (msg .entry))) (now (out .entry)) ⌝ }
 {
     line_number(line::nl_auth_line(msg, out))
 }
 
 #[no_mangle]
 pub extern "C" fn dialtable_ntlm_line(msg: &[u8], out: &mut [u8]) -> u64
-    ensures answer { λ r. ⌜ r ≡ writtenNumber (lineAnswer (ntlmLine (now (msg .entry))) (now (out .entry))) ⌝ }
-    ensures content { λ _. ⌜ now (out .exit) ≡ lineAfter (ntlmLine (now (msg .entry))) (now (out .entry)) ⌝ }
+    ensures answer { λ r. ⌜ r ≡ writtenNumber (bytesAnswer (ntlmLine (now (msg .entry))) (now (out .entry))) ⌝ }
+    ensures content { λ _. ⌜ now (out .exit) ≡ bytesAfter (ntlmLine (now (msg .entry))) (now (out .entry)) ⌝ }
 {
     line_number(line::ntlm_line(msg, out))
 }
 
 #[no_mangle]
 pub extern "C" fn dialtable_ntlm_program_line(msg: &[u8], out: &mut [u8]) -> u64
-    ensures answer { λ r. ⌜ r ≡ writtenNumber (lineAnswer (shownLine (ntlmLine (now (msg .entry))) (now (out .entry))) (now (out .entry))) ⌝ }
-    ensures content { λ _. ⌜ now (out .exit) ≡ lineAfter (shownLine (ntlmLine (now (msg .entry))) (now (out .entry))) (now (out .entry)) ⌝ }
+    ensures answer { λ r. ⌜ r ≡ writtenNumber (bytesAnswer (shownLine (ntlmLine (now (msg .entry))) (now (out .entry))) (now (out .entry))) ⌝ }
+    ensures content { λ _. ⌜ now (out .exit) ≡ bytesAfter (shownLine (ntlmLine (now (msg .entry))) (now (out .entry))) (now (out .entry)) ⌝ }
 {
     line_number(line::ntlm_program_line(msg, out))
 }
 
 #[no_mangle]
 pub extern "C" fn dialtable_nl_auth_program_line(msg: &[u8], out: &mut [u8]) -> u64
-    ensures answer { λ r. ⌜ r ≡ writtenNumber (lineAnswer (shownLine (nlAuthLine (now (msg .entry))) (now (out .entry))) (now (out .entry))) ⌝ }
-    ensures content { λ _. ⌜ now (out .exit) ≡ lineAfter (shownLine (nlAuthLine (now (msg .entry))) (now (out .entry))) (now (out .entry)) ⌝ }
+    ensures answer { λ r. ⌜ r ≡ writtenNumber (bytesAnswer (shownLine (nlAuthLine (now (msg .entry))) (now (out .entry))) (now (out .entry))) ⌝ }
+    ensures content { λ _. ⌜ now (out .exit) ≡ bytesAfter (shownLine (nlAuthLine (now (msg .entry))) (now (out .entry))) (now (out .entry)) ⌝ }
 {
     line_number(line::nl_auth_program_line(msg, out))
 }
@@ -327,8 +327,8 @@ pub extern "C" fn dialtable_check_pairs(list: &[u8]) -> u64
 
 #[no_mangle]
 pub extern "C" fn dialtable_field_bytes(msg: &[u8], offset: u32, len: u16, out: &mut [u8]) -> u64
-    ensures answer { λ r. ⌜ r ≡ writtenNumber (lineAnswer (fieldBytes (now (msg .entry)) (record { offset = offset; len = len })) (now (out .entry))) ⌝ }
-    ensures content { λ _. ⌜ now (out .exit) ≡ lineAfter (fieldBytes (now (msg .entry)) (record { offset = offset; len = len })) (now (out .entry)) ⌝ }
+    ensures answer { λ r. ⌜ r ≡ writtenNumber (bytesAnswer (fieldBytes (now (msg .entry)) (record { offset = offset; len = len })) (now (out .entry))) ⌝ }
+    ensures content { λ _. ⌜ now (out .exit) ≡ bytesAfter (fieldBytes (now (msg .entry)) (record { offset = offset; len = len })) (now (out .entry)) ⌝ }
 {
     let f = Field {
         offset: offset,
@@ -343,8 +343,8 @@ pub extern "C" fn dialtable_domain_to_send<'a>(
     challenge: &'a [u8],
     out: &mut [u8],
 ) -> u64
-    ensures answer { λ r. ⌜ r ≡ writtenNumber (lineAnswer (domainToSend (now (own .entry)) (now (challenge .entry))) (now (out .entry))) ⌝ }
-    ensures content { λ _. ⌜ now (out .exit) ≡ lineAfter (domainToSend (now (own .entry)) (now (challenge .entry))) (now (out .entry)) ⌝ }
+    ensures answer { λ r. ⌜ r ≡ writtenNumber (bytesAnswer (domainToSend (now (own .entry)) (now (challenge .entry))) (now (out .entry))) ⌝ }
+    ensures content { λ _. ⌜ now (out .exit) ≡ bytesAfter (domainToSend (now (own .entry)) (now (challenge .entry))) (now (out .entry)) ⌝ }
 {
     written_number(copy(out, domain_to_send(own, challenge)))
 }

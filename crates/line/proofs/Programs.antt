@@ -15,10 +15,9 @@ use Rattle.head.specs.declared.Kind.the-variants.{Negotiate, Challenge, Authent
 use Rattle.head.specs.Head.{kindOf}
 use Rattle.place.specs.declared.written.Written.{Written}
 use Rattle.place.specs.declared.written.Written.the-variants.{Length, Refused}
-use Rattle.place.specs.Written.{answered}
+use Rattle.place.specs.Written.{answered, bytesAnswer, bytesAfter}
 use Rattle.line_refused.specs.Refused.{refusedLine}
 use Rattle.line.specs.Line.{negotiateLine, challengeLine, authenticateLine, ntlmLine, shownLine}
-use Rattle.word.specs.Call.{lineAnswer, lineAfter}
 
 -- ---- the kind that was chosen
 
@@ -39,26 +38,26 @@ pub ruleset chosen = (as-negotiate, as-challenge, as-authenticate)
 
 -- ---- what a program prints
 
-module _ (line out : List ℕ) (r : Written) (p : r ≡ lineAnswer line out) where
+module _ (line out : List ℕ) (r : Written) (p : r ≡ bytesAnswer line out) where
   -- a line that was written had room
   had-room : (n : ℕ) → r ≡ Length n → (leb (length line) (length out) ≡ true) × (n ≡ length line)
-  unfolding lineAnswer
+  unfolding bytesAnswer
   had-room n h = go (leb (length line) (length out)) (sym p ∙ h) where
     go : (t : Bool) → answered (after (checked t) (Not NoRoom) Clear) line ≡ Length n → (t ≡ true) × (n ≡ length line)
     go true e = (refl, cc)
     go false e = (cc, cc)
 
   had-none : (e : Refusal) → r ≡ Refused e → leb (length line) (length out) ≡ false
-  unfolding lineAnswer
+  unfolding bytesAnswer
   had-none e h = go (leb (length line) (length out)) (sym p ∙ h) where
     go : (t : Bool) → answered (after (checked t) (Not NoRoom) Clear) line ≡ Refused e → t ≡ false
     go true e = cc
     go false e = refl
 
   -- its bytes are there, from the output's start on
-  module _ (k : List ℕ) (n : ℕ) (q : k ≡ lineAfter line out) (h : r ≡ Length n) where
+  module _ (k : List ℕ) (n : ℕ) (q : k ≡ bytesAfter line out) (h : r ≡ Length n) where
     pub printed : n ≤ length k
-    unfolding lineAfter
+    unfolding bytesAfter
     printed =
         let w = had-room n h in
         let e : length k ≡ length line + length (drop (length line) out) = ap length q ∙ simp (w .0, length-append) in
@@ -72,23 +71,23 @@ module _ (line out : List ℕ) (r : Written) (p : r ≡ lineAnswer line out) whe
     unfolding shownLine
     shown = simp (had-room n h .0)
 
-    pub shown-answer : r ≡ lineAnswer (shownLine line out) out
+    pub shown-answer : r ≡ bytesAnswer (shownLine line out) out
     shown-answer = rw (← shown) p
 
-    pub shown-after : (k : List ℕ) → k ≡ lineAfter line out → k ≡ lineAfter (shownLine line out) out
+    pub shown-after : (k : List ℕ) → k ≡ bytesAfter line out → k ≡ bytesAfter (shownLine line out) out
     shown-after k q = rw (← shown) q
 
-  module _ (e : Refusal) (h : r ≡ Refused e) (k : List ℕ) (q : k ≡ lineAfter line out) where
+  module _ (e : Refusal) (h : r ≡ Refused e) (k : List ℕ) (q : k ≡ bytesAfter line out) where
     untouched : k ≡ out
-    unfolding lineAfter
+    unfolding bytesAfter
     untouched = q ∙ simp (had-none e h)
 
     instead : refusedLine NoRoom ≡ shownLine line out
     unfolding shownLine
     instead = simp (had-none e h)
 
-    pub instead-answer : (v : Written) → v ≡ lineAnswer (refusedLine NoRoom) k → v ≡ lineAnswer (shownLine line out) out
+    pub instead-answer : (v : Written) → v ≡ bytesAnswer (refusedLine NoRoom) k → v ≡ bytesAnswer (shownLine line out) out
     instead-answer v g = rw (← instead, ← untouched) g
 
-    pub instead-after : (m : List ℕ) → m ≡ lineAfter (refusedLine NoRoom) k → m ≡ lineAfter (shownLine line out) out
+    pub instead-after : (m : List ℕ) → m ≡ bytesAfter (refusedLine NoRoom) k → m ≡ bytesAfter (shownLine line out) out
     instead-after m g = rw (← instead, ← untouched) g

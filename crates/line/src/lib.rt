@@ -3,7 +3,7 @@ ghost use mathlib.Core.Path.{_≡_};
 ghost use Rattle.challenge.specs.declared.Reading.the-variants.{Taken};
 ghost use Rattle.challenge.specs.Challenge.{fieldsOf};
 ghost use Rattle.line.specs.Line.{negotiateLine, authenticateLine, nlAuthLine, challengeLine, ntlmLine, shownLine};
-ghost use Rattle.word.specs.Call.{lineAnswer, lineAfter};
+ghost use Rattle.place.specs.Written.{bytesAnswer, bytesAfter};
 use authenticate::Reading;
 use av_pairs::Count;
 use av_pairs::count_pairs;
@@ -19,8 +19,8 @@ use wire::refusal::Refusal;
 
 // The line of a message read as AUTHENTICATE, at the start of the output: its length, or 33 with the output as it was.
 pub fn authenticate_line(msg: &[u8], out: &mut [u8]) -> Written
-    ensures answer { λ r. ⌜ r ≡ lineAnswer (authenticateLine (now (msg .entry))) (now (out .entry)) ⌝ }
-    ensures content { λ _. ⌜ now (out .exit) ≡ lineAfter (authenticateLine (now (msg .entry))) (now (out .entry)) ⌝ }
+    ensures answer { λ r. ⌜ r ≡ bytesAnswer (authenticateLine (now (msg .entry))) (now (out .entry)) ⌝ }
+    ensures content { λ _. ⌜ now (out .exit) ≡ bytesAfter (authenticateLine (now (msg .entry))) (now (out .entry)) ⌝ }
 {
     let answer = authenticate::read(msg);
     let reading = answer.reading;
@@ -32,8 +32,8 @@ pub fn authenticate_line(msg: &[u8], out: &mut [u8]) -> Written
 
 // The line of a message read as NL_AUTH, at the start of the output: its length, or 33 with the output as it was.
 pub fn nl_auth_line(msg: &[u8], out: &mut [u8]) -> Written
-    ensures answer { λ r. ⌜ r ≡ lineAnswer (nlAuthLine (now (msg .entry))) (now (out .entry)) ⌝ }
-    ensures content { λ _. ⌜ now (out .exit) ≡ lineAfter (nlAuthLine (now (msg .entry))) (now (out .entry)) ⌝ }
+    ensures answer { λ r. ⌜ r ≡ bytesAnswer (nlAuthLine (now (msg .entry))) (now (out .entry)) ⌝ }
+    ensures content { λ _. ⌜ now (out .exit) ≡ bytesAfter (nlAuthLine (now (msg .entry))) (now (out .entry)) ⌝ }
 {
     let reading = nl_auth::read(msg);
     match reading {
@@ -45,8 +45,8 @@ pub fn nl_auth_line(msg: &[u8], out: &mut [u8]) -> Written
 // The line of a CHALLENGE message whose checks 1 to 8 held: 10 to 13 and the count of the pairs, then the words.
 fn challenge_listed(out: &mut [u8], msg: &[u8], c: Challenge) -> Written
     requires { ⌜ fieldsOf (now msg) ≡ Taken c ⌝ }
-    ensures answer { λ r. ⌜ r ≡ lineAnswer (challengeLine (now (msg .entry))) (now (out .entry)) ⌝ }
-    ensures content { λ _. ⌜ now (out .exit) ≡ lineAfter (challengeLine (now (msg .entry))) (now (out .entry)) ⌝ }
+    ensures answer { λ r. ⌜ r ≡ bytesAnswer (challengeLine (now (msg .entry))) (now (out .entry)) ⌝ }
+    ensures content { λ _. ⌜ now (out .exit) ≡ bytesAfter (challengeLine (now (msg .entry))) (now (out .entry)) ⌝ }
 {
     let list = c.fields.target_info.bytes(msg);
     match count_pairs(list) {
@@ -57,8 +57,8 @@ fn challenge_listed(out: &mut [u8], msg: &[u8], c: Challenge) -> Written
 
 // The line of a message read as CHALLENGE, at the start of the output: its length, or 33 with the output as it was.
 pub fn challenge_line(msg: &[u8], out: &mut [u8]) -> Written
-    ensures answer { λ r. ⌜ r ≡ lineAnswer (challengeLine (now (msg .entry))) (now (out .entry)) ⌝ }
-    ensures content { λ _. ⌜ now (out .exit) ≡ lineAfter (challengeLine (now (msg .entry))) (now (out .entry)) ⌝ }
+    ensures answer { λ r. ⌜ r ≡ bytesAnswer (challengeLine (now (msg .entry))) (now (out .entry)) ⌝ }
+    ensures content { λ _. ⌜ now (out .exit) ≡ bytesAfter (challengeLine (now (msg .entry))) (now (out .entry)) ⌝ }
 {
     let reading = challenge::fields_of(msg);
     match reading {
@@ -69,8 +69,8 @@ pub fn challenge_line(msg: &[u8], out: &mut [u8]) -> Written
 
 // The line of a message read as NEGOTIATE, at the start of the output: its length, or 33 with the output as it was.
 pub fn negotiate_line(msg: &[u8], out: &mut [u8]) -> Written
-    ensures answer { λ r. ⌜ r ≡ lineAnswer (negotiateLine (now (msg .entry))) (now (out .entry)) ⌝ }
-    ensures content { λ _. ⌜ now (out .exit) ≡ lineAfter (negotiateLine (now (msg .entry))) (now (out .entry)) ⌝ }
+    ensures answer { λ r. ⌜ r ≡ bytesAnswer (negotiateLine (now (msg .entry))) (now (out .entry)) ⌝ }
+    ensures content { λ _. ⌜ now (out .exit) ≡ bytesAfter (negotiateLine (now (msg .entry))) (now (out .entry)) ⌝ }
 {
     match negotiate::read(msg) {
         NegotiateReading::Taken(m) => line_nego::write(out, msg, m),
@@ -80,8 +80,8 @@ pub fn negotiate_line(msg: &[u8], out: &mut [u8]) -> Written
 
 // The line of a message read as the kind that its type says, and as AUTHENTICATE where it says no other.
 pub fn ntlm_line(msg: &[u8], out: &mut [u8]) -> Written
-    ensures answer { λ r. ⌜ r ≡ lineAnswer (ntlmLine (now (msg .entry))) (now (out .entry)) ⌝ }
-    ensures content { λ _. ⌜ now (out .exit) ≡ lineAfter (ntlmLine (now (msg .entry))) (now (out .entry)) ⌝ }
+    ensures answer { λ r. ⌜ r ≡ bytesAnswer (ntlmLine (now (msg .entry))) (now (out .entry)) ⌝ }
+    ensures content { λ _. ⌜ now (out .exit) ≡ bytesAfter (ntlmLine (now (msg .entry))) (now (out .entry)) ⌝ }
 {
     match kind_of(msg) {
         Kind::Negotiate => negotiate_line(msg, out),
@@ -92,8 +92,8 @@ pub fn ntlm_line(msg: &[u8], out: &mut [u8]) -> Written
 
 // What the NTLM program prints: the message's line, or that of 33 where the line has no room.
 pub fn ntlm_program_line(msg: &[u8], out: &mut [u8]) -> Written
-    ensures answer { λ r. ⌜ r ≡ lineAnswer (shownLine (ntlmLine (now (msg .entry))) (now (out .entry))) (now (out .entry)) ⌝ }
-    ensures content { λ _. ⌜ now (out .exit) ≡ lineAfter (shownLine (ntlmLine (now (msg .entry))) (now (out .entry))) (now (out .entry)) ⌝ }
+    ensures answer { λ r. ⌜ r ≡ bytesAnswer (shownLine (ntlmLine (now (msg .entry))) (now (out .entry))) (now (out .entry)) ⌝ }
+    ensures content { λ _. ⌜ now (out .exit) ≡ bytesAfter (shownLine (ntlmLine (now (msg .entry))) (now (out .entry))) (now (out .entry)) ⌝ }
 {
     let written = ntlm_line(msg, out);
     let Written::Length(_) = written else {
@@ -104,8 +104,8 @@ pub fn ntlm_program_line(msg: &[u8], out: &mut [u8]) -> Written
 
 // What the NL_AUTH program prints, likewise.
 pub fn nl_auth_program_line(msg: &[u8], out: &mut [u8]) -> Written
-    ensures answer { λ r. ⌜ r ≡ lineAnswer (shownLine (nlAuthLine (now (msg .entry))) (now (out .entry))) (now (out .entry)) ⌝ }
-    ensures content { λ _. ⌜ now (out .exit) ≡ lineAfter (shownLine (nlAuthLine (now (msg .entry))) (now (out .entry))) (now (out .entry)) ⌝ }
+    ensures answer { λ r. ⌜ r ≡ bytesAnswer (shownLine (nlAuthLine (now (msg .entry))) (now (out .entry))) (now (out .entry)) ⌝ }
+    ensures content { λ _. ⌜ now (out .exit) ≡ bytesAfter (shownLine (nlAuthLine (now (msg .entry))) (now (out .entry))) (now (out .entry)) ⌝ }
 {
     let written = nl_auth_line(msg, out);
     let Written::Length(_) = written else {

@@ -11,9 +11,9 @@ use Rattle.authenticate.specs.declared.Authenticate.{Authenticate}
 use Rattle.wire.specs.declared.check.Checked.the-variants.{Held}
 use Rattle.place.specs.Written.{roomHolds}
 use Rattle.word.specs.Words.{Room, kindWord, startText}
-use Rattle.word.proofs.Calls.{most-fits}
+use Rattle.word.proofs.Calls.{bound-fits}
 use Rattle.word.proofs.Labels.{start-size, mic-size}
-use Rattle.word.proofs.Names.{word-most}
+use Rattle.word.proofs.Names.{word-bound}
 use Rattle.line_auth.specs.Auth.{authNames, authLengths, authEnd, authText}
 
 module _ (unicode : Bool) (s : List ℕ) (a : Authenticate) where
@@ -28,32 +28,32 @@ module _ (unicode : Bool) (s : List ℕ) (a : Authenticate) where
   unfolding authText authEnd
   auth-size n l k p q r = simp (length-append, start-size, mic-size) (omega arith)
 
-  kind-most : length (kindWord (a .fields .nt .len)) ≤ 10
+  kind-bound : length (kindWord (a .fields .nt .len)) ≤ 10
   unfolding kindWord
-  kind-most = go (eqb (a .fields .nt .len) 0) (eqb (a .fields .nt .len) 24) where
+  kind-bound = go (eqb (a .fields .nt .len) 0) (eqb (a .fields .nt .len) 24) where
     go : (x y : Bool) → length (cond x (ascii " kind=none") (cond y (ascii " kind=v1") (ascii " kind=v2"))) ≤ 10
     go true y = omega arith
     go false true = omega arith
     go false false = omega arith
 
-  auth-most : (l : ℕ) → l ≡ length lengths →
+  auth-bound : (l : ℕ) → l ≡ length lengths →
       length (authText unicode s a) ≤ 62 + l + 4 * (a .fields .domain .len + a .fields .user .len + a .fields .workstation .len)
   unfolding authText authNames authEnd
-  auth-most l e =
+  auth-bound l e =
       simp (length-append, start-size, mic-size)
       (omega (
         arith,
-        kind-most,
-        word-most (ascii " domain=") s unicode (a .fields .domain),
-        word-most (ascii " user=") s unicode (a .fields .user),
-        word-most (ascii " work=") s unicode (a .fields .workstation),
+        kind-bound,
+        word-bound (ascii " domain=") s unicode (a .fields .domain),
+        word-bound (ascii " user=") s unicode (a .fields .user),
+        word-bound (ascii " work=") s unicode (a .fields .workstation),
       ))
 
   pub auth-fits : (l room : ℕ) → l ≡ length lengths →
       62 + l + 4 * (a .fields .domain .len + a .fields .user .len + a .fields .workstation .len) ≤ room →
       Held ≡ roomHolds (length (authText unicode s a)) room
   auth-fits l room e h =
-      most-fits (authText unicode s a) (62 + l + 4 * (a .fields .domain .len + a .fields .user .len + a .fields .workstation .len)) room (auth-most l e) h
+      bound-fits (authText unicode s a) (62 + l + 4 * (a .fields .domain .len + a .fields .user .len + a .fields .workstation .len)) room (auth-bound l e) h
 
   pub auth-room : (at n : ℕ) → Room at (authText unicode s a) n →
       at + (length (startText (ascii "auth") (a .flags) unicode) + (length names + (length lengths + length (authEnd (a .«mic_present») (a .fields .nt .len))))) ≤ n

@@ -3,10 +3,9 @@ ghost use mathlib.Core.Path.{_≡_};
 ghost use Prim.Native.Nat.{_+_, _≤_};
 ghost use lib.ListN.{length};
 ghost use Rattle.place.specs.Place.{Wrote};
-ghost use Rattle.place.specs.Written.{roomHolds};
+ghost use Rattle.place.specs.Written.{roomHolds, bytesAnswer, bytesAfter};
 ghost use Rattle.word.specs.Words.{Room, micWord, kindWord};
 ghost use Rattle.line_auth.specs.Auth.{authNames, authLengths, authEnd, authText};
-ghost use Rattle.word.specs.Call.{lineAnswer, lineAfter};
 use authenticate::Authenticate;
 use field::Field;
 use place::Place;
@@ -51,8 +50,8 @@ fn fits(msg: &[u8], a: Authenticate, unicode: bool, room: usize) -> Checked
 {
     let f = a.fields;
     let lengths = lengths_size(f.lm.len, f.nt.len, f.key.len);
-    let most = f.domain.len as usize + f.user.len as usize + f.workstation.len as usize;
-    if 62 + lengths + 4 * most <= room {
+    let names_len = f.domain.len as usize + f.user.len as usize + f.workstation.len as usize;
+    if 62 + lengths + 4 * names_len <= room {
         return Checked::Held;
     }
     let names = names_size(msg, f.domain, f.user, f.workstation, unicode);
@@ -130,8 +129,8 @@ fn put(out: &mut [u8], msg: &[u8], a: Authenticate, unicode: bool) -> Place
 
 // The line of `a`, which was read from the message; `unicode` is the answer of its flags.
 pub fn write(out: &mut [u8], msg: &[u8], a: Authenticate, unicode: bool) -> Written
-    ensures answer { λ r. ⌜ r ≡ lineAnswer (authText unicode (now (msg .entry)) a) (now (out .entry)) ⌝ }
-    ensures content { λ _. ⌜ now (out .exit) ≡ lineAfter (authText unicode (now (msg .entry)) a) (now (out .entry)) ⌝ }
+    ensures answer { λ r. ⌜ r ≡ bytesAnswer (authText unicode (now (msg .entry)) a) (now (out .entry)) ⌝ }
+    ensures content { λ _. ⌜ now (out .exit) ≡ bytesAfter (authText unicode (now (msg .entry)) a) (now (out .entry)) ⌝ }
 {
     let Checked::Held = fits(msg, a, unicode, out.len()) else {
         return Written::Refused(Refusal::NoRoom);

@@ -15,9 +15,9 @@ use Rattle.challenge.specs.declared.Timestamp.the-variants.{Time, Nothing as No
 use Rattle.wire.specs.declared.check.Checked.the-variants.{Held}
 use Rattle.place.specs.Written.{roomHolds}
 use Rattle.word.specs.Words.{Room, numberWord, nameWord}
-use Rattle.word.proofs.Calls.{most-fits}
+use Rattle.word.proofs.Calls.{bound-fits}
 use Rattle.word.proofs.Labels.{start-size}
-use Rattle.word.proofs.Names.{word-most}
+use Rattle.word.proofs.Names.{word-bound}
 use Rattle.word.proofs.Numbers.{length-hex}
 use Rattle.line_chal.specs.Chal.{timeText, timeWord, chalEnd, chalText}
 
@@ -64,18 +64,18 @@ module _ (unicode : Bool) (s : List ℕ) (c : Challenge) (pairs : ℕ) (time : T
   unfolding chalText chalEnd
   chal-size n p t e f g = simp (length-append, start-size) (omega arith)
 
-  time-most : (w : Timestamp) → length (timeWord w) ≤ 22
+  time-bound : (w : Timestamp) → length (timeWord w) ≤ 22
   unfolding timeWord
-  time-most (Time t) = omega (arith, time-text-size t)
-  time-most NoTime = omega arith
+  time-bound (Time t) = omega (arith, time-text-size t)
+  time-bound NoTime = omega arith
 
-  chal-most : (p : ℕ) → p ≡ length (numberWord (ascii " pairs=") pairs) →
+  chal-bound : (p : ℕ) → p ≡ length (numberWord (ascii " pairs=") pairs) →
       length (chalText unicode s c pairs time) ≤ 56 + p + 4 * c .fields .«target_name» .len
   unfolding chalText chalEnd
-  chal-most p e =
+  chal-bound p e =
       simp (length-append, start-size)
-      (omega (arith, time-most time, word-most (ascii " target=") s unicode (c .fields .«target_name»)))
+      (omega (arith, time-bound time, word-bound (ascii " target=") s unicode (c .fields .«target_name»)))
 
   pub chal-fits : (p room : ℕ) → p ≡ length (numberWord (ascii " pairs=") pairs) → 56 + p + 4 * c .fields .«target_name» .len ≤ room →
       Held ≡ roomHolds (length (chalText unicode s c pairs time)) room
-  chal-fits p room e h = most-fits (chalText unicode s c pairs time) (56 + p + 4 * c .fields .«target_name» .len) room (chal-most p e) h
+  chal-fits p room e h = bound-fits (chalText unicode s c pairs time) (56 + p + 4 * c .fields .«target_name» .len) room (chal-bound p e) h

@@ -3,10 +3,9 @@ ghost use mathlib.Core.Path.{_≡_};
 ghost use Prim.Native.Nat.{_+_, _≤_};
 ghost use lib.ListN.{length};
 ghost use Rattle.place.specs.Place.{Wrote};
-ghost use Rattle.place.specs.Written.{roomHolds};
+ghost use Rattle.place.specs.Written.{roomHolds, bytesAnswer, bytesAfter};
 ghost use Rattle.word.specs.Words.{Room};
 ghost use Rattle.line_chal.specs.Chal.{timeText, timeWord, chalEnd, chalText};
-ghost use Rattle.word.specs.Call.{lineAnswer, lineAfter};
 use challenge::Challenge;
 use challenge::Timestamp;
 use place::Place;
@@ -105,8 +104,8 @@ pub fn write(
     pairs: usize,
     time: Timestamp,
 ) -> Written
-    ensures answer { λ r. ⌜ r ≡ lineAnswer (chalText unicode (now (msg .entry)) c pairs time) (now (out .entry)) ⌝ }
-    ensures content { λ _. ⌜ now (out .exit) ≡ lineAfter (chalText unicode (now (msg .entry)) c pairs time) (now (out .entry)) ⌝ }
+    ensures answer { λ r. ⌜ r ≡ bytesAnswer (chalText unicode (now (msg .entry)) c pairs time) (now (out .entry)) ⌝ }
+    ensures content { λ _. ⌜ now (out .exit) ≡ bytesAfter (chalText unicode (now (msg .entry)) c pairs time) (now (out .entry)) ⌝ }
 {
     let Checked::Held = fits(msg, c, unicode, pairs, time, out.len()) else {
         return Written::Refused(Refusal::NoRoom);

@@ -10,9 +10,9 @@ use Rattle.negotiate.specs.declared.Negotiate.{Negotiate}
 use Rattle.wire.specs.declared.check.Checked.the-variants.{Held}
 use Rattle.place.specs.Written.{roomHolds}
 use Rattle.word.specs.Words.{Room, flagsWord}
-use Rattle.word.proofs.Calls.{most-fits}
+use Rattle.word.proofs.Calls.{bound-fits}
 use Rattle.word.proofs.Labels.{flags-word-size}
-use Rattle.word.proofs.Names.{word-most}
+use Rattle.word.proofs.Names.{word-bound}
 use Rattle.line_nego.specs.Nego.{negoNames, negoText}
 
 module _ (s : List ℕ) (m : Negotiate) where
@@ -20,15 +20,15 @@ module _ (s : List ℕ) (m : Negotiate) where
   unfolding negoText
   nego-size n e = simp (length-append, flags-word-size) (omega arith)
 
-  nego-most : length (negoText s m) ≤ 34 + 4 * (m .fields .domain .len + m .fields .workstation .len)
+  nego-bound : length (negoText s m) ≤ 34 + 4 * (m .fields .domain .len + m .fields .workstation .len)
   unfolding negoText negoNames
-  nego-most =
+  nego-bound =
       simp (length-append, flags-word-size)
-      (omega (arith, word-most (ascii " domain=") s false (m .fields .domain), word-most (ascii " work=") s false (m .fields .workstation)))
+      (omega (arith, word-bound (ascii " domain=") s false (m .fields .domain), word-bound (ascii " work=") s false (m .fields .workstation)))
 
   pub nego-fits : (room : ℕ) → 34 + 4 * (m .fields .domain .len + m .fields .workstation .len) ≤ room →
       Held ≡ roomHolds (length (negoText s m)) room
-  nego-fits room h = most-fits (negoText s m) (34 + 4 * (m .fields .domain .len + m .fields .workstation .len)) room nego-most h
+  nego-fits room h = bound-fits (negoText s m) (34 + 4 * (m .fields .domain .len + m .fields .workstation .len)) room nego-bound h
 
   pub nego-room : (at n : ℕ) → Room at (negoText s m) n →
       at + (4 + (length (flagsWord (m .flags .bits)) + (length (negoNames s m) + 1))) ≤ n

@@ -3,10 +3,9 @@ ghost use mathlib.Core.Path.{_≡_};
 ghost use Prim.Native.Nat.{_≤_};
 ghost use lib.ListN.{length};
 ghost use Rattle.place.specs.Place.{Wrote};
-ghost use Rattle.place.specs.Written.{roomHolds};
+ghost use Rattle.place.specs.Written.{roomHolds, bytesAnswer, bytesAfter};
 ghost use Rattle.word.specs.Words.{Room};
 ghost use Rattle.line_nego.specs.Nego.{negoNames, negoText};
-ghost use Rattle.word.specs.Call.{lineAnswer, lineAfter};
 use negotiate::Negotiate;
 use place::Place;
 use place::written::Written;
@@ -59,8 +58,8 @@ fn put(out: &mut [u8], msg: &[u8], m: Negotiate) -> Place
 
 // The line of `m`, which was read from the message.
 pub fn write(out: &mut [u8], msg: &[u8], m: Negotiate) -> Written
-    ensures answer { λ r. ⌜ r ≡ lineAnswer (negoText (now (msg .entry)) m) (now (out .entry)) ⌝ }
-    ensures content { λ _. ⌜ now (out .exit) ≡ lineAfter (negoText (now (msg .entry)) m) (now (out .entry)) ⌝ }
+    ensures answer { λ r. ⌜ r ≡ bytesAnswer (negoText (now (msg .entry)) m) (now (out .entry)) ⌝ }
+    ensures content { λ _. ⌜ now (out .exit) ≡ bytesAfter (negoText (now (msg .entry)) m) (now (out .entry)) ⌝ }
 {
     let Checked::Held = fits(msg, m, out.len()) else {
         return Written::Refused(Refusal::NoRoom);

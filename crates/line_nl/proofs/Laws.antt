@@ -12,9 +12,9 @@ use Rattle.nl_auth.specs.declared.NlAuth.{NlAuth}
 use Rattle.wire.specs.declared.check.Checked.the-variants.{Held}
 use Rattle.place.specs.Written.{roomHolds}
 use Rattle.word.specs.Words.{Room, numberWord}
-use Rattle.word.proofs.Calls.{most-fits}
+use Rattle.word.proofs.Calls.{bound-fits}
 use Rattle.word.proofs.Labels.{flags-word-size}
-use Rattle.word.proofs.Names.{string-most}
+use Rattle.word.proofs.Names.{string-bound}
 use Rattle.line_nl.specs.declared.Given.{Given}
 use Rattle.line_nl.specs.Nl.{nlStart, nlOem, nlUtf8, givenBy, nlText}
 
@@ -30,25 +30,25 @@ module _ (given : Given) (s : List ℕ) (m : NlAuth) where
   unfolding nlText nlStart
   nl-size t o u p q r = simp (length-append, flags-word-size) (omega arith)
 
-  nl-most : (t n : ℕ) → t ≡ length (numberWord (ascii "nl type=") (m .«message_type»)) →
+  nl-bound : (t n : ℕ) → t ≡ length (numberWord (ascii "nl type=") (m .«message_type»)) →
       n ≡ 4 * (m .strings .«nb_domain» .len + m .strings .«nb_computer» .len + m .strings .«dns_domain» .len + m .strings .«dns_host» .len + m .strings .«utf8_computer» .len) →
       length (nlText given s m) ≤ t + 31 + n
   unfolding nlText nlStart nlOem nlUtf8
-  nl-most t n e f =
+  nl-bound t n e f =
       simp (length-append, flags-word-size)
       (omega (
         arith,
-        string-most (ascii " a=") s (given .a) (m .strings .«nb_domain»),
-        string-most (ascii " b=") s (given .b) (m .strings .«nb_computer»),
-        string-most (ascii " c=") s (given .c) (m .strings .«dns_domain»),
-        string-most (ascii " d=") s (given .d) (m .strings .«dns_host»),
-        string-most (ascii " e=") s (given .e) (m .strings .«utf8_computer»),
+        string-bound (ascii " a=") s (given .a) (m .strings .«nb_domain»),
+        string-bound (ascii " b=") s (given .b) (m .strings .«nb_computer»),
+        string-bound (ascii " c=") s (given .c) (m .strings .«dns_domain»),
+        string-bound (ascii " d=") s (given .d) (m .strings .«dns_host»),
+        string-bound (ascii " e=") s (given .e) (m .strings .«utf8_computer»),
       ))
 
   pub nl-fits : (t n room : ℕ) → t ≡ length (numberWord (ascii "nl type=") (m .«message_type»)) →
       n ≡ 4 * (m .strings .«nb_domain» .len + m .strings .«nb_computer» .len + m .strings .«dns_domain» .len + m .strings .«dns_host» .len + m .strings .«utf8_computer» .len) →
       t + 31 + n ≤ room → Held ≡ roomHolds (length (nlText given s m)) room
-  nl-fits t n room e f h = most-fits (nlText given s m) (t + 31 + n) room (nl-most t n e f) h
+  nl-fits t n room e f h = bound-fits (nlText given s m) (t + 31 + n) room (nl-bound t n e f) h
 
   pub nl-room : (at n : ℕ) → Room at (nlText given s m) n →
       at + (length (nlStart (m .«message_type») (m .flags .bits)) + (length oem + (length utf8 + 1))) ≤ n

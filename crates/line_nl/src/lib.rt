@@ -4,10 +4,9 @@ ghost use Prim.Native.Nat.{_+_, _*_, _≤_};
 ghost use lib.ListN.{length};
 ghost use Rattle.field.specs.Field.{fieldBytes};
 ghost use Rattle.place.specs.Place.{Wrote};
-ghost use Rattle.place.specs.Written.{roomHolds};
+ghost use Rattle.place.specs.Written.{roomHolds, bytesAnswer, bytesAfter};
 ghost use Rattle.word.specs.Words.{Room, stringWord};
 ghost use Rattle.line_nl.specs.Nl.{nlStart, nlOem, nlUtf8, givenBy, nlText};
-ghost use Rattle.word.specs.Call.{lineAnswer, lineAfter};
 use field::Field;
 use nl_auth::NlAuth;
 use nl_auth_flags::NlAuthFlags;
@@ -75,7 +74,7 @@ fn utf8_size(
 }
 
 // Four bytes to each byte of the strings.
-fn most(m: NlAuth) -> usize
+fn strings_bound(m: NlAuth) -> usize
     ensures { λ r. ⌜ (r ≡ 4 * (m .strings .«nb_domain» .len + m .strings .«nb_computer» .len + m .strings .«dns_domain» .len + m .strings .«dns_host» .len + m .strings .«utf8_computer» .len)) × (r ≤ 1400000) ⌝ }
 {
     let s = m.strings;
@@ -106,7 +105,7 @@ fn size(msg: &[u8], m: NlAuth, given: Given) -> usize
 fn fits(msg: &[u8], m: NlAuth, given: Given, room: usize) -> Checked
     ensures { λ r. ⌜ r ≡ roomHolds (length (nlText given (now (msg .entry)) m)) room ⌝ }
 {
-    if number_word_size(b"nl type=", m.message_type as usize) + 31 + most(m) <= room {
+    if number_word_size(b"nl type=", m.message_type as usize) + 31 + strings_bound(m) <= room {
         return Checked::Held;
     }
     room_holds(size(msg, m, given), room)
@@ -196,8 +195,8 @@ fn put(out: &mut [u8], msg: &[u8], m: NlAuth, given: Given) -> Place
 
 // The line of `m`, which was read from the message; `given` is what its flags say.
 pub fn write(out: &mut [u8], msg: &[u8], m: NlAuth, given: Given) -> Written
-    ensures answer { λ r. ⌜ r ≡ lineAnswer (nlText given (now (msg .entry)) m) (now (out .entry)) ⌝ }
-    ensures content { λ _. ⌜ now (out .exit) ≡ lineAfter (nlText given (now (msg .entry)) m) (now (out .entry)) ⌝ }
+    ensures answer { λ r. ⌜ r ≡ bytesAnswer (nlText given (now (msg .entry)) m) (now (out .entry)) ⌝ }
+    ensures content { λ _. ⌜ now (out .exit) ≡ bytesAfter (nlText given (now (msg .entry)) m) (now (out .entry)) ⌝ }
 {
     let Checked::Held = fits(msg, m, given, out.len()) else {
         return Written::Refused(Refusal::NoRoom);

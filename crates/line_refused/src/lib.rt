@@ -4,7 +4,7 @@ ghost use lib.ListN.{length};
 ghost use Rattle.place.specs.Place.{Wrote};
 ghost use Rattle.word.specs.Words.{Room};
 ghost use Rattle.line_refused.specs.Refused.{refusedText, refusedLine};
-ghost use Rattle.word.specs.Call.{lineAnswer, lineAfter};
+ghost use Rattle.place.specs.Written.{bytesAnswer, bytesAfter};
 use place::Place;
 use place::written::Written;
 use place::written::room_holds;
@@ -31,8 +31,8 @@ fn put(out: &mut [u8], number: u8, field: u8) -> Place
 }
 
 fn write_numbers(out: &mut [u8], number: u8, field: u8) -> Written
-    ensures answer { λ r. ⌜ r ≡ lineAnswer (refusedText number field) (now (out .entry)) ⌝ }
-    ensures content { λ _. ⌜ now (out .exit) ≡ lineAfter (refusedText number field) (now (out .entry)) ⌝ }
+    ensures answer { λ r. ⌜ r ≡ bytesAnswer (refusedText number field) (now (out .entry)) ⌝ }
+    ensures content { λ _. ⌜ now (out .exit) ≡ bytesAfter (refusedText number field) (now (out .entry)) ⌝ }
 {
     let Checked::Held = room_holds(size(number, field), out.len()) else {
         return Written::Refused(Refusal::NoRoom);
@@ -42,8 +42,8 @@ fn write_numbers(out: &mut [u8], number: u8, field: u8) -> Written
 }
 
 pub fn write(out: &mut [u8], e: Refusal) -> Written
-    ensures answer { λ r. ⌜ r ≡ lineAnswer (refusedLine e) (now (out .entry)) ⌝ }
-    ensures content { λ _. ⌜ now (out .exit) ≡ lineAfter (refusedLine e) (now (out .entry)) ⌝ }
+    ensures answer { λ r. ⌜ r ≡ bytesAnswer (refusedLine e) (now (out .entry)) ⌝ }
+    ensures content { λ _. ⌜ now (out .exit) ≡ bytesAfter (refusedLine e) (now (out .entry)) ⌝ }
 {
     write_numbers(out, e.number(), e.field())
 }

@@ -14,7 +14,7 @@ use negotiate::Fields;
 use negotiate_flags::NegotiateFlags;
 use place::Place;
 use place::written::Written;
-use place::written::plus;
+use place::written::add_capped;
 use place::written::room_holds;
 use place::written::size_holds;
 use wire::check::Checked;
@@ -25,7 +25,7 @@ use wire::refusal::Refusal;
 fn size_to_write(domain: &[u8], workstation: &[u8]) -> usize
     ensures { λ r. ⌜ r ≡ counted (sizeToWrite (now (domain .entry)) (now (workstation .entry))) ⌝ }
 {
-    plus(plus(40, domain.len()), workstation.len())
+    add_capped(add_capped(40, domain.len()), workstation.len())
 }
 
 // Checks 5, 30 and 33, for an output of `room` bytes.

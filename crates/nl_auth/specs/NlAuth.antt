@@ -67,7 +67,7 @@ typeHolds t = checked (isRequest t || isResponse t)
 abbrev pub endHolds : ℕ → List ℕ → Checked
 endHolds next s = checked (eqb next (length s))
 
--- the UTF-8 strings, C to E, after the OEM strings a and b: 15 for each set bit, then 16; a′ is the place after the string a
+-- the UTF-8 strings, C to E, after the OEM strings a and b: 15 for each set bit, then 16; b′, c′, d′ and e′ are the places after the strings b, c, d and e
 unfoldable pub readUtf8 : NlAuthFlags → List ℕ → Field → Field → ℕ → Reading
 readUtf8 flags s a b b′ =
     onFound (stringUnder (dnsDomain flags) s b′) (Refused (Unterminated 3)) (λ c c′.

@@ -12,7 +12,7 @@ use nl_auth::string::before_zero;
 use nl_auth_flags::NlAuthFlags;
 use place::Place;
 use place::written::Written;
-use place::written::plus;
+use place::written::add_capped;
 use place::written::room_holds;
 use place::written::size_holds;
 use wire::check::Checked;
@@ -60,7 +60,7 @@ fn size_with(n: usize, flags: NlAuthFlags, mask: u32, string: &[u8]) -> usize
     ensures { λ r. ⌜ r ≡ counted (n + length (bytesUnder (has (flags .bits) mask) (now (string .entry)))) ⌝ }
 {
     if has(flags.bits, mask) {
-        return plus(plus(n, string.len()), 1);
+        return add_capped(add_capped(n, string.len()), 1);
     }
     n
 }
