@@ -31,3 +31,4 @@ pub mod Answered
 pub mod AnswerKept
 pub mod CallKept
 pub mod InTurn
+pub mod Digits

@@ -1,0 +1,50 @@
+-- Document 01, "The log line": "H is eight upper-case hex digits .. D is decimal, without leading zeros", by what digits are
+-- worth.
+use Prim.Native.Nat.{ℕ, _+_, _-_, _*_, _^_, _≤_, _<_}
+use mathlib.Core.Path.{_≡_}
+use mathlib.Core.Logic.{_⊎_}
+use mathlib.Core.Bool.{cond}
+use mathlib.Core.List.{List, [], _∷_}
+use lib.Dec.{ltb}
+use lib.ListN.{length, getD}
+use Rattle.text.specs.Text.{ascii}
+use Rattle.word.specs.Digits.{hex, decimal}
+
+-- '0' to '9' are the characters 48 to 57, and 'A' to 'F' are 65 to 70
+abbrev pub IsDecimalDigit : ℕ → Type 0
+IsDecimalDigit c = (48 ≤ c) × (c ≤ 57)
+
+abbrev pub IsHexDigit : ℕ → Type 0
+IsHexDigit c = IsDecimalDigit c ⊎ ((65 ≤ c) × (c ≤ 70))
+
+-- what a digit is worth: '0' is 0, 'A' is 10
+abbrev pub worthOf : ℕ → ℕ
+worthOf c = cond (ltb c 65) (c - 48) (c - 55)
+
+-- digits are read from the left: each makes of n, the value so far, n times the base and the digit's worth
+abbrev pub readOn : ℕ → ℕ → List ℕ → ℕ
+readOn base n [] = n
+readOn base n (c ∷ cs) = readOn base (n * base + worthOf c) cs
+
+-- the value of digits in a base
+abbrev pub valueOf : ℕ → List ℕ → ℕ
+valueOf base text = readOn base 0 text
+
+-- a number in decimal: only the text "0" begins with '0'
+pub record IsDecimalOf (n : ℕ) (text : List ℕ) : Type 0 where
+  pub value : valueOf 10 text ≡ n
+  pub some : 0 < length text
+  pub digits : (i : ℕ) → i < length text → IsDecimalDigit (getD text i 0)
+  pub no-leading-zero : getD text 0 0 ≡ 48 → text ≡ ascii "0"
+
+abbrev pub DecimalHasValue : Type 0
+DecimalHasValue = (n : ℕ) → IsDecimalOf n (decimal n)
+
+-- a number in k hex digits
+pub record IsHexOf (k n : ℕ) (text : List ℕ) : Type 0 where
+  pub value : n < 16 ^ k → valueOf 16 text ≡ n
+  pub count : length text ≡ k
+  pub digits : (i : ℕ) → i < k → IsHexDigit (getD text i 0)
+
+abbrev pub HexHasValue : Type 0
+HexHasValue = (k n : ℕ) → IsHexOf k n (hex k n)
