@@ -32,3 +32,4 @@ pub mod AnswerKept
 pub mod CallKept
 pub mod InTurn
 pub mod Digits
+pub mod Units

@@ -12,3 +12,4 @@ pub mod ReadBack
 pub mod Bench
 pub mod InTurn
 pub mod Digits
+pub mod Units
