@@ -33,3 +33,5 @@ pub mod CallKept
 pub mod InTurn
 pub mod Digits
 pub mod Units
+pub mod Examples
+pub mod Hypotheses

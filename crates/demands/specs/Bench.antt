@@ -81,15 +81,15 @@ p1 =
     0xAA ∷ 0xAA ∷ 0xAA ∷ 0xAA ∷ 0xAA ∷ 0xAA ∷ 0xAA ∷ 0xAA ∷ 0xAA ∷ 0xAA ∷ 0xAA ∷ 0xAA ∷
     0xAA ∷ 0xAA ∷ 0xAA ∷ 0xAA ∷ 0xAA ∷ 0xAA ∷ 0xAA ∷ 0xAA ∷ 0xAA ∷ 0xAA ∷ 0xAA ∷ 0xAA ∷ []
 
--- P1 with another user length, or another user offset (below 256)
+-- P1 with another user length or user offset, each below 256
 abbrev userLen : ℕ → List ℕ
 userLen n = sets p1 36 (n ∷ 0 ∷ [])
 
 abbrev userOffset : ℕ → List ℕ
 userOffset n = sets p1 40 (n ∷ 0 ∷ 0 ∷ 0 ∷ [])
 
--- P12's 13 bytes, with these flags
-abbrev p12 : ℕ → List ℕ
+-- P12's 13 bytes, with these flags, below 256
+abbrev pub p12 : ℕ → List ℕ
 p12 flags =
     0x00 ∷ 0x00 ∷ 0x00 ∷ 0x00 ∷ flags ∷ 0x00 ∷ 0x00 ∷ 0x00 ∷ 0x4C ∷ 0x49 ∷ 0x4E ∷ 0x45 ∷ 0x00 ∷ []
 

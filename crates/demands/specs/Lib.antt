@@ -13,3 +13,5 @@ pub mod Bench
 pub mod InTurn
 pub mod Digits
 pub mod Units
+pub mod Examples
+pub mod Hypotheses

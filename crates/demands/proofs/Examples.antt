@@ -1,0 +1,42 @@
+-- All examples hold, by computation.
+use mathlib.Core.Path.{refl}
+use Rattle.field.specs.Field.{fieldAt, fieldBytes, fieldStart}
+use Rattle.field_writing.specs.Writing.{headBytes, versionBytes}
+use Rattle.place.specs.Place.{le16, le32}
+use Rattle.head.specs.Head.{signatureHolds, readHead, kindOf}
+use Rattle.word.specs.Digits.{hexDigit, hex, decimalSize, decimal}
+use Rattle.word.specs.Name.{escape, unitText, textOf, nameText}
+use Rattle.word.specs.Words.{numberWord, nameWord, flagsWord, setWord, startText, micWord, kindWord}
+use Rattle.av_pairs.specs.AvPairs.{countPairs, checkPairs, pairsOf, stepAt, pairOf, left}
+use Rattle.challenge.specs.Challenge.{fieldsAt as challengeFieldsAt, checkEnds as challengeEnds, checkBegins as challengeBegins, checkNames as challengeNames, checkFields as challengeChecks, fieldsOf, readingOf as challengeReadingOf, readChallenge, timestampIn, timestampOf, serverNamesIn, serverNamesOf}
+use Rattle.negotiate.specs.Negotiate.{fieldsAt as negotiateFieldsAt, checkEnds as negotiateEnds, checkBegins as negotiateBegins, checkFields as negotiateChecks, readNegotiate}
+use Rattle.negotiate_writing.specs.Writing.{flagsToWrite, fieldsTo as negotiateFieldsTo, afterType, fixedBytes as negotiateFixed, negotiateBytes, checkToWrite as negotiateCheck, writeAnswer as negotiateAnswer, writeOut as negotiateOut}
+use Rattle.authenticate.specs.Authenticate.{fieldsAt, checkEnds, checkBegins, checkNames, checkShared, checkFields, micPresent, readingOf, readAuthenticate}
+use Rattle.authenticate_writing.specs.Writing.{fieldsTo, headsBytes, afterHeads, fixedBytes, payloadBytes, authenticateBytes, checkNamesToWrite, checkToWrite, writeAnswer, writeOut}
+use Rattle.respond.specs.Domain.{domainPart}
+use Rattle.respond.specs.Decision.{decisionOn}
+use Rattle.respond.specs.Answer.{lmToSend, micToSend, keyToSend, sendAnswer, sendOut, respondAnswer, respondOut}
+use Rattle.line_chal.specs.Chal.{timeText, timeWord, chalEnd, chalText}
+use Rattle.line_nego.specs.Nego.{negoNames, negoText}
+use Rattle.line_auth.specs.Auth.{authNames, authLengths, authEnd, authText}
+use Rattle.line.specs.Line.{authenticateLine, challengeLine, negotiateLine, ntlmLine}
+use Rattle.demands.specs.Examples.{ChallengeExample, NegotiateExample, AuthenticateExample, AnswerExample, ExamplesHold}
+
+challenge-example : ChallengeExample
+unfolding readChallenge challengeReadingOf fieldsOf challengeFieldsAt challengeEnds challengeBegins challengeNames challengeChecks readHead signatureHolds fieldAt fieldBytes countPairs checkPairs pairsOf stepAt pairOf left timestampIn timestampOf serverNamesIn serverNamesOf hexDigit hex decimalSize decimal escape unitText textOf nameText numberWord nameWord flagsWord setWord startText timeText timeWord chalEnd chalText challengeLine kindOf ntlmLine
+challenge-example = record { reading = refl; server-challenge = refl; pairs = refl; timestamp = refl; server-names = refl; line = refl }
+
+negotiate-example : NegotiateExample
+unfolding readNegotiate negotiateFieldsAt negotiateEnds negotiateBegins negotiateChecks readHead signatureHolds fieldAt fieldBytes hexDigit hex escape unitText textOf nameText nameWord flagsWord negoNames negoText negotiateLine kindOf ntlmLine flagsToWrite negotiateFieldsTo afterType negotiateFixed negotiateBytes negotiateCheck negotiateAnswer negotiateOut headBytes versionBytes le16 le32
+negotiate-example = record { reading = refl; line = refl; length-written = refl; bytes-written = refl; no-room = refl; kept = refl }
+
+authenticate-example : AuthenticateExample
+unfolding readAuthenticate readingOf fieldsAt checkEnds checkBegins checkNames checkShared checkFields micPresent readHead signatureHolds fieldAt fieldBytes hexDigit hex decimalSize decimal escape unitText textOf nameText numberWord nameWord flagsWord setWord startText micWord kindWord authNames authLengths authEnd authText authenticateLine kindOf ntlmLine fieldsTo headsBytes afterHeads fixedBytes payloadBytes authenticateBytes checkNamesToWrite checkToWrite writeAnswer writeOut headBytes versionBytes le16 le32
+authenticate-example = record { length-written = refl; bytes-written = refl; line = refl; no-room = refl; kept = refl }
+
+answer-example : AnswerExample
+unfolding challengeReadingOf fieldsOf challengeFieldsAt challengeEnds challengeBegins challengeNames challengeChecks checkPairs pairsOf stepAt pairOf left timestampIn serverNamesIn domainPart fieldStart decisionOn lmToSend micToSend keyToSend sendAnswer sendOut respondAnswer respondOut readAuthenticate readingOf fieldsAt checkEnds checkBegins checkNames checkShared checkFields micPresent readHead signatureHolds fieldAt fieldBytes hexDigit hex decimalSize decimal escape unitText textOf nameText numberWord nameWord flagsWord setWord startText micWord kindWord authNames authLengths authEnd authText authenticateLine kindOf ntlmLine fieldsTo headsBytes afterHeads fixedBytes payloadBytes authenticateBytes checkNamesToWrite checkToWrite writeAnswer writeOut headBytes versionBytes le16 le32
+answer-example = record { answer = refl; bytes-written = refl; line = refl; no-room = refl; kept = refl }
+
+pub examples-hold : ExamplesHold
+examples-hold = (challenge-example, negotiate-example, authenticate-example, answer-example)

@@ -1,0 +1,171 @@
+-- One message of each kind that the bench cases leave out, worked out by hand, so that the theorems are seen to speak of
+-- something: a CHALLENGE and a NEGOTIATE that are read, a NEGOTIATE and an AUTHENTICATE that are written, and an answer.
+use Prim.Native.Nat.{ℕ}
+use Prim.Native.String.{String}
+use mathlib.Core.Path.{_≡_}
+use mathlib.Core.Bool.{true}
+use mathlib.Core.List.{List, [], _∷_, _++_}
+use lib.ListN.{replicate}
+use Rattle.text.specs.Text.{ascii}
+use Rattle.wire.specs.declared.refusal.Refusal.the-variants.{NoRoom}
+use Rattle.negotiate_flags.specs.declared.NegotiateFlags.{NegotiateFlags}
+use Rattle.place.specs.declared.written.Written.the-variants.{Length, Refused}
+use Rattle.av_pairs.specs.declared.Count.the-variants.{Pairs}
+use Rattle.av_pairs.specs.AvPairs.{countPairs}
+use Rattle.challenge.specs.declared.Reading.the-variants.{Taken as ChallengeTaken}
+use Rattle.challenge.specs.declared.ServerNamesReading.the-variants.{Taken as NamesTaken}
+use Rattle.challenge.specs.declared.Timestamp.the-variants.{Time}
+use Rattle.challenge.specs.declared.TimestampReading.the-variants.{Taken as TimeTaken}
+use Rattle.challenge.specs.Challenge.{readChallenge, timestampOf, serverNamesOf}
+use Rattle.negotiate.specs.declared.Reading.the-variants.{Taken as NegotiateTaken}
+use Rattle.negotiate.specs.Negotiate.{readNegotiate}
+use Rattle.negotiate_writing.specs.Writing.{writeAnswer as negotiateAnswer, writeOut as negotiateOut}
+use Rattle.authenticate_writing.specs.Writing.{writeAnswer, writeOut}
+use Rattle.respond.specs.declared.answer.Answered.the-variants.{Sent, Refused as Unanswered}
+use Rattle.respond.specs.Answer.{respondAnswer, respondOut}
+use Rattle.respond.specs.Decision.{defaults}
+use Rattle.line.specs.Line.{ntlmLine}
+
+-- this text and 0A
+abbrev lineOf : String → List ℕ
+lineOf text = ascii text ++ (0x0A ∷ [])
+
+-- ---- a CHALLENGE
+
+-- "LINE" and "box7" in 16-bit units
+abbrev line16 : List ℕ
+line16 = 0x4C ∷ 0x00 ∷ 0x49 ∷ 0x00 ∷ 0x4E ∷ 0x00 ∷ 0x45 ∷ 0x00 ∷ []
+
+abbrev box16 : List ℕ
+box16 = 0x62 ∷ 0x00 ∷ 0x6F ∷ 0x00 ∷ 0x78 ∷ 0x00 ∷ 0x37 ∷ 0x00 ∷ []
+
+-- its TargetInfo, 36 bytes: NetBIOS domain "LINE", NetBIOS computer "PC", a timestamp, the end pair
+abbrev pub info : List ℕ
+info =
+    0x02 ∷ 0x00 ∷ 0x08 ∷ 0x00 ∷ 0x4C ∷ 0x00 ∷ 0x49 ∷ 0x00 ∷ 0x4E ∷ 0x00 ∷ 0x45 ∷ 0x00 ∷
+    0x01 ∷ 0x00 ∷ 0x04 ∷ 0x00 ∷ 0x50 ∷ 0x00 ∷ 0x43 ∷ 0x00 ∷
+    0x07 ∷ 0x00 ∷ 0x08 ∷ 0x00 ∷ 0x01 ∷ 0x02 ∷ 0x03 ∷ 0x04 ∷ 0x05 ∷ 0x06 ∷ 0x07 ∷ 0x08 ∷
+    0x00 ∷ 0x00 ∷ 0x00 ∷ 0x00 ∷ []
+
+-- 100 bytes: Signature, type, TargetName of 8 bytes at 56, flags, ServerChallenge, Reserved, TargetInfo of 36 bytes at 64,
+-- Version, and the payload. The flags are P1's, with REQUEST_TARGET, SIGN, TARGET_INFO and KEY_EXCH
+abbrev pub challengeMessage : List ℕ
+challengeMessage =
+    0x4E ∷ 0x54 ∷ 0x4C ∷ 0x4D ∷ 0x53 ∷ 0x53 ∷ 0x50 ∷ 0x00 ∷ 0x02 ∷ 0x00 ∷ 0x00 ∷ 0x00 ∷
+    0x08 ∷ 0x00 ∷ 0x08 ∷ 0x00 ∷ 0x38 ∷ 0x00 ∷ 0x00 ∷ 0x00 ∷
+    0x15 ∷ 0x02 ∷ 0x80 ∷ 0x40 ∷
+    0x01 ∷ 0x23 ∷ 0x45 ∷ 0x67 ∷ 0x89 ∷ 0xAB ∷ 0xCD ∷ 0xEF ∷
+    0x00 ∷ 0x00 ∷ 0x00 ∷ 0x00 ∷ 0x00 ∷ 0x00 ∷ 0x00 ∷ 0x00 ∷
+    0x24 ∷ 0x00 ∷ 0x24 ∷ 0x00 ∷ 0x40 ∷ 0x00 ∷ 0x00 ∷ 0x00 ∷
+    0x00 ∷ 0x00 ∷ 0x00 ∷ 0x00 ∷ 0x00 ∷ 0x00 ∷ 0x00 ∷ 0x00 ∷
+    line16 ++ info
+
+pub record ChallengeExample : Type 0 where
+  pub reading : readChallenge challengeMessage .reading ≡
+      ChallengeTaken
+      (record {
+        flags = record { bits = 0x40800215 };
+        fields = record { «target_name» = record { offset = 56; len = 8 }; «target_info» = record { offset = 64; len = 36 } };
+      })
+  pub server-challenge : readChallenge challengeMessage .«server_challenge» ≡
+      0x01 ∷ 0x23 ∷ 0x45 ∷ 0x67 ∷ 0x89 ∷ 0xAB ∷ 0xCD ∷ 0xEF ∷ []
+  pub pairs : countPairs info ≡ Pairs 3
+  pub timestamp : timestampOf challengeMessage ≡ TimeTaken (Time 0x0807060504030201)
+  pub server-names : serverNamesOf challengeMessage ≡ NamesTaken (record { «nb_computer_name» = true; «nb_domain_name» = true })
+  pub line : ntlmLine challengeMessage ≡ lineOf "chal flags=40800215 set=U target=LINE pairs=3 time=0807060504030201"
+
+-- ---- a NEGOTIATE
+
+-- 48 bytes: Signature, type, flags, domain of 4 bytes at 40, workstation of 4 at 44, Version, and the names
+abbrev pub negotiateMessage : List ℕ
+negotiateMessage =
+    0x4E ∷ 0x54 ∷ 0x4C ∷ 0x4D ∷ 0x53 ∷ 0x53 ∷ 0x50 ∷ 0x00 ∷ 0x01 ∷ 0x00 ∷ 0x00 ∷ 0x00 ∷
+    0x07 ∷ 0x32 ∷ 0x00 ∷ 0x00 ∷
+    0x04 ∷ 0x00 ∷ 0x04 ∷ 0x00 ∷ 0x28 ∷ 0x00 ∷ 0x00 ∷ 0x00 ∷
+    0x04 ∷ 0x00 ∷ 0x04 ∷ 0x00 ∷ 0x2C ∷ 0x00 ∷ 0x00 ∷ 0x00 ∷
+    0x00 ∷ 0x00 ∷ 0x00 ∷ 0x00 ∷ 0x00 ∷ 0x00 ∷ 0x00 ∷ 0x00 ∷
+    0x4C ∷ 0x49 ∷ 0x4E ∷ 0x45 ∷ 0x42 ∷ 0x4F ∷ 0x58 ∷ 0x37 ∷ []
+
+-- the caller's flags without the bits of the names, and a Version that these flags leave out
+abbrev callersFlags : NegotiateFlags
+callersFlags = record { bits = 0x207 }
+
+abbrev version : List ℕ
+version = 0x06 ∷ 0x01 ∷ 0xB1 ∷ 0x1D ∷ 0x00 ∷ 0x00 ∷ 0x00 ∷ 0x0F ∷ []
+
+pub record NegotiateExample : Type 0 where
+  pub reading : readNegotiate negotiateMessage ≡
+      NegotiateTaken
+      (record {
+        flags = record { bits = 0x3207 };
+        fields = record { domain = record { offset = 40; len = 4 }; workstation = record { offset = 44; len = 4 } };
+      })
+  pub line : ntlmLine negotiateMessage ≡ lineOf "nego flags=00003207 domain=LINE work=BOX7"
+  pub length-written : negotiateAnswer 50 callersFlags version (ascii "LINE") (ascii "BOX7") ≡ Length 48
+  -- into an output of 50 bytes FF
+  pub bytes-written : negotiateOut (replicate 50 0xFF) callersFlags version (ascii "LINE") (ascii "BOX7") ≡
+      negotiateMessage ++ (0xFF ∷ 0xFF ∷ [])
+  -- and into one that is a byte short
+  pub no-room : negotiateAnswer 47 callersFlags version (ascii "LINE") (ascii "BOX7") ≡ Refused NoRoom
+  pub kept : negotiateOut (replicate 47 0xFF) callersFlags version (ascii "LINE") (ascii "BOX7") ≡ replicate 47 0xFF
+
+-- ---- an AUTHENTICATE that is written
+
+abbrev pub lm : List ℕ
+lm = replicate 24 0xAA
+
+abbrev pub nt : List ℕ
+nt = replicate 28 0xBB
+
+abbrev pub key : List ℕ
+key = replicate 16 0xCC
+
+abbrev pub mic : List ℕ
+mic = replicate 16 0xDD
+
+-- P1's flags, with VERSION and KEY_EXCH
+abbrev flagsSent : NegotiateFlags
+flagsSent = record { bits = 0x42000201 }
+
+-- Signature, type, and the heads of LM response, NT response, domain, user, workstation and key: 24 bytes at 104, 28 at 128,
+-- 8 at 88, 8 at 96, none at 104, 16 at 156
+abbrev heads : List ℕ
+heads =
+    0x4E ∷ 0x54 ∷ 0x4C ∷ 0x4D ∷ 0x53 ∷ 0x53 ∷ 0x50 ∷ 0x00 ∷ 0x03 ∷ 0x00 ∷ 0x00 ∷ 0x00 ∷
+    0x18 ∷ 0x00 ∷ 0x18 ∷ 0x00 ∷ 0x68 ∷ 0x00 ∷ 0x00 ∷ 0x00 ∷ 0x1C ∷ 0x00 ∷ 0x1C ∷ 0x00 ∷ 0x80 ∷ 0x00 ∷ 0x00 ∷ 0x00 ∷
+    0x08 ∷ 0x00 ∷ 0x08 ∷ 0x00 ∷ 0x58 ∷ 0x00 ∷ 0x00 ∷ 0x00 ∷ 0x08 ∷ 0x00 ∷ 0x08 ∷ 0x00 ∷ 0x60 ∷ 0x00 ∷ 0x00 ∷ 0x00 ∷
+    0x00 ∷ 0x00 ∷ 0x00 ∷ 0x00 ∷ 0x68 ∷ 0x00 ∷ 0x00 ∷ 0x00 ∷ 0x10 ∷ 0x00 ∷ 0x10 ∷ 0x00 ∷ 0x9C ∷ 0x00 ∷ 0x00 ∷ 0x00 ∷ []
+
+-- 172 bytes: the heads, flags, Version, MIC, and the payload
+abbrev authenticateMessage : List ℕ
+authenticateMessage =
+    heads ++ (0x01 ∷ 0x02 ∷ 0x00 ∷ 0x42 ∷ version ++ (mic ++ (line16 ++ (box16 ++ (lm ++ (nt ++ key))))))
+
+pub record AuthenticateExample : Type 0 where
+  pub length-written : writeAnswer 174 flagsSent version mic lm nt line16 box16 [] key ≡ Length 172
+  pub bytes-written : writeOut (replicate 174 0xFF) flagsSent version mic lm nt line16 box16 [] key ≡
+      authenticateMessage ++ (0xFF ∷ 0xFF ∷ [])
+  pub line : ntlmLine authenticateMessage ≡ lineOf "auth flags=42000201 set=U domain=LINE user=box7 work= lm=24 nt=28 key=16 mic=1 kind=v2"
+  pub no-room : writeAnswer 171 flagsSent version mic lm nt line16 box16 [] key ≡ Refused NoRoom
+  pub kept : writeOut (replicate 171 0xFF) flagsSent version mic lm nt line16 box16 [] key ≡ replicate 171 0xFF
+
+-- ---- an answer to the CHALLENGE above, with the default settings and no domain of the settings
+
+-- the domain is the challenge's pair 2 and the flags are the challenge's, without VERSION; the LM response is 24 zeros
+abbrev answerMessage : List ℕ
+answerMessage =
+    heads
+    ++ (0x15 ∷ 0x02 ∷ 0x80 ∷ 0x40 ∷ replicate 8 0x00 ++ (mic ++ (line16 ++ (box16 ++ (replicate 24 0x00 ++ (nt ++ key))))))
+
+-- with a clock reading of 5, which a timestamp puts aside
+pub record AnswerExample : Type 0 where
+  pub answer : respondAnswer 172 challengeMessage defaults 5 version mic lm nt [] box16 [] key ≡
+      Sent (record { len = 172; time = 0x0807060504030201; «mic_due» = true })
+  pub bytes-written : respondOut (replicate 172 0xFF) challengeMessage defaults version mic lm nt [] box16 [] key ≡ answerMessage
+  pub line : ntlmLine answerMessage ≡ lineOf "auth flags=40800215 set=U domain=LINE user=box7 work= lm=24 nt=28 key=16 mic=1 kind=v2"
+  pub no-room : respondAnswer 171 challengeMessage defaults 5 version mic lm nt [] box16 [] key ≡ Unanswered NoRoom
+  pub kept : respondOut (replicate 171 0xFF) challengeMessage defaults version mic lm nt [] box16 [] key ≡ replicate 171 0xFF
+
+-- all of them
+abbrev pub ExamplesHold : Type 0
+ExamplesHold = ChallengeExample × NegotiateExample × AuthenticateExample × AnswerExample
