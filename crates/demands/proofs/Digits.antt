@@ -11,9 +11,10 @@ use lib.ListN.{getD, List·getD-append}
 use lib.Seq.{getD-at}
 use borrow.Author.Tests.{ltb-true, ltb-false, lt-ltb, le-ltb}
 use Rattle.text.specs.Text.{ascii}
+use Rattle.wire.specs.Number.{u16At, u32At}
 use Rattle.word.specs.Digits.{hexDigit, digits, hex, sizeStep, sizeWithin, decimalSize, decimal}
 use Rattle.word.proofs.Numbers.{low-digit, high-digit, length-digits}
-use Rattle.demands.specs.Digits.{IsDecimalDigit, IsHexDigit, worthOf, readOn, valueOf, DecimalHasValue, HexHasValue}
+use Rattle.demands.specs.Digits.{IsDecimalDigit, IsHexDigit, worthOf, readOn, valueOf, DecimalHasValue, HexHasValue, HexIsEnough}
 
 -- ---- one digit
 
@@ -124,3 +125,11 @@ hex-has-value k n =
       count = length-digits 16 k n;
       digits = λ i l. each 16 (omega arith) IsHexDigit hex-digit k n i l;
     }
+
+pub hex-is-enough : HexIsEnough
+hex-is-enough s byte at = (byte at, two at, four at, omega (arith, four at, four (at + 4))) where
+  two : (p : ℕ) → u16At s p < 16 ^ 4
+  two p = omega (arith, byte p, byte (p + 1))
+
+  four : (p : ℕ) → u32At s p < 16 ^ 8
+  four p = omega (arith, two p, two (p + 2))

@@ -22,11 +22,11 @@ use Rattle.demands.proofs.Walk.{walk-answers}
 abbrev made : ℕ → ℕ → ℕ → AvPair
 made id value size = record { id = record { id = id }; at = value; len = size }
 
-own : (s : List ℕ) (at : ℕ) → PairAt s at → PairIs s at (made (idOf s at) (at + 4) (sizeOf s at))
+pub own : (s : List ℕ) (at : ℕ) → PairAt s at → PairIs s at (made (idOf s at) (at + 4) (sizeOf s at))
 own s at w = record { there = w; id = refl; size = refl; value = refl }
 
 -- a place has one pair only
-one-pair : (s : List ℕ) (at : ℕ) (p q : AvPair) → PairIs s at p → PairIs s at q → p ≡ q
+pub one-pair : (s : List ℕ) (at : ℕ) (p q : AvPair) → PairIs s at p → PairIs s at q → p ≡ q
 one-pair s at p q v w = is p v ∙ sym (is q w) where
   is : (x : AvPair) → PairIs s at x → x ≡ made (idOf s at) (at + 4) (sizeOf s at)
   is x u =

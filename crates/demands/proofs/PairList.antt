@@ -231,7 +231,7 @@ module _ (s : List ℕ) where
   pair-or-fault at n p (fault10 e a b f) = omega (arith, p .whole, f)
   pair-or-fault at n p (fault13 e a b c f) = f (p .size)
 
-  end-or-fault : (at n : ℕ) → EndAt s at → FaultAt s at n → ⊥
+  pub end-or-fault : (at n : ℕ) → EndAt s at → FaultAt s at n → ⊥
   end-or-fault at n p (fault11 e f) = omega (arith, p .last, f)
   end-or-fault at n p (fault12 e a f) = ⊎-elim (λ z. z (p .size)) (λ l. omega (arith, l, p .last)) (f .1)
   end-or-fault at n p (fault10 e a b f) = omega (arith, p .last, p .size, f)

@@ -8,6 +8,7 @@ use mathlib.Core.List.{List, [], _∷_}
 use lib.Dec.{ltb}
 use lib.ListN.{length, getD}
 use Rattle.text.specs.Text.{ascii}
+use Rattle.wire.specs.Number.{u16At, u32At, u64At}
 use Rattle.word.specs.Digits.{hex, decimal}
 
 -- '0' to '9' are the characters 48 to 57, and 'A' to 'F' are 65 to 70
@@ -48,3 +49,9 @@ pub record IsHexOf (k n : ℕ) (text : List ℕ) : Type 0 where
 
 abbrev pub HexHasValue : Type 0
 HexHasValue = (k n : ℕ) → IsHexOf k n (hex k n)
+
+-- as many digits as the log line has are enough for a byte and for numbers of two, four and eight bytes
+abbrev pub HexIsEnough : Type 0
+HexIsEnough =
+    (s : List ℕ) → ((i : ℕ) → getD s i 0 < 256) → (at : ℕ) →
+    (getD s at 0 < 16 ^ 2) × (u16At s at < 16 ^ 4) × (u32At s at < 16 ^ 8) × (u64At s at < 16 ^ 16)

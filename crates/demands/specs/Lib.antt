@@ -15,3 +15,4 @@ pub mod Digits
 pub mod Units
 pub mod Examples
 pub mod Hypotheses
+pub mod Asking
