@@ -48,8 +48,10 @@ module _ (base : ℕ) (some : 0 < base) where
   value-is zero n b h = omega (arith, pow-zero base)
   value-is (suc k) n b h =
       one-more base 0 (hexDigit (n % base)) (digits base k (n / base))
-      ∙ rw (value-is k (n / base) b (div-lt-iff-lt-mul {k = base} {x = n} {y = base ^ k} some .1 (omega (arith, pow-suc base k))), worth (n % base) (omega (arith, mod-lt n some)))
-      (div-add-mod' n base)
+      ∙ rw (value-is k (n / base) b lower, worth (n % base) (omega (arith, mod-lt n some))) (div-add-mod' n base)
+    where
+      lower : n / base < base ^ k
+      lower = div-lt-iff-lt-mul {k = base} {x = n} {y = base ^ k} some .1 (omega (arith, pow-suc base k))
 
   -- what holds of each digit below the base
   each : (P : ℕ → Type 0) → ((m : ℕ) → m < base → P (hexDigit m)) → (k n i : ℕ) → i < k → P (getD (digits base k n) i 0)

@@ -23,10 +23,12 @@ use Rattle.demands.proofs.PairList.{step-judged, pairs-taken, pairs-ref
 
 -- a message and the same with another low byte of a field's MaxLen
 max-len-differs : (k : Format) (s : List ℕ) (i v : ℕ) → 1 ≤ i → i ≤ k .last → DifferInIgnored k s (set s (k .head i + 2) v)
-max-len-differs k s i v l r = record { length-same = sym (length-set s (k .head i + 2) v); bytes-same = λ p. go p (eqb p (k .head i + 2)) refl } where
-  go : (p : ℕ) (b : Bool) → eqb p (k .head i + 2) ≡ b → (getD s p 0 ≡ getD (set s (k .head i + 2) v) p 0) ⊎ Ignored k s p
-  go p true e = inr (max-len i l r (inl (eqb-true p (k .head i + 2) e)))
-  go p false e = inl (sym (getD-set-other s (k .head i + 2) p v 0 (eqb-false p (k .head i + 2) e)))
+max-len-differs k s i v l r =
+    record { length-same = sym (length-set s (k .head i + 2) v); bytes-same = λ p. go p (eqb p (k .head i + 2)) refl }
+  where
+    go : (p : ℕ) (b : Bool) → eqb p (k .head i + 2) ≡ b → (getD s p 0 ≡ getD (set s (k .head i + 2) v) p 0) ⊎ Ignored k s p
+    go p true e = inr (max-len i l r (inl (eqb-true p (k .head i + 2) e)))
+    go p false e = inl (sym (getD-set-other s (k .head i + 2) p v 0 (eqb-false p (k .head i + 2) e)))
 
 -- two lists with another byte at a place
 differ : (s t : List ℕ) (p : ℕ) → (getD s p 0 ≡ getD t p 0 → ⊥) → s ≡ t → ⊥
@@ -45,7 +47,12 @@ as-read =
     }
 
 nl-differs : NlDifferInIgnored (p12 0x01) (p12 0x21)
-nl-differs = record { length-same = refl; bytes-same = λ p h. sym (getD-set-other (p12 0x01) 4 p 0x21 0 (λ e. ⊎-elim (λ l. omega arith) (λ l. omega arith) h)); flags-same = inl refl }
+nl-differs =
+    record {
+      length-same = refl;
+      bytes-same = λ p h. sym (getD-set-other (p12 0x01) 4 p 0x21 0 (λ e. ⊎-elim (λ l. omega arith) (λ l. omega arith) h));
+      flags-same = inl refl;
+    }
 
 -- the pairs of the list
 pair-0 : PairAt info 0

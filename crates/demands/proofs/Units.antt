@@ -14,7 +14,7 @@ use Rattle.field.specs.Field.{fieldBytes}
 use Rattle.word.specs.Name.{numbers16}
 use Rattle.demands.specs.Message.{Format, authenticate, challenge, Set, Nonempty, lenOf, Fails}
 use Rattle.demands.specs.OwnBytes.{OwnField}
-use Rattle.demands.specs.Units.{EvenHasUnits, AuthenticateNamesWhole, TargetNameWhole}
+use Rattle.demands.specs.Units.{WholeUnits, EvenHasUnits, AuthenticateNamesWhole, TargetNameWhole}
 use Rattle.demands.proofs.OwnBytes.{none-fails, authenticate-own}
 use Rattle.demands.proofs.ChallengeOwn.{taken-as, challenge-own}
 
@@ -39,7 +39,8 @@ even-has-units name h = record { even = h; count = count-is name h; unit = unit-
 
 -- ---- a name's bytes are even
 
-module _ (k : Format) (s : List ℕ) (i : ℕ) (f : Field) (o : OwnField k s i f) (none : Fails k s 8 i → ⊥) (name : k .Name i) (wide : Set k s 0x1) where
+module _ (k : Format) (s : List ℕ) (i : ℕ) {f : Field} (o : OwnField k s i f)
+    (none : Fails k s 8 i → ⊥) (name : k .Name i) (wide : Set k s 0x1) where
   long : Nonempty k s i → length (fieldBytes s f) ≡ lenOf k s i
   long ne = ap length (o .bytes ne) ∙ simp (length-take, length-drop) (omega (arith, o .whole ne))
 
@@ -53,17 +54,18 @@ module _ (k : Format) (s : List ℕ) (i : ℕ) (f : Field) (o : OwnField k s i f
     go true e = eqb-true (length (fieldBytes s f) % 2) 0 e
     go false e = ap (λ (b : List ℕ). length b % 2) (o .none (full (eqb-false (length (fieldBytes s f) % 2) 0 e)) .2)
 
+  whole-name : WholeUnits (fieldBytes s f)
+  whole-name = even-has-units (fieldBytes s f) even-bytes
+
 pub authenticate-names-whole : AuthenticateNamesWhole
 authenticate-names-whole s a h wide =
     let o = authenticate-own s a h in
     let none = none-fails s a h in
     record {
-      domain = even-has-units (fieldBytes s (a .fields .domain)) (even-bytes authenticate s 3 (a .fields .domain) (o .domain) (none 8 3) (omega arith, omega arith) wide);
-      user = even-has-units (fieldBytes s (a .fields .user)) (even-bytes authenticate s 4 (a .fields .user) (o .user) (none 8 4) (omega arith, omega arith) wide);
-      workstation = even-has-units (fieldBytes s (a .fields .workstation)) (even-bytes authenticate s 5 (a .fields .workstation) (o .workstation) (none 8 5) (omega arith, omega arith) wide);
+      domain = whole-name authenticate s 3 (o .domain) (none 8 3) (omega arith, omega arith) wide;
+      user = whole-name authenticate s 4 (o .user) (none 8 4) (omega arith, omega arith) wide;
+      workstation = whole-name authenticate s 5 (o .workstation) (none 8 5) (omega arith, omega arith) wide;
     }
 
 pub target-name-whole : TargetNameWhole
-target-name-whole s c h wide =
-    even-has-units (fieldBytes s (c .fields .«target_name»))
-    (even-bytes challenge s 1 (c .fields .«target_name») (challenge-own s c h .target-name) (taken-as s c h .none 8 1) refl wide)
+target-name-whole s c h wide = whole-name challenge s 1 (challenge-own s c h .target-name) (taken-as s c h .none 8 1) refl wide
