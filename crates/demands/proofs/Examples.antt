@@ -13,6 +13,7 @@ use Rattle.negotiate.specs.Negotiate.{fieldsAt as negotiateFieldsAt, checkEnds 
 use Rattle.negotiate_writing.specs.Writing.{flagsToWrite, fieldsTo as negotiateFieldsTo, afterType, fixedBytes as negotiateFixed, negotiateBytes, checkToWrite as negotiateCheck, writeAnswer as negotiateAnswer, writeOut as negotiateOut}
 use Rattle.authenticate.specs.Authenticate.{fieldsAt, checkEnds, checkBegins, checkNames, checkShared, checkFields, micPresent, readingOf, readAuthenticate}
 use Rattle.authenticate_writing.specs.Writing.{fieldsTo, headsBytes, afterHeads, fixedBytes, payloadBytes, authenticateBytes, checkNamesToWrite, checkToWrite, writeAnswer, writeOut}
+use Rattle.nl_auth_writing.specs.Writing.{headBytes as nlHeadBytes, stringBytes, bytesUnder, utf8Bytes, requestBytes, responseBytes, checkZeros, checkRequest, requestAnswer, requestOut, responseAnswer, responseOut}
 use Rattle.respond.specs.Domain.{domainPart}
 use Rattle.respond.specs.Decision.{decisionOn}
 use Rattle.respond.specs.Answer.{lmToSend, micToSend, keyToSend, sendAnswer, sendOut, respondAnswer, respondOut}
@@ -20,7 +21,7 @@ use Rattle.line_chal.specs.Chal.{timeText, timeWord, chalEnd, chalText}
 use Rattle.line_nego.specs.Nego.{negoNames, negoText}
 use Rattle.line_auth.specs.Auth.{authNames, authLengths, authEnd, authText}
 use Rattle.line.specs.Line.{authenticateLine, challengeLine, negotiateLine, ntlmLine}
-use Rattle.demands.specs.Examples.{ChallengeExample, NegotiateExample, AuthenticateExample, AnswerExample, ExamplesHold}
+use Rattle.demands.specs.Examples.{ChallengeExample, NegotiateExample, AuthenticateExample, AnswerExample, NlAuthExample, ExamplesHold}
 
 challenge-example : ChallengeExample
 unfolding readChallenge challengeReadingOf fieldsOf challengeFieldsAt challengeEnds challengeBegins challengeNames challengeChecks readHead signatureHolds fieldAt fieldBytes countPairs checkPairs pairsOf stepAt pairOf left timestampIn timestampOf serverNamesIn serverNamesOf hexDigit hex decimalSize decimal escape unitText textOf nameText numberWord nameWord flagsWord setWord startText timeText timeWord chalEnd chalText challengeLine kindOf ntlmLine
@@ -38,5 +39,17 @@ answer-example : AnswerExample
 unfolding challengeReadingOf fieldsOf challengeFieldsAt challengeEnds challengeBegins challengeNames challengeChecks checkPairs pairsOf stepAt pairOf left timestampIn serverNamesIn domainPart fieldStart decisionOn lmToSend micToSend keyToSend sendAnswer sendOut respondAnswer respondOut readAuthenticate readingOf fieldsAt checkEnds checkBegins checkNames checkShared checkFields micPresent readHead signatureHolds fieldAt fieldBytes hexDigit hex decimalSize decimal escape unitText textOf nameText numberWord nameWord flagsWord setWord startText micWord kindWord authNames authLengths authEnd authText authenticateLine kindOf ntlmLine fieldsTo headsBytes afterHeads fixedBytes payloadBytes authenticateBytes checkNamesToWrite checkToWrite writeAnswer writeOut headBytes versionBytes le16 le32
 answer-example = record { answer = refl; bytes-written = refl; line = refl; no-room = refl; kept = refl }
 
+nl-auth-example : NlAuthExample
+unfolding nlHeadBytes stringBytes bytesUnder utf8Bytes requestBytes responseBytes checkZeros checkRequest requestAnswer requestOut responseAnswer responseOut le16 le32
+nl-auth-example =
+    record {
+      request-length = refl;
+      request-bytes = refl;
+      request-no-room = refl;
+      response-length = refl;
+      response-bytes = refl;
+      response-no-room = refl;
+    }
+
 pub examples-hold : ExamplesHold
-examples-hold = (challenge-example, negotiate-example, authenticate-example, answer-example)
+examples-hold = (challenge-example, negotiate-example, authenticate-example, answer-example, nl-auth-example)

@@ -1,5 +1,6 @@
 -- One message of each kind that the bench cases leave out, worked out by hand, so that the theorems are seen to speak of
--- something: a CHALLENGE and a NEGOTIATE that are read, a NEGOTIATE and an AUTHENTICATE that are written, and an answer.
+-- something: a CHALLENGE and a NEGOTIATE that are read, a NEGOTIATE, an AUTHENTICATE and an NL_AUTH message that are written,
+-- and an answer.
 use Prim.Native.Nat.{ℕ}
 use Prim.Native.String.{String}
 use mathlib.Core.Path.{_≡_}
@@ -25,6 +26,10 @@ use Rattle.respond.specs.declared.answer.Answered.the-variants.{Sent, Refused a
 use Rattle.respond.specs.Answer.{respondAnswer, respondOut}
 use Rattle.respond.specs.Decision.{defaults}
 use Rattle.line.specs.Line.{ntlmLine}
+use Rattle.nl_auth_flags.specs.declared.NlAuthFlags.{NlAuthFlags}
+use Rattle.nl_auth_flags.specs.Flags.{known}
+use Rattle.nl_auth_writing.specs.Writing.{requestAnswer, requestOut, responseAnswer, responseOut}
+use Rattle.demands.specs.Bench.{p12}
 
 -- this text and 0A
 abbrev lineOf : String → List ℕ
@@ -166,6 +171,22 @@ pub record AnswerExample : Type 0 where
   pub no-room : respondAnswer 171 challengeMessage defaults 5 version mic lm nt [] box16 [] key ≡ Unanswered NoRoom
   pub kept : respondOut (replicate 171 0xFF) challengeMessage defaults version mic lm nt [] box16 [] key ≡ replicate 171 0xFF
 
+-- ---- NL_AUTH: P12 as it is written from flags 0x21, the strings B to E passed over, and a response
+
+abbrev flags21 : NlAuthFlags
+flags21 = known (record { bits = 0x21 })
+
+abbrev passed : List ℕ
+passed = ascii "passed over"
+
+pub record NlAuthExample : Type 0 where
+  pub request-length : requestAnswer 13 flags21 (ascii "LINE") passed passed passed passed ≡ Length 13
+  pub request-bytes : requestOut (replicate 13 0xFF) flags21 (ascii "LINE") passed passed passed passed ≡ p12 0x01
+  pub request-no-room : requestAnswer 12 flags21 (ascii "LINE") passed passed passed passed ≡ Refused NoRoom
+  pub response-length : responseAnswer 9 ≡ Length 9
+  pub response-bytes : responseOut (replicate 9 0xFF) ≡ 0x01 ∷ replicate 8 0x00
+  pub response-no-room : responseAnswer 8 ≡ Refused NoRoom
+
 -- all of them
 abbrev pub ExamplesHold : Type 0
-ExamplesHold = ChallengeExample × NegotiateExample × AuthenticateExample × AnswerExample
+ExamplesHold = ChallengeExample × NegotiateExample × AuthenticateExample × AnswerExample × NlAuthExample
