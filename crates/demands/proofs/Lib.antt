@@ -1,4 +1,5 @@
 pub mod Bools
+pub mod Rank
 pub mod Order
 pub mod Message
 pub mod Chain
@@ -30,3 +31,6 @@ pub mod WriteBack
 pub mod Answered
 pub mod AnswerKept
 pub mod CallKept
+pub mod WrittenExactly
+pub mod MessagesWritten
+pub mod NlWritten

@@ -22,9 +22,8 @@ use Rattle.av_pairs.specs.declared.Count.the-variants.{Pairs, Refused as Uncoun
 use Rattle.av_pairs.specs.AvPairs.{left, idAt, pairOf, stepAt, endOf, onStep, pairsFrom, stopFrom, pairsOf, checkPairs, countPairs}
 use Rattle.demands.specs.PairList.{idOf, sizeOf, nextOf, SizeAllowed, PairAt, EndAt, WellFormed, end, pair, Holds, empty, listed, Fails10, Fails11, Fails12, FaultAt, fault10, fault11, fault12, fault13, FirstFault, here, later}
 use Rattle.demands.specs.TakenExactly.{CountRefused, PairsTaken, PairsRefused}
-use Rattle.demands.proofs.Chain.{chained}
 use Rattle.wire.proofs.Bools.{and-left, and-right, and-both}
-use Rattle.demands.proofs.Bools.{true-not-false, both-ways, failed-false, or-left, or-right, or-either}
+use Rattle.demands.proofs.Bools.{true-not-false, both-ways, failed-false, or-left, or-right, or-either, chained}
 
 -- a test that an id other than the asked one passes
 implied : (a b : Bool) → implies a b ≡ true → a ≡ true → b ≡ true
