@@ -34,3 +34,4 @@ pub mod CallKept
 pub mod WrittenExactly
 pub mod MessagesWritten
 pub mod NlWritten
+pub mod SearchedExactly
