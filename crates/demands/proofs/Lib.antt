@@ -35,3 +35,4 @@ pub mod WrittenExactly
 pub mod MessagesWritten
 pub mod NlWritten
 pub mod SearchedExactly
+pub mod Deciding

@@ -18,7 +18,7 @@ use Rattle.authenticate_writing.proofs.Sent.{length-payload, length-message}
 use Rattle.negotiate_writing.specs.Writing.{negotiateBytes, sizeToWrite as negotiateToWrite, checkToWrite as checkNegotiate, writeAnswer as negotiateAnswer}
 use Rattle.negotiate_writing.proofs.Sent.{length-message as length-negotiate}
 use Rattle.demands.specs.Order.{placeIn}
-use Rattle.demands.specs.WrittenExactly.{Set, NoCharset, authenticateSize, AuthenticateUnwritten, authenticateOrder, AuthenticateIsWritten, negotiateSize, NegotiateUnwritten, NegotiateIsWritten}
+use Rattle.demands.specs.WrittenExactly.{FlagSet, NoCharset, authenticateSize, AuthenticateUnwritten, authenticateOrder, AuthenticateIsWritten, negotiateSize, NegotiateUnwritten, NegotiateIsWritten}
 use Rattle.demands.proofs.Bools.{true-not-false, failed-false, chained}
 use Rattle.demands.proofs.Rank.{FreeBy, JudgedBy, only-in, first-by, skip-by, then-by, over-judged-by}
 use Rattle.demands.proofs.WrittenExactly.{Rows, rows, free-at-first, next, room-judged, size-judged, by-verdict}
@@ -39,16 +39,16 @@ charset-held w j h x = go (unicode w) (oem w) refl refl (held-true _ h) where
   go false false p q e = true-not-false (sym e)
 
 -- check 31 at one name
-odd-failed : (u : Bool) (bits : ℕ) (x : List ℕ) → (u ≡ true → Set bits 0x1) → evenToWrite u x ≡ Failed → Set bits 0x1 × (length x % 2 ≡ 1)
+odd-failed : (u : Bool) (bits : ℕ) (x : List ℕ) → (u ≡ true → FlagSet bits 0x1) → evenToWrite u x ≡ Failed → FlagSet bits 0x1 × (length x % 2 ≡ 1)
 odd-failed u bits x to f = go u (eqb (length x % 2) 0) refl refl (failed-false _ f) where
-  go : (a b : Bool) → u ≡ a → eqb (length x % 2) 0 ≡ b → (not a || b) ≡ false → Set bits 0x1 × (length x % 2 ≡ 1)
+  go : (a b : Bool) → u ≡ a → eqb (length x % 2) 0 ≡ b → (not a || b) ≡ false → FlagSet bits 0x1 × (length x % 2 ≡ 1)
   go true true p q e = absurd (true-not-false e)
   go true false p q e = (to p, odd (eqb-false (length x % 2) 0 q)) where
     odd : (length x % 2 ≡ 0 → ⊥) → length x % 2 ≡ 1
     odd d = omega (arith, d)
   go false b p q e = absurd (true-not-false e)
 
-odd-held : (u : Bool) (bits : ℕ) (x : List ℕ) → (Set bits 0x1 → u ≡ true) → evenToWrite u x ≡ Held → Set bits 0x1 → length x % 2 ≡ 1 → ⊥
+odd-held : (u : Bool) (bits : ℕ) (x : List ℕ) → (FlagSet bits 0x1 → u ≡ true) → evenToWrite u x ≡ Held → FlagSet bits 0x1 → length x % 2 ≡ 1 → ⊥
 odd-held u bits x from h set odd = go u (eqb (length x % 2) 0) refl refl (held-true _ h) where
   go : (a b : Bool) → u ≡ a → eqb (length x % 2) 0 ≡ b → (not a || b) ≡ true → ⊥
   go true true p q e = omega (arith, eqb-true (length x % 2) 0 q, odd)
@@ -56,19 +56,19 @@ odd-held u bits x from h set odd = go u (eqb (length x % 2) 0) refl refl (held-t
   go false b p q e = true-not-false (sym (from set) ∙ p)
 
 -- check 32
-key-failed : (w : NegotiateFlags) (key : List ℕ) → keyHolds w key ≡ Failed → (0 < length key) × ((length key ≡ 16 → ⊥) ⊎ (Set (w .bits) 0x40000000 → ⊥))
+key-failed : (w : NegotiateFlags) (key : List ℕ) → keyHolds w key ≡ Failed → (0 < length key) × ((length key ≡ 16 → ⊥) ⊎ (FlagSet (w .bits) 0x40000000 → ⊥))
 key-failed w key f = go (eqb (length key) 0) (eqb (length key) 16) (keyExch w) refl refl refl (failed-false _ f) where
   some : (length key ≡ 0 → ⊥) → 0 < length key
   some d = omega (arith, d)
 
   go : (a b c : Bool) → eqb (length key) 0 ≡ a → eqb (length key) 16 ≡ b → keyExch w ≡ c → (a || (b && c)) ≡ false →
-      (0 < length key) × ((length key ≡ 16 → ⊥) ⊎ (Set (w .bits) 0x40000000 → ⊥))
+      (0 < length key) × ((length key ≡ 16 → ⊥) ⊎ (FlagSet (w .bits) 0x40000000 → ⊥))
   go true b c p q r e = absurd (true-not-false e)
   go false false c p q r e = (some (eqb-false _ 0 p), inl (eqb-false _ 16 q))
   go false true false p q r e = (some (eqb-false _ 0 p), inr (eqb-false _ 1 r))
   go false true true p q r e = absurd (true-not-false e)
 
-key-is-right : (w : NegotiateFlags) (key : List ℕ) → keyHolds w key ≡ Held → (0 < length key) × ((length key ≡ 16 → ⊥) ⊎ (Set (w .bits) 0x40000000 → ⊥)) → ⊥
+key-is-right : (w : NegotiateFlags) (key : List ℕ) → keyHolds w key ≡ Held → (0 < length key) × ((length key ≡ 16 → ⊥) ⊎ (FlagSet (w .bits) 0x40000000 → ⊥)) → ⊥
 key-is-right w key h x = go (eqb (length key) 0) (eqb (length key) 16) (keyExch w) refl refl refl (held-true _ h) where
   go : (a b c : Bool) → eqb (length key) 0 ≡ a → eqb (length key) 16 ≡ b → keyExch w ≡ c → (a || (b && c)) ≡ true → ⊥
   go true b c p q r e = omega (arith, eqb-true (length key) 0 p, x .0)
@@ -107,10 +107,10 @@ module _ (room : ℕ) (w : NegotiateFlags) (lm nt dom usr wks key : List ℕ) wh
       (skip-by rank F 31 3 free (λ j l h. omega (arith, h .0)))
       (λ j l h. omega (arith, h .1))
     where
-      failed : (i : ℕ) (x : List ℕ) → 3 ≤ i → i ≤ 5 → evenToWrite (unicode w) x ≡ Failed → (3 ≤ i) × (i ≤ 5) × Set (w .bits) 0x1 × (length x % 2 ≡ 1)
+      failed : (i : ℕ) (x : List ℕ) → 3 ≤ i → i ≤ 5 → evenToWrite (unicode w) x ≡ Failed → (3 ≤ i) × (i ≤ 5) × FlagSet (w .bits) 0x1 × (length x % 2 ≡ 1)
       failed i x a b f = let o = odd-failed (unicode w) (w .bits) x (eqb-true _ 1) f in (a, b, o .0, o .1)
 
-      held : {A B : Type 0} (x : List ℕ) → evenToWrite (unicode w) x ≡ Held → A × B × Set (w .bits) 0x1 × (length x % 2 ≡ 1) → ⊥
+      held : {A B : Type 0} (x : List ℕ) → evenToWrite (unicode w) x ≡ Held → A × B × FlagSet (w .bits) 0x1 × (length x % 2 ≡ 1) → ⊥
       held x h y = odd-held (unicode w) (w .bits) x (eq-eqb _ 1) h (y .2) (y .3)
 
   authenticate-judged : JudgedBy rank F 0 (checkToWrite room w lm nt dom usr wks key)

@@ -23,7 +23,7 @@ use Rattle.nl_auth_writing.specs.Writing.{stringBytes, bytesUnder, requestBytes
 use Rattle.nl_auth_writing.proofs.Sent.{length-request, length-response}
 use Rattle.demands.specs.Order.{placeIn}
 use Rattle.demands.specs.NlAuth.{maskOf}
-use Rattle.demands.specs.WrittenExactly.{WrittenExactly, Set, HoldsZero, sizeUnder, requestSize, RequestUnwritten, NlRequestIsWritten, Unwritten, NlResponseIsWritten}
+use Rattle.demands.specs.WrittenExactly.{WrittenExactly, FlagSet, HoldsZero, sizeUnder, requestSize, RequestUnwritten, NlRequestIsWritten, Unwritten, NlResponseIsWritten}
 use Rattle.demands.proofs.Bools.{true-not-false, failed-false, or-left, or-right, or-either, chained, bit1, bit2, bit4, bit8, bit16}
 use Rattle.demands.proofs.NlAuth.{before-nonzero, at-zero, five}
 use Rattle.demands.proofs.Rank.{FreeBy, JudgedBy, only-in, first-by, skip-by, then-by, over-judged-by}
@@ -75,20 +75,20 @@ module _ (room : ℕ) (flags : NlAuthFlags) (a b c d e : List ℕ) where
   abbrev toC : Bool
   toC = (nbDomain w || nbComputer w) || dnsDomain w
 
-  strings-failed : stringsHold w ≡ Failed → (k : ℕ) → 1 ≤ k → k ≤ 5 → Set bits (maskOf k) → ⊥
+  strings-failed : stringsHold w ≡ Failed → (k : ℕ) → 1 ≤ k → k ≤ 5 → FlagSet bits (maskOf k) → ⊥
   strings-failed f =
       let f5 = failed-false _ f in
       let f4 = or-left (toC || dnsHost w) (utf8Computer w) f5 in
       let f3 = or-left toC (dnsHost w) f4 in
       let f2 = or-left (nbDomain w || nbComputer w) (dnsDomain w) f3 in
-      five (λ k. Set bits (maskOf k) → ⊥)
+      five (λ k. FlagSet bits (maskOf k) → ⊥)
       (λ s. eqb-false _ 1 (or-left (nbDomain w) (nbComputer w) f2) (bit1 bits ∙ s))
       (λ s. eqb-false _ 1 (or-right (nbDomain w) (nbComputer w) f2) (bit2 bits ∙ s))
       (λ s. eqb-false _ 1 (or-right (nbDomain w || nbComputer w) (dnsDomain w) f3) (bit4 bits ∙ s))
       (λ s. eqb-false _ 1 (or-right toC (dnsHost w) f4) (bit8 bits ∙ s))
       (λ s. eqb-false _ 1 (or-right (toC || dnsHost w) (utf8Computer w) f5) (bit16 bits ∙ s))
 
-  strings-held : stringsHold w ≡ Held → ((k : ℕ) → 1 ≤ k → k ≤ 5 → Set bits (maskOf k) → ⊥) → ⊥
+  strings-held : stringsHold w ≡ Held → ((k : ℕ) → 1 ≤ k → k ≤ 5 → FlagSet bits (maskOf k) → ⊥) → ⊥
   strings-held h none =
       ⊎-elim (λ h4. ⊎-elim (λ h3. ⊎-elim (λ h2. ⊎-elim
       (λ p. none 1 (omega arith) (omega arith) (sym (bit1 bits) ∙ eqb-true _ 1 p))
@@ -131,11 +131,11 @@ module _ (room : ℕ) (flags : NlAuthFlags) (a b c d e : List ℕ) where
       (λ j l h. omega (arith, l, h .1))
     where
       failed : (i m : ℕ) (x : List ℕ) → 1 ≤ i → i ≤ 5 → bits % 32 / m % 2 ≡ bits / m % 2 → noZero (has (w .bits) m, x) ≡ Failed →
-          (1 ≤ i) × (i ≤ 5) × Set bits m × HoldsZero x
+          (1 ≤ i) × (i ≤ 5) × FlagSet bits m × HoldsZero x
       failed i m x l r q f = let z = zero-failed (has (w .bits) m) x f in (l, r, sym q ∙ eqb-true _ 1 (z .0), z .1)
 
       held : {A B : Type 0} (m : ℕ) (x : List ℕ) → bits % 32 / m % 2 ≡ bits / m % 2 → noZero (has (w .bits) m, x) ≡ Held →
-          A × B × Set bits m × HoldsZero x → ⊥
+          A × B × FlagSet bits m × HoldsZero x → ⊥
       held m x q h y = zero-held (has (w .bits) m) x h (eq-eqb _ 1 (q ∙ y .2)) (y .3)
 
   request-judged : JudgedBy (placeIn order) F 0 (checkRequest room w a b c d e)

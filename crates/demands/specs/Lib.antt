@@ -12,3 +12,4 @@ pub mod ReadBack
 pub mod Bench
 pub mod WrittenExactly
 pub mod SearchedExactly
+pub mod Answering

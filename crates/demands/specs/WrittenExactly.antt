@@ -33,12 +33,12 @@ pub record WrittenExactly (answer : Written) (order : List ℕ) (F : ℕ → ℕ
   pub written : (n : ℕ) → (answer ≡ Length n) ↔ (((m j : ℕ) → F m j → ⊥) × (n ≡ size))
 
 -- a flag is set, by its mask
-abbrev pub Set : ℕ → ℕ → Type 0
-Set bits mask = bits / mask % 2 ≡ 1
+abbrev pub FlagSet : ℕ → ℕ → Type 0
+FlagSet bits mask = bits / mask % 2 ≡ 1
 
 -- rows 5, 30 and 33, of a message with these flags and of so many bytes, for an output of `room` bytes
 abbrev pub NoCharset : ℕ → ℕ → Type 0
-NoCharset bits i = (i ≡ 0) × (Set bits 0x1 → ⊥) × (Set bits 0x2 → ⊥)
+NoCharset bits i = (i ≡ 0) × (FlagSet bits 0x1 → ⊥) × (FlagSet bits 0x2 → ⊥)
 
 abbrev pub TooLongToWrite : ℕ → ℕ → Type 0
 TooLongToWrite size i = (i ≡ 0) × (65535 < size)
@@ -61,8 +61,8 @@ nameOf domain user workstation i = getD (domain ∷ user ∷ workstation ∷ [])
 abbrev pub AuthenticateUnwritten : ℕ → ℕ → List ℕ → List ℕ → List ℕ → List ℕ → List ℕ → List ℕ → ℕ → ℕ → Type 0
 AuthenticateUnwritten room bits lm nt domain user workstation key n i =
     check 5 n (NoCharset bits i) (
-    check 31 n ((3 ≤ i) × (i ≤ 5) × Set bits 0x1 × (length (nameOf domain user workstation i) % 2 ≡ 1)) (
-    check 32 n ((i ≡ 6) × (0 < length key) × ((length key ≡ 16 → ⊥) ⊎ (Set bits 0x40000000 → ⊥))) (
+    check 31 n ((3 ≤ i) × (i ≤ 5) × FlagSet bits 0x1 × (length (nameOf domain user workstation i) % 2 ≡ 1)) (
+    check 32 n ((i ≡ 6) × (0 < length key) × ((length key ≡ 16 → ⊥) ⊎ (FlagSet bits 0x40000000 → ⊥))) (
     check 30 n (TooLongToWrite (authenticateSize lm nt domain user workstation key) i) (
     check 33 n (NoRoom room (authenticateSize lm nt domain user workstation key) i)
     ⊥))))
@@ -117,8 +117,8 @@ HoldsZero x = (p : ℕ) × (p < length x) × (getD x p 0 ≡ 0)
 
 abbrev pub RequestUnwritten : ℕ → ℕ → List ℕ → List ℕ → List ℕ → List ℕ → List ℕ → ℕ → ℕ → Type 0
 RequestUnwritten room bits a b c d e n i =
-    check 14 n ((i ≡ 0) × ((k : ℕ) → 1 ≤ k → k ≤ 5 → Set bits (maskOf k) → ⊥)) (
-    check 34 n ((1 ≤ i) × (i ≤ 5) × Set bits (maskOf i) × HoldsZero (stringOf a b c d e i)) (
+    check 14 n ((i ≡ 0) × ((k : ℕ) → 1 ≤ k → k ≤ 5 → FlagSet bits (maskOf k) → ⊥)) (
+    check 34 n ((1 ≤ i) × (i ≤ 5) × FlagSet bits (maskOf i) × HoldsZero (stringOf a b c d e i)) (
     check 30 n (TooLongToWrite (requestSize bits a b c d e) i) (
     check 33 n (NoRoom room (requestSize bits a b c d e) i)
     ⊥)))
