@@ -1,7 +1,7 @@
 -- The decision on a challenge: refused exactly by the reading, 20 or 21, and else the challenge's flags and timestamp.
 use Prim.Native.Nat.{ℕ, _+_}
 use mathlib.Core.Path.{_≡_, refl, sym, ap, _∙_, subst}
-use mathlib.Core.Logic.{_⊎_, inl, inr, ⊎-elim, _↔_}
+use mathlib.Core.Logic.{inl, inr, ⊎-elim, _↔_}
 use mathlib.Core.Bool.{Bool, true, false, _||_, _&&_, not}
 use mathlib.Core.List.{List}
 use native.Mathlib.Omega.{arith}
@@ -27,9 +27,8 @@ use Rattle.respond.specs.declared.decision.Decided.the-variants.{Taken, Refused
 use Rattle.respond.specs.declared.decision.Decision.{Decision}
 use Rattle.respond.specs.declared.decision.Settings.{Settings}
 use Rattle.respond.specs.Decision.{strengthHolds, serverNamesHold, decisionOn}
-use Rattle.demands.specs.Message.{challenge, Set}
 use Rattle.demands.specs.PairList.{PairThere}
-use Rattle.demands.specs.TakenExactly.{InfoBytes, ChallengeHolds, ChallengeFails}
+use Rattle.demands.specs.TakenExactly.{InfoBytes, ChallengeHolds}
 use Rattle.demands.specs.Answering.{Fails20, Fails21, Agreed, Declined, by-reading, by-20, by-21, TimestampIs, DecisionRefusedWith, DecisionIsRefused, DecisionIsTaken}
 use Rattle.demands.proofs.Bools.{true-not-false, both-ways, failed-false, chained}
 use Rattle.demands.proofs.PairList.{one-place}

@@ -36,3 +36,6 @@ pub mod MessagesWritten
 pub mod NlWritten
 pub mod SearchedExactly
 pub mod Deciding
+pub mod DomainSent
+pub mod ToSend
+pub mod Answering
