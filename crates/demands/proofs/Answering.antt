@@ -26,7 +26,7 @@ use Rattle.respond.specs.Domain.{domainToSend}
 use Rattle.demands.specs.PairList.{PairThere}
 use Rattle.demands.specs.ReadBack.{AuthenticateBack}
 use Rattle.demands.specs.TakenExactly.{InfoBytes}
-use Rattle.demands.specs.WrittenExactly.{WrittenExactly, authenticateSize, AuthenticateUnwritten, authenticateOrder}
+use Rattle.demands.specs.WrittenExactly.{WrittenExactly, authenticateSize, AuthenticateWritingFails, authenticateOrder}
 use Rattle.demands.specs.Answering.{Agreed, Declined, ToSend, AnsweredExactly, RespondIsAnswered, RespondReadsBack}
 use Rattle.demands.proofs.AnswerKept.{mic-long}
 use Rattle.demands.proofs.Answered.{sent-written}
@@ -123,13 +123,13 @@ unfolding respondAnswer
 respond-answered room s b v mic lm nt dom usr wks key settings clock v8 m16 info x = go (decisionOn settings s) (judged settings s b info) where
   Right : Answered → Type 0
   Right a =
-      AnsweredExactly a settings s b (AuthenticateUnwritten room (flagsAt s 20 .bits) (x .lm-sent) nt (x .domain-sent) usr wks (x .key-sent))
+      AnsweredExactly a settings s b (AuthenticateWritingFails room (flagsAt s 20 .bits) (x .lm-sent) nt (x .domain-sent) usr wks (x .key-sent))
       (authenticateSize (x .lm-sent) nt (x .domain-sent) usr wks (x .key-sent)) (x .time)
 
   agreed-to : Agreed settings s b → Right (sendAnswer room settings (record { flags = flagsAt s 20; timestamp = timestampIn b }) clock v mic lm nt (domainToSend dom s) usr wks key)
   agreed-to agreed =
       subst Right (sym (send-answer s b v mic lm nt dom usr wks key settings clock m16 info x room agreed))
-      (as-answer settings s b (AuthenticateUnwritten room (flagsAt s 20 .bits) (x .lm-sent) nt (x .domain-sent) usr wks (x .key-sent))
+      (as-answer settings s b (AuthenticateWritingFails room (flagsAt s 20 .bits) (x .lm-sent) nt (x .domain-sent) usr wks (x .key-sent))
       (authenticateSize (x .lm-sent) nt (x .domain-sent) usr wks (x .key-sent)) (x .time)
       (writeAnswer room (flagsAt s 20) v (x .mic-sent) (x .lm-sent) nt (x .domain-sent) usr wks (x .key-sent)) (micDue (timestampIn b)) agreed (due-is b)
       (authenticate-written room (flagsAt s 20) v (x .mic-sent) (x .lm-sent) nt (x .domain-sent) usr wks (x .key-sent) v8 (mic-sent-long s b v mic lm nt dom usr wks key settings clock m16 info x)))
@@ -137,7 +137,7 @@ respond-answered room s b v mic lm nt dom usr wks key settings clock v8 m16 info
   go : (d : Decided) → Judged settings s b info d → Right (onDecided Unanswered d (λ y. sendAnswer room settings y clock v mic lm nt (domainToSend dom s) usr wks key))
   go (Taken d) j = subst (λ (y : Decision). Right (sendAnswer room settings y clock v mic lm nt (domainToSend dom s) usr wks key)) (sym (j .1)) (agreed-to (j .0))
   go (Refused e) j =
-      as-refusal settings s b (AuthenticateUnwritten room (flagsAt s 20 .bits) (x .lm-sent) nt (x .domain-sent) usr wks (x .key-sent))
+      as-refusal settings s b (AuthenticateWritingFails room (flagsAt s 20 .bits) (x .lm-sent) nt (x .domain-sent) usr wks (x .key-sent))
       (authenticateSize (x .lm-sent) nt (x .domain-sent) usr wks (x .key-sent)) (x .time) e j
 
 pub respond-reads-back : RespondReadsBack

@@ -3,9 +3,9 @@ use Prim.Native.Nat.{ℕ}
 use mathlib.Core.Path.{_≡_, refl, sym, _∙_, subst}
 use mathlib.Core.Logic.{_↔_}
 use mathlib.Core.Bool.{Bool, true, false}
-use mathlib.Core.List.{List}
+use mathlib.Core.List.{List, []}
 use native.Mathlib.Omega.{arith}
-use lib.ListN.{length}
+use lib.ListN.{length, take, drop}
 use borrow.Author.Tests.{eqb-true, eqb-false, eq-eqb}
 use Rattle.wire.specs.declared.check.Verdict.{Verdict}
 use Rattle.wire.specs.declared.check.Verdict.the-variants.{Clear, Refused as Not}
@@ -26,9 +26,9 @@ use Rattle.challenge.specs.declared.Reading.{Reading}
 use Rattle.challenge.specs.declared.Reading.the-variants.{Taken, Refused}
 use Rattle.challenge.specs.Challenge.{layout, fieldsAt, allFields, names, checkEnds, checkBegins, checkNames, checkFields, fieldsOf, onTaken, infoOf, readingOf, readChallenge}
 use Rattle.demands.specs.Order.{First}
-use Rattle.demands.specs.Message.{challenge, Fails}
+use Rattle.demands.specs.Message.{challenge, Fails, lenOf, offsetOf}
 use Rattle.demands.specs.PairList.{Holds, ListFails}
-use Rattle.demands.specs.TakenExactly.{IsTakenChallenge, ChallengeRefusedWith, InfoBytes, ChallengeHolds, ChallengeFails, in-fields, in-list, ChallengeIsTaken, ChallengeIsRefused}
+use Rattle.demands.specs.TakenExactly.{IsTakenChallenge, ChallengeRefusedWith, InfoBytes, InfoIsThere, ChallengeHolds, ChallengeFails, in-fields, in-list, ChallengeIsTaken, ChallengeIsRefused}
 use Rattle.demands.proofs.Order.{Free, only-first, next-check, skip}
 use Rattle.demands.proofs.Message.{Stands, even-failed, even-held}
 use Rattle.demands.proofs.Fields.{AllStand, Link, ends-judged, begins-judged}
@@ -106,6 +106,14 @@ module _ (s : List ℕ) where
       by : (e : Bool) → isEmpty f ≡ e → fieldBytes s f ≡ b
       by true p = own-field challenge s 2 f w (none 6 2) .none (w .empty p) .2 ∙ sym (info .absent (w .empty p))
       by false p = own-field challenge s 2 f w (none 6 2) .bytes (w .full p) ∙ sym (info .there (w .full p))
+
+pub info-there : InfoIsThere
+info-there s = go (two s (Stands challenge s) (λ i f w. w) .1) where
+  go : Stands challenge s 2 (fieldsAt s (flagsAt s 20) .«target_info») → (b : List ℕ) × InfoBytes s b
+  go w = by (isEmpty (fieldsAt s (flagsAt s 20) .«target_info»)) refl where
+    by : (e : Bool) → isEmpty (fieldsAt s (flagsAt s 20) .«target_info») ≡ e → (b : List ℕ) × InfoBytes s b
+    by true p = ([], record { there = λ ne. absurd (w .empty p ne); absent = λ none. refl })
+    by false p = (take (lenOf challenge s 2) (drop (offsetOf challenge s 2) s), record { there = λ ne. refl; absent = λ none. absurd (none (w .full p)) })
 
 -- checks 10 to 13 over a list
 abbrev pub JudgedP : List ℕ → Verdict → Type 0

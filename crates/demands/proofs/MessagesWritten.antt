@@ -18,20 +18,20 @@ use Rattle.authenticate_writing.proofs.Sent.{length-payload, length-message}
 use Rattle.negotiate_writing.specs.Writing.{negotiateBytes, sizeToWrite as negotiateToWrite, checkToWrite as checkNegotiate, writeAnswer as negotiateAnswer}
 use Rattle.negotiate_writing.proofs.Sent.{length-message as length-negotiate}
 use Rattle.demands.specs.Order.{placeIn}
-use Rattle.demands.specs.WrittenExactly.{FlagSet, NoCharset, authenticateSize, AuthenticateUnwritten, authenticateOrder, AuthenticateIsWritten, negotiateSize, NegotiateUnwritten, NegotiateIsWritten}
+use Rattle.demands.specs.WrittenExactly.{FlagSet, Fails5, authenticateSize, AuthenticateWritingFails, authenticateOrder, AuthenticateIsWritten, negotiateSize, NegotiateWritingFails, NegotiateIsWritten}
 use Rattle.demands.proofs.Bools.{true-not-false, failed-false, chained}
 use Rattle.demands.proofs.Rank.{FreeBy, JudgedBy, only-in, first-by, skip-by, then-by, over-judged-by}
 use Rattle.demands.proofs.WrittenExactly.{Rows, rows, free-at-first, next, room-judged, size-judged, by-verdict}
 
 -- check 5
-charset-failed : (w : NegotiateFlags) → charsetHolds w ≡ Failed → NoCharset (w .bits) 0
+charset-failed : (w : NegotiateFlags) → charsetHolds w ≡ Failed → Fails5 (w .bits) 0
 charset-failed w f = go (unicode w) (oem w) refl refl (failed-false _ f) where
-  go : (a b : Bool) → unicode w ≡ a → oem w ≡ b → (a || b) ≡ false → NoCharset (w .bits) 0
+  go : (a b : Bool) → unicode w ≡ a → oem w ≡ b → (a || b) ≡ false → Fails5 (w .bits) 0
   go true b p q e = absurd (true-not-false e)
   go false true p q e = absurd (true-not-false e)
   go false false p q e = (refl, eqb-false _ 1 p, eqb-false _ 1 q)
 
-charset-held : (w : NegotiateFlags) (j : ℕ) → charsetHolds w ≡ Held → NoCharset (w .bits) j → ⊥
+charset-held : (w : NegotiateFlags) (j : ℕ) → charsetHolds w ≡ Held → Fails5 (w .bits) j → ⊥
 charset-held w j h x = go (unicode w) (oem w) refl refl (held-true _ h) where
   go : (a b : Bool) → unicode w ≡ a → oem w ≡ b → (a || b) ≡ true → ⊥
   go true b p q e = x .1 (eqb-true _ 1 p)
@@ -78,7 +78,7 @@ key-is-right w key h x = go (eqb (length key) 0) (eqb (length key) 16) (keyExch 
 
 module _ (room : ℕ) (w : NegotiateFlags) (lm nt dom usr wks key : List ℕ) where
   abbrev F : ℕ → ℕ → Type 0
-  F = AuthenticateUnwritten room (w .bits) lm nt dom usr wks key
+  F = AuthenticateWritingFails room (w .bits) lm nt dom usr wks key
 
   abbrev rank : ℕ → ℕ
   rank = placeIn authenticateOrder
@@ -132,7 +132,7 @@ module _ (room : ℕ) (w : NegotiateFlags) (lm nt dom usr wks key : List ℕ) wh
 pub authenticate-written : AuthenticateIsWritten
 unfolding writeAnswer
 authenticate-written room w v mic lm nt dom usr wks key v8 m16 =
-    by-verdict authenticateOrder (AuthenticateUnwritten room (w .bits) lm nt dom usr wks key) (authenticate-rows room w lm nt dom usr wks key) 0 refl
+    by-verdict authenticateOrder (AuthenticateWritingFails room (w .bits) lm nt dom usr wks key) (authenticate-rows room w lm nt dom usr wks key) 0 refl
     (checkToWrite room w lm nt dom usr wks key) (authenticateBytes w v mic lm nt dom usr wks key) (authenticateSize lm nt dom usr wks key)
     (length-message lm nt dom usr wks key w v mic v8 m16 ∙ size-is room w lm nt dom usr wks key)
     (authenticate-judged room w lm nt dom usr wks key)
@@ -142,7 +142,7 @@ module _ (room : ℕ) (w : NegotiateFlags) (dom wks : List ℕ) where
   order = 5 ∷ 30 ∷ 33 ∷ []
 
   abbrev G : ℕ → ℕ → Type 0
-  G = NegotiateUnwritten room (w .bits) dom wks
+  G = NegotiateWritingFails room (w .bits) dom wks
 
   negotiate-size : negotiateToWrite dom wks ≡ negotiateSize dom wks
   negotiate-size = simp length-append
@@ -162,8 +162,8 @@ module _ (room : ℕ) (w : NegotiateFlags) (dom wks : List ℕ) where
 pub negotiate-written : NegotiateIsWritten
 unfolding negotiateAnswer
 negotiate-written room w v dom wks v8 =
-    by-verdict (5 ∷ 30 ∷ 33 ∷ []) (NegotiateUnwritten room (w .bits) dom wks)
-    (rows (5 ∷ 30 ∷ 33 ∷ []) (NegotiateUnwritten room (w .bits) dom wks) (λ n i z h. simp (z .0, z .1 .0, z .1 .1 .0) at h)) 0 refl
+    by-verdict (5 ∷ 30 ∷ 33 ∷ []) (NegotiateWritingFails room (w .bits) dom wks)
+    (rows (5 ∷ 30 ∷ 33 ∷ []) (NegotiateWritingFails room (w .bits) dom wks) (λ n i z h. simp (z .0, z .1 .0, z .1 .1 .0) at h)) 0 refl
     (checkNegotiate room w dom wks) (negotiateBytes w v dom wks) (negotiateSize dom wks)
     (length-negotiate dom wks w v v8 ∙ negotiate-size room w dom wks)
     (negotiate-judged room w dom wks)

@@ -23,7 +23,7 @@ use Rattle.nl_auth_writing.specs.Writing.{stringBytes, bytesUnder, requestBytes
 use Rattle.nl_auth_writing.proofs.Sent.{length-request, length-response}
 use Rattle.demands.specs.Order.{placeIn}
 use Rattle.demands.specs.NlAuth.{maskOf}
-use Rattle.demands.specs.WrittenExactly.{WrittenExactly, FlagSet, HoldsZero, sizeUnder, requestSize, RequestUnwritten, NlRequestIsWritten, Unwritten, NlResponseIsWritten}
+use Rattle.demands.specs.WrittenExactly.{WrittenExactly, FlagSet, HoldsZero, sizeUnder, requestSize, RequestWritingFails, NlRequestIsWritten, RoomFails, NlResponseIsWritten}
 use Rattle.demands.proofs.Bools.{true-not-false, failed-false, or-left, or-right, or-either, chained, bit1, bit2, bit4, bit8, bit16}
 use Rattle.demands.proofs.NlAuth.{before-nonzero, at-zero, five}
 use Rattle.demands.proofs.Rank.{FreeBy, JudgedBy, only-in, first-by, skip-by, then-by, over-judged-by}
@@ -60,7 +60,7 @@ module _ (room : ℕ) (flags : NlAuthFlags) (a b c d e : List ℕ) where
   bits = flags .bits
 
   abbrev F : ℕ → ℕ → Type 0
-  F = RequestUnwritten room bits a b c d e
+  F = RequestWritingFails room bits a b c d e
 
   -- the string of a bit, which is the same of the lowest five bits
   size-under : (m : ℕ) (x : List ℕ) → bits % 32 / m % 2 ≡ bits / m % 2 → length (bytesUnder (has (w .bits) m) x) ≡ sizeUnder bits m x
@@ -154,18 +154,18 @@ module _ (room : ℕ) (flags : NlAuthFlags) (a b c d e : List ℕ) where
 pub nl-request-written : NlRequestIsWritten
 unfolding requestAnswer
 nl-request-written room flags a b c d e =
-    by-verdict (14 ∷ 34 ∷ 30 ∷ 33 ∷ []) (RequestUnwritten room (flags .bits) a b c d e)
-    (rows (14 ∷ 34 ∷ 30 ∷ 33 ∷ []) (RequestUnwritten room (flags .bits) a b c d e) (λ n i z h. simp (z .0, z .1 .0, z .1 .1 .0, z .1 .1 .1 .0) at h)) 0 refl
+    by-verdict (14 ∷ 34 ∷ 30 ∷ 33 ∷ []) (RequestWritingFails room (flags .bits) a b c d e)
+    (rows (14 ∷ 34 ∷ 30 ∷ 33 ∷ []) (RequestWritingFails room (flags .bits) a b c d e) (λ n i z h. simp (z .0, z .1 .0, z .1 .1 .0, z .1 .1 .1 .0) at h)) 0 refl
     (checkRequest room (known flags) a b c d e) (requestBytes (known flags) a b c d e) (requestSize (flags .bits) a b c d e)
     (size-is room flags a b c d e) (request-judged room flags a b c d e)
 
 pub nl-response-written : NlResponseIsWritten
 unfolding responseAnswer
 nl-response-written room =
-    rw length-response (go (leb 9 room) (by-verdict (33 ∷ []) (Unwritten room 9) (only-room room 9) 0 refl
+    rw length-response (go (leb 9 room) (by-verdict (33 ∷ []) (RoomFails room 9) (only-room room 9) 0 refl
     (after (checked (leb 9 room)) (Not NoRoom) Clear) responseBytes 9 length-response (only-room-judged room 9)))
   where
-    go : (t : Bool) → WrittenExactly (answered (after (checked t) (Not NoRoom) Clear) responseBytes) (33 ∷ []) (Unwritten room 9) 9 →
-        WrittenExactly (after (checked t) (Refused NoRoom) (Length 9)) (33 ∷ []) (Unwritten room 9) 9
-    go true x = subst (λ (n : ℕ). WrittenExactly (Length n) (33 ∷ []) (Unwritten room 9) 9) length-response x
+    go : (t : Bool) → WrittenExactly (answered (after (checked t) (Not NoRoom) Clear) responseBytes) (33 ∷ []) (RoomFails room 9) 9 →
+        WrittenExactly (after (checked t) (Refused NoRoom) (Length 9)) (33 ∷ []) (RoomFails room 9) 9
+    go true x = subst (λ (n : ℕ). WrittenExactly (Length n) (33 ∷ []) (RoomFails room 9) 9) length-response x
     go false x = x

@@ -19,7 +19,7 @@ use Rattle.wire.proofs.Laws.{held-true}
 use Rattle.place.specs.declared.written.Written.the-variants.{Length, Refused}
 use Rattle.place.specs.Written.{sizeHolds, roomHolds, answered, bytesHold, bytesAnswer, bytesAfter}
 use Rattle.demands.specs.Order.{FirstIn, placeIn}
-use Rattle.demands.specs.WrittenExactly.{WrittenExactly, Unwritten, LineIsWritten, LineStands}
+use Rattle.demands.specs.WrittenExactly.{WrittenExactly, RoomFails, LineIsWritten, LineStands}
 use Rattle.demands.proofs.Bools.{failed-false, chained}
 use Rattle.demands.proofs.Rank.{FreeBy, JudgedBy, Outside, only-in, outside, only-first-by, first-by, next-check-by}
 
@@ -93,18 +93,18 @@ module _ (order : List ℕ) (F : ℕ → ℕ → Type 0) where
       (λ h. rest (next order F 30 33 then inside free (λ j w. omega (arith, e, from j w, leb-true m 65535 (held-true _ h)))))
 
 -- a table of 33 alone
-pub only-room : (room size : ℕ) → Rows (33 ∷ []) (Unwritten room size)
-only-room room size = rows (33 ∷ []) (Unwritten room size) (λ n i z h. simp (z .0) at h)
+pub only-room : (room size : ℕ) → Rows (33 ∷ []) (RoomFails room size)
+only-room room size = rows (33 ∷ []) (RoomFails room size) (λ n i z h. simp (z .0) at h)
 
-pub only-room-judged : (room size : ℕ) → JudgedBy (placeIn (33 ∷ [])) (Unwritten room size) 0 (after (roomHolds size room) (Not NoRoom) Clear)
+pub only-room-judged : (room size : ℕ) → JudgedBy (placeIn (33 ∷ [])) (RoomFails room size) 0 (after (roomHolds size room) (Not NoRoom) Clear)
 only-room-judged room size =
-    room-judged (33 ∷ []) (Unwritten room size) room size size refl (λ l. (refl, l)) (λ j w. w .1) refl (omega arith)
-    (free-at-first (33 ∷ []) (Unwritten room size) 33 refl)
+    room-judged (33 ∷ []) (RoomFails room size) room size size refl (λ l. (refl, l)) (λ j w. w .1) refl (omega arith)
+    (free-at-first (33 ∷ []) (RoomFails room size) 33 refl)
 
 pub line-written : LineIsWritten
 unfolding bytesAnswer
 line-written line out =
-    by-verdict (33 ∷ []) (Unwritten (length out) (length line)) (only-room (length out) (length line)) 0 refl
+    by-verdict (33 ∷ []) (RoomFails (length out) (length line)) (only-room (length out) (length line)) 0 refl
     (bytesHold line out) line (length line) refl (only-room-judged (length out) (length line))
 
 pub line-stands : LineStands

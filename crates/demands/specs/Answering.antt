@@ -26,7 +26,7 @@ use Rattle.demands.specs.Message.{challenge, Set, offsetOf}
 use Rattle.demands.specs.PairList.{sizeOf, FirstWith, PairThere}
 use Rattle.demands.specs.ReadBack.{AuthenticateBack}
 use Rattle.demands.specs.TakenExactly.{InfoBytes, ChallengeHolds, ChallengeFails}
-use Rattle.demands.specs.WrittenExactly.{authenticateSize, AuthenticateUnwritten, authenticateOrder}
+use Rattle.demands.specs.WrittenExactly.{authenticateSize, AuthenticateWritingFails, authenticateOrder}
 
 -- ---- the decision
 
@@ -96,7 +96,10 @@ Stamped settings b = (settings .ntlmv2 ≡ true) × PairThere b 7
 abbrev pub KeyCounts : List ℕ → Type 0
 KeyCounts s = Set challenge s 0x40000000 × (Set challenge s 0x10 ⊎ Set challenge s 0x20)
 
--- Time, and the fields and MIC that are not the caller's whatever the challenge is, with what the caller gives for them
+-- What of the answer goes by the challenge and the settings: Time, MIC, LM response, key and domain, with the clock and what the
+-- caller gives for each. "With NTLMv2 and a timestamp pair, Time is that value and the LM response written is 24 zero bytes;
+-- otherwise Time is the box's clock and the LM response is the caller's. A MIC is due exactly when a timestamp pair is there; if
+-- not due, sixteen zeros are written for it." A key that doesn't count is passed over, and field 6 is empty.
 pub record ToSend (settings : Settings) (s b : List ℕ) (clock : ℕ) (mic lm domain key : List ℕ) : Type 0 where
   pub time : ℕ
   pub mic-sent : List ℕ
@@ -140,7 +143,7 @@ RespondIsAnswered =
     (room : ℕ) (s b version mic lm nt domain user workstation key : List ℕ) (settings : Settings) (clock : ℕ) →
     length version ≡ 8 → length mic ≡ 16 → InfoBytes s b → (x : ToSend settings s b clock mic lm domain key) →
     AnsweredExactly (respondAnswer room s settings clock version mic lm nt domain user workstation key) settings s b
-    (AuthenticateUnwritten room (u32At s 20) (x .lm-sent) nt (x .domain-sent) user workstation (x .key-sent))
+    (AuthenticateWritingFails room (u32At s 20) (x .lm-sent) nt (x .domain-sent) user workstation (x .key-sent))
     (authenticateSize (x .lm-sent) nt (x .domain-sent) user workstation (x .key-sent)) (x .time)
 
 -- demand 2: "An AUTHENTICATE we write reads back with the same flags, six fields and MIC": an answer, with the challenge's flags and

@@ -82,6 +82,10 @@ pub record InfoBytes (s b : List ℕ) : Type 0 where
   pub there : Nonempty challenge s 2 → b ≡ take (lenOf challenge s 2) (drop (offsetOf challenge s 2) s)
   pub absent : (Nonempty challenge s 2 → ⊥) → b ≡ []
 
+-- every message has them
+abbrev pub InfoIsThere : Type 0
+InfoIsThere = (s : List ℕ) → (b : List ℕ) × InfoBytes s b
+
 -- no check of 1 to 8 fails at any field, and TargetInfo is a well-formed list
 pub record ChallengeHolds (s b : List ℕ) : Type 0 where
   pub fields : (n i : ℕ) → Fails challenge s n i → ⊥

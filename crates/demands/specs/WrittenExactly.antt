@@ -37,14 +37,14 @@ abbrev pub FlagSet : ℕ → ℕ → Type 0
 FlagSet bits mask = bits / mask % 2 ≡ 1
 
 -- rows 5, 30 and 33, of a message with these flags and of so many bytes, for an output of `room` bytes
-abbrev pub NoCharset : ℕ → ℕ → Type 0
-NoCharset bits i = (i ≡ 0) × (FlagSet bits 0x1 → ⊥) × (FlagSet bits 0x2 → ⊥)
+abbrev pub Fails5 : ℕ → ℕ → Type 0
+Fails5 bits i = (i ≡ 0) × (FlagSet bits 0x1 → ⊥) × (FlagSet bits 0x2 → ⊥)
 
-abbrev pub TooLongToWrite : ℕ → ℕ → Type 0
-TooLongToWrite size i = (i ≡ 0) × (65535 < size)
+abbrev pub Fails30 : ℕ → ℕ → Type 0
+Fails30 size i = (i ≡ 0) × (65535 < size)
 
-abbrev pub NoRoom : ℕ → ℕ → ℕ → Type 0
-NoRoom room size i = (i ≡ 0) × (room < size)
+abbrev pub Fails33 : ℕ → ℕ → ℕ → Type 0
+Fails33 room size i = (i ≡ 0) × (room < size)
 
 -- ---- AUTHENTICATE
 
@@ -58,13 +58,13 @@ abbrev pub nameOf : List ℕ → List ℕ → List ℕ → ℕ → List ℕ
 nameOf domain user workstation i = getD (domain ∷ user ∷ workstation ∷ []) (i - 3) []
 
 -- check n fails at field i
-abbrev pub AuthenticateUnwritten : ℕ → ℕ → List ℕ → List ℕ → List ℕ → List ℕ → List ℕ → List ℕ → ℕ → ℕ → Type 0
-AuthenticateUnwritten room bits lm nt domain user workstation key n i =
-    check 5 n (NoCharset bits i) (
+abbrev pub AuthenticateWritingFails : ℕ → ℕ → List ℕ → List ℕ → List ℕ → List ℕ → List ℕ → List ℕ → ℕ → ℕ → Type 0
+AuthenticateWritingFails room bits lm nt domain user workstation key n i =
+    check 5 n (Fails5 bits i) (
     check 31 n ((3 ≤ i) × (i ≤ 5) × FlagSet bits 0x1 × (length (nameOf domain user workstation i) % 2 ≡ 1)) (
     check 32 n ((i ≡ 6) × (0 < length key) × ((length key ≡ 16 → ⊥) ⊎ (FlagSet bits 0x40000000 → ⊥))) (
-    check 30 n (TooLongToWrite (authenticateSize lm nt domain user workstation key) i) (
-    check 33 n (NoRoom room (authenticateSize lm nt domain user workstation key) i)
+    check 30 n (Fails30 (authenticateSize lm nt domain user workstation key) i) (
+    check 33 n (Fails33 room (authenticateSize lm nt domain user workstation key) i)
     ⊥))))
 
 -- "Writing AUTHENTICATE: 5, 31, 32, 30, 33."
@@ -76,7 +76,7 @@ abbrev pub AuthenticateIsWritten : Type 0
 AuthenticateIsWritten =
     (room : ℕ) (flags : NegotiateFlags) (version mic lm nt domain user workstation key : List ℕ) → length version ≡ 8 → length mic ≡ 16 →
     WrittenExactly (writeAnswer room flags version mic lm nt domain user workstation key) authenticateOrder
-    (AuthenticateUnwritten room (flags .bits) lm nt domain user workstation key) (authenticateSize lm nt domain user workstation key)
+    (AuthenticateWritingFails room (flags .bits) lm nt domain user workstation key) (authenticateSize lm nt domain user workstation key)
 
 -- ---- NEGOTIATE
 
@@ -84,11 +84,11 @@ AuthenticateIsWritten =
 abbrev pub negotiateSize : List ℕ → List ℕ → ℕ
 negotiateSize domain workstation = 40 + (length domain + length workstation)
 
-abbrev pub NegotiateUnwritten : ℕ → ℕ → List ℕ → List ℕ → ℕ → ℕ → Type 0
-NegotiateUnwritten room bits domain workstation n i =
-    check 5 n (NoCharset bits i) (
-    check 30 n (TooLongToWrite (negotiateSize domain workstation) i) (
-    check 33 n (NoRoom room (negotiateSize domain workstation) i)
+abbrev pub NegotiateWritingFails : ℕ → ℕ → List ℕ → List ℕ → ℕ → ℕ → Type 0
+NegotiateWritingFails room bits domain workstation n i =
+    check 5 n (Fails5 bits i) (
+    check 30 n (Fails30 (negotiateSize domain workstation) i) (
+    check 33 n (Fails33 room (negotiateSize domain workstation) i)
     ⊥))
 
 -- by request 1/12
@@ -96,7 +96,7 @@ abbrev pub NegotiateIsWritten : Type 0
 NegotiateIsWritten =
     (room : ℕ) (flags : NegotiateFlags) (version domain workstation : List ℕ) → length version ≡ 8 →
     WrittenExactly (negotiateAnswer room flags version domain workstation) (5 ∷ 30 ∷ 33 ∷ [])
-    (NegotiateUnwritten room (flags .bits) domain workstation) (negotiateSize domain workstation)
+    (NegotiateWritingFails room (flags .bits) domain workstation) (negotiateSize domain workstation)
 
 -- ---- NL_AUTH
 
@@ -115,12 +115,12 @@ stringOf a b c d e i = getD (a ∷ b ∷ c ∷ d ∷ e ∷ []) (i - 1) []
 abbrev pub HoldsZero : List ℕ → Type 0
 HoldsZero x = (p : ℕ) × (p < length x) × (getD x p 0 ≡ 0)
 
-abbrev pub RequestUnwritten : ℕ → ℕ → List ℕ → List ℕ → List ℕ → List ℕ → List ℕ → ℕ → ℕ → Type 0
-RequestUnwritten room bits a b c d e n i =
+abbrev pub RequestWritingFails : ℕ → ℕ → List ℕ → List ℕ → List ℕ → List ℕ → List ℕ → ℕ → ℕ → Type 0
+RequestWritingFails room bits a b c d e n i =
     check 14 n ((i ≡ 0) × ((k : ℕ) → 1 ≤ k → k ≤ 5 → FlagSet bits (maskOf k) → ⊥)) (
     check 34 n ((1 ≤ i) × (i ≤ 5) × FlagSet bits (maskOf i) × HoldsZero (stringOf a b c d e i)) (
-    check 30 n (TooLongToWrite (requestSize bits a b c d e) i) (
-    check 33 n (NoRoom room (requestSize bits a b c d e) i)
+    check 30 n (Fails30 (requestSize bits a b c d e) i) (
+    check 33 n (Fails33 room (requestSize bits a b c d e) i)
     ⊥)))
 
 -- "Writing an NL_AUTH request: 14, 34, 30, 33; a response: 33." Only bits A to E of the flags have a part in it.
@@ -128,20 +128,20 @@ abbrev pub NlRequestIsWritten : Type 0
 NlRequestIsWritten =
     (room : ℕ) (flags : NlAuthFlags) (a b c d e : List ℕ) →
     WrittenExactly (requestAnswer room (known flags) a b c d e) (14 ∷ 34 ∷ 30 ∷ 33 ∷ [])
-    (RequestUnwritten room (flags .bits) a b c d e) (requestSize (flags .bits) a b c d e)
+    (RequestWritingFails room (flags .bits) a b c d e) (requestSize (flags .bits) a b c d e)
 
 -- a writing whose one check is 33
-abbrev pub Unwritten : ℕ → ℕ → ℕ → ℕ → Type 0
-Unwritten room size n i = check 33 n (NoRoom room size i) ⊥
+abbrev pub RoomFails : ℕ → ℕ → ℕ → ℕ → Type 0
+RoomFails room size n i = check 33 n (Fails33 room size i) ⊥
 
 abbrev pub NlResponseIsWritten : Type 0
-NlResponseIsWritten = (room : ℕ) → WrittenExactly (responseAnswer room) (33 ∷ []) (Unwritten room 9) 9
+NlResponseIsWritten = (room : ℕ) → WrittenExactly (responseAnswer room) (33 ∷ []) (RoomFails room 9) 9
 
 -- ---- lines, and the copy of a part
 
 -- "A log line that has no room is 33."
 abbrev pub LineIsWritten : Type 0
-LineIsWritten = (line out : List ℕ) → WrittenExactly (bytesAnswer line out) (33 ∷ []) (Unwritten (length out) (length line)) (length line)
+LineIsWritten = (line out : List ℕ) → WrittenExactly (bytesAnswer line out) (33 ∷ []) (RoomFails (length out) (length line)) (length line)
 
 -- where it has room, the output then begins with it
 abbrev pub LineStands : Type 0
