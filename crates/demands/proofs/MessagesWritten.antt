@@ -18,7 +18,8 @@ use Rattle.authenticate_writing.proofs.Sent.{length-payload, length-message}
 use Rattle.negotiate_writing.specs.Writing.{negotiateBytes, sizeToWrite as negotiateToWrite, checkToWrite as checkNegotiate, writeAnswer as negotiateAnswer}
 use Rattle.negotiate_writing.proofs.Sent.{length-message as length-negotiate}
 use Rattle.demands.specs.Order.{placeIn}
-use Rattle.demands.specs.WrittenExactly.{FlagSet, Fails5, authenticateSize, AuthenticateWritingFails, authenticateOrder, AuthenticateIsWritten, negotiateSize, NegotiateWritingFails, NegotiateIsWritten}
+use Rattle.demands.specs.Message.{FlagSet}
+use Rattle.demands.specs.WrittenExactly.{Fails5, authenticateSize, AuthenticateWritingFails, authenticateOrder, AuthenticateIsWritten, negotiateSize, NegotiateWritingFails, NegotiateIsWritten}
 use Rattle.demands.proofs.Bools.{true-not-false, failed-false, chained}
 use Rattle.demands.proofs.Rank.{FreeBy, JudgedBy, only-in, first-by, skip-by, then-by, over-judged-by}
 use Rattle.demands.proofs.WrittenExactly.{Rows, rows, free-at-first, next, room-judged, size-judged, by-verdict}

@@ -23,7 +23,8 @@ use Rattle.nl_auth_writing.specs.Writing.{stringBytes, bytesUnder, requestBytes
 use Rattle.nl_auth_writing.proofs.Sent.{length-request, length-response}
 use Rattle.demands.specs.Order.{placeIn}
 use Rattle.demands.specs.NlAuth.{maskOf}
-use Rattle.demands.specs.WrittenExactly.{WrittenExactly, FlagSet, HoldsZero, sizeUnder, requestSize, RequestWritingFails, NlRequestIsWritten, RoomFails, NlResponseIsWritten}
+use Rattle.demands.specs.Message.{FlagSet}
+use Rattle.demands.specs.WrittenExactly.{WrittenExactly, HoldsZero, sizeUnder, requestSize, RequestWritingFails, NlRequestIsWritten, RoomFails, NlResponseIsWritten}
 use Rattle.demands.proofs.Bools.{true-not-false, failed-false, or-left, or-right, or-either, chained, bit1, bit2, bit4, bit8, bit16}
 use Rattle.demands.proofs.NlAuth.{before-nonzero, at-zero, five}
 use Rattle.demands.proofs.Rank.{FreeBy, JudgedBy, only-in, first-by, skip-by, then-by, over-judged-by}

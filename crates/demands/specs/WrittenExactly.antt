@@ -19,6 +19,7 @@ use Rattle.nl_auth_flags.specs.declared.NlAuthFlags.{NlAuthFlags}
 use Rattle.nl_auth_flags.specs.Flags.{known}
 use Rattle.nl_auth_writing.specs.Writing.{requestAnswer, responseAnswer}
 use Rattle.demands.specs.Order.{FirstIn, check}
+use Rattle.demands.specs.Message.{FlagSet}
 use Rattle.demands.specs.NlAuth.{maskOf}
 
 abbrev pub WritingRefusedWith : Written → ℕ → ℕ → Type 0
@@ -31,10 +32,6 @@ pub record WrittenExactly (answer : Written) (order : List ℕ) (F : ℕ → ℕ
   pub refused : (n i : ℕ) → WritingRefusedWith answer n i ↔ FirstIn order F n i
   -- and answered with a length if and only if no check fails and that is the number of bytes
   pub written : (n : ℕ) → (answer ≡ Length n) ↔ (((m j : ℕ) → F m j → ⊥) × (n ≡ size))
-
--- a flag is set, by its mask
-abbrev pub FlagSet : ℕ → ℕ → Type 0
-FlagSet bits mask = bits / mask % 2 ≡ 1
 
 -- rows 5, 30 and 33, of a message with these flags and of so many bytes, for an output of `room` bytes
 abbrev pub Fails5 : ℕ → ℕ → Type 0
