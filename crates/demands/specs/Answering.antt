@@ -39,13 +39,13 @@ abbrev pub Fails21 : Settings → List ℕ → Type 0
 Fails21 settings b =
     (settings .ntlmv2 ≡ true) × ((settings .integrity ≡ true) ⊎ (settings .confidentiality ≡ true)) × (PairThere b 1 × PairThere b 2 → ⊥)
 
--- no check fails
+-- no check of the reading fails, nor 20, nor 21
 pub record Agreed (settings : Settings) (s b : List ℕ) : Type 0 where
   pub reading : ChallengeHolds s b
   pub holds20 : Fails20 settings s → ⊥
   pub holds21 : Fails21 settings b → ⊥
 
--- the first that fails has number n and field i
+-- the first of these that fails has number n and field i
 pub data Declined (settings : Settings) (s b : List ℕ) (n i : ℕ) : Type 0 where
   by-reading : ChallengeFails s b n i → Declined settings s b n i
   by-20 : n ≡ 20 → i ≡ 0 → ChallengeHolds s b → Fails20 settings s → Declined settings s b n i
