@@ -52,7 +52,7 @@ as-answer r time due before after k =
       rest = λ x h. k .rest (x .len) (sent-written r time due x h);
     }
 
-mic-long : (t : Timestamp) (mic : List ℕ) → length mic ≡ 16 → length (micToSend t mic) ≡ 16
+pub mic-long : (t : Timestamp) (mic : List ℕ) → length mic ≡ 16 → length (micToSend t mic) ≡ 16
 unfolding micToSend
 mic-long t mic h = go (micDue t) where
   go : (b : Bool) → length (cond b mic (replicate 16 0)) ≡ 16

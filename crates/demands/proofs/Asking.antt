@@ -1,23 +1,20 @@
--- Asking at a place, and the checks on the whole list.
+-- Asking at a place.
 use Prim.Native.Nat.{ℕ, zero, suc, _<_}
 use mathlib.Core.Path.{_≡_, refl, sym, ap, _∙_, subst}
 use mathlib.Core.Logic.{_⊎_, inl, inr, ⊎-elim, _↔_}
 use mathlib.Core.List.{List}
 use native.Mathlib.Omega.{arith}
 use lib.ListN.{length}
-use Rattle.wire.specs.declared.check.Verdict.{Verdict}
-use Rattle.wire.specs.declared.check.Verdict.the-variants.{Clear, Refused as Not}
 use Rattle.wire.specs.Refusal.{numberOf, fieldOf}
 use Rattle.av_pairs.specs.declared.AvPair.{AvPair}
 use Rattle.av_pairs.specs.declared.Step.{Step}
 use Rattle.av_pairs.specs.declared.Step.the-variants.{Pair, End, Refused}
-use Rattle.av_pairs.specs.AvPairs.{stepAt, endOf, onStep, askAt, checkPairs}
-use Rattle.demands.specs.Asking.{AskedAt, AskingGives, VerdictRefused, ChecksHold, ChecksRefuse}
+use Rattle.av_pairs.specs.AvPairs.{stepAt, endOf, onStep, askAt}
+use Rattle.demands.specs.Asking.{AskedAt, AskingGives}
 use Rattle.demands.specs.InTurn.{PairIs}
-use Rattle.demands.specs.PairList.{PairAt, EndAt, FaultAt, Holds, FirstFault, here}
-use Rattle.demands.proofs.Challenge.{JudgedP, pairs-judged}
+use Rattle.demands.specs.PairList.{PairAt, EndAt, FaultAt, here}
 use Rattle.demands.proofs.InTurn.{own, one-pair}
-use Rattle.demands.proofs.PairList.{JudgedS, step-judged, empty-step, pair-or-end, pair-or-fault, end-or-fault, one-first, holds-or-fault}
+use Rattle.demands.proofs.PairList.{JudgedS, step-judged, empty-step, pair-or-end, pair-or-fault, end-or-fault, one-first}
 
 -- what stands at a place, by the step
 abbrev At : List ℕ → ℕ → Step → Type 0
@@ -89,18 +86,3 @@ asked s at (Refused x) j =
 pub asking-gives : AskingGives
 unfolding askAt
 asking-gives s at = asked s at (stepAt s at) (step-is s at)
-
-pub checks-hold : ChecksHold
-checks-hold s = (λ e. subst (JudgedP s) e (pairs-judged s), λ h. go (checkPairs s) (pairs-judged s) h) where
-  go : (v : Verdict) → JudgedP s v → ((n : ℕ) × Holds s n) → v ≡ Clear
-  go Clear j h = refl
-  go (Not e) j h = absurd (holds-or-fault s (h .0) (numberOf e) (h .1) (j .0) (j .2))
-
-pub checks-refuse : ChecksRefuse
-checks-refuse s n i = go (checkPairs s) (pairs-judged s) where
-  go : (v : Verdict) → JudgedP s v → VerdictRefused v n i ↔ ((0 < length s) × (i ≡ 2) × FirstFault s n 0)
-  go Clear j = (λ t. absurd t, λ h. holds-or-fault s (j .0) n (j .1) (h .0) (h .2))
-  go (Not e) j = (
-    λ t. (j .0, sym (t .1) ∙ j .1, subst (λ (m : ℕ). FirstFault s m 0) (t .0) (j .2)),
-    λ h. (one-first s (j .2) (h .2), j .1 ∙ sym (h .1)),
-  )

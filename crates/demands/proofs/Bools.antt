@@ -33,6 +33,11 @@ pub or-either : (a b : Bool) → (a || b) ≡ true → (a ≡ true) ⊎ (b ≡ t
 or-either true b h = inl refl
 or-either false b h = inr h
 
+-- a chain of checks, a check at a time
+pub chained : {A : Type 0} (P : A → Type 0) (c : Checked) (e x : A) → (c ≡ Failed → P e) → (c ≡ Held → P x) → P (after c e x)
+chained P Held e x f h = h refl
+chained P Failed e x f h = f refl
+
 -- a chain that came to its end: its first check held
 pub after-held : (c : Checked) (e : Refusal) (x : Verdict) → after c (Not e) x ≡ Clear → (c ≡ Held) × (x ≡ Clear)
 after-held Held e x h = (refl, h)

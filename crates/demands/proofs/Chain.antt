@@ -3,7 +3,7 @@ use Prim.Native.Nat.{ℕ, _+_, _≤_, _<_}
 use mathlib.Core.Path.{_≡_, refl, sym, ap, _∙_, subst}
 use mathlib.Core.Logic.{inl, ⊎-elim}
 use mathlib.Core.Bool.{Bool, true, false, _||_}
-use mathlib.Core.List.{List, [], _∷_}
+use mathlib.Core.List.{List}
 use native.Mathlib.Nat.{zero-add}
 use native.Mathlib.Omega.{arith}
 use lib.Dec.{ltb, eqb}
@@ -13,14 +13,14 @@ use borrow.Author.Tests.{leb-true, leb-false, eqb-true, eqb-false, ne-eqb, ltb-t
 use Rattle.wire.specs.declared.check.Checked.{Checked}
 use Rattle.wire.specs.declared.check.Checked.the-variants.{Held, Failed}
 use Rattle.wire.specs.declared.check.Verdict.{Verdict}
-use Rattle.wire.specs.declared.check.Verdict.the-variants.{Clear, Refused as Not}
+use Rattle.wire.specs.declared.check.Verdict.the-variants.{Refused as Not}
 use Rattle.wire.proofs.Laws.{held-true}
 use Rattle.field.specs.declared.Field.{Field}
 use Rattle.head.specs.declared.Head.{Head}
 use Rattle.head.specs.declared.Head.the-variants.{Flags, Refused as Stopped}
 use Rattle.head.specs.declared.Layout.{Layout}
 use Rattle.wire.specs.declared.refusal.Refusal.{Refusal}
-use Rattle.wire.specs.Check.{after, overAll, onClear}
+use Rattle.wire.specs.Check.{overAll, onClear}
 use Rattle.negotiate_flags.specs.Flags.{unicode, oem, charsetHolds}
 use Rattle.head.specs.Head.{signature, signatureHolds, flagsAt, readHead}
 use Rattle.wire.specs.Number.{u32At, standsAt}
@@ -28,41 +28,26 @@ use Rattle.wire.specs.Refusal.{numberOf, fieldOf}
 use Rattle.head.proofs.Stands.{stands, stand}
 use Rattle.demands.specs.Order.{First}
 use Rattle.demands.specs.Message.{Format, Fails}
-use Rattle.demands.proofs.Order.{Free, first, next-field, next-check}
-use Rattle.demands.proofs.Bools.{true-not-false, both-ways, failed-false}
+use Rattle.demands.proofs.Order.{Free, first, next-check}
+use Rattle.demands.proofs.Bools.{true-not-false, both-ways, failed-false, chained}
+use Rattle.demands.proofs.Rank.{JudgedBy, then-by, LinksBy, over-judged-by}
 
 abbrev pub layoutOf : Format → Layout
 layoutOf k = record { fixed = k .fixed; «message_type» = k .number; flags = k .flags }
 
--- a chain of checks, a check at a time
-pub chained : {A : Type 0} (P : A → Type 0) (c : Checked) (e x : A) → (c ≡ Failed → P e) → (c ≡ Held → P x) → P (after c e x)
-chained P Held e x f h = h refl
-chained P Failed e x f h = f refl
-
 -- what a verdict says: nothing fails up to the next check, or its refusal is the first failure
 abbrev pub JudgedV : Format → List ℕ → ℕ → Verdict → Type 0
-JudgedV k s next Clear = Free (Fails k s) next 0
-JudgedV k s next (Not e) = First (Fails k s) (numberOf e) (fieldOf e)
+JudgedV k s = JudgedBy (λ n. n) (Fails k s)
 
 -- a check over numbered fields, against the table's row n, from field i on
 abbrev pub Links : Format → List ℕ → ℕ → (Field → Checked) → ℕ → List (ℕ × Field) → Type 0
-Links k s n ok i [] = Unit
-Links k s n ok i (f ∷ fs) =
-    (f .0 ≡ i) × (ok (f .1) ≡ Failed → Fails k s n i) × (ok (f .1) ≡ Held → Fails k s n i → ⊥) × Links k s n ok (i + 1) fs
+Links k s = LinksBy (Fails k s)
 
 pub over-judged : (k : Format) (s : List ℕ) (n next : ℕ) (ok : Field → Checked) (e : ℕ → Refusal) → next ≡ n + 1 →
     ((j : ℕ) → (numberOf (e j) ≡ n) × (fieldOf (e j) ≡ j)) →
     (fs : List (ℕ × Field)) (i : ℕ) → Links k s n ok i fs → Free (Fails k s) n i →
     ((j : ℕ) → i + length fs ≤ j → Fails k s n j → ⊥) → JudgedV k s next (overAll ok e fs)
-over-judged k s n next ok e is-next named [] i links free rest =
-    next-check (Fails k s) n i next is-next free (λ j l. rest j (omega arith))
-over-judged k s n next ok e is-next named (f ∷ fs) i links free rest =
-    chained (JudgedV k s next) (ok (f .1)) (Not (e (f .0))) (overAll ok e fs)
-    (λ failed. rw (named (f .0) .0, named (f .0) .1, links .0) (first (Fails k s) n i free (links .1 failed)))
-    (λ held.
-    over-judged k s n next ok e is-next named fs (i + 1) (links .3)
-    (next-field (Fails k s) n i (i + 1) refl free (links .2 held))
-    (λ j l. rest j (omega arith)))
+over-judged k s n next ok e is-next = over-judged-by (λ m. m) (Fails k s) n next ok e is-next (λ m q. q)
 
 module _ (k : Format) (s : List ℕ) where
   -- checks 1 to 5
@@ -132,8 +117,7 @@ module _ (k : Format) (s : List ℕ) where
 
   -- a group of checks, and what follows it
   pub then : (m next : ℕ) (v x : Verdict) → JudgedV k s m v → (Free (Fails k s) m 0 → JudgedV k s next x) → JudgedV k s next (onClear Not v x)
-  then m next Clear x j f = f j
-  then m next (Not e) x j f = j
+  then = then-by (λ n. n) (Fails k s)
 
   -- the table ends at 9
   pub beyond : Free (Fails k s) 10 0 → (n i : ℕ) → Fails k s n i → ⊥

@@ -1,11 +1,11 @@
 -- CHALLENGE is taken exactly when every check holds, and refused by the first that fails.
-use Prim.Native.Nat.{ℕ, _<_}
+use Prim.Native.Nat.{ℕ}
 use mathlib.Core.Path.{_≡_, refl, sym, _∙_, subst}
-use mathlib.Core.Logic.{_⊎_, inl, inr, ⊎-elim, _↔_}
+use mathlib.Core.Logic.{_↔_}
 use mathlib.Core.Bool.{Bool, true, false}
-use mathlib.Core.List.{List}
+use mathlib.Core.List.{List, []}
 use native.Mathlib.Omega.{arith}
-use lib.ListN.{length}
+use lib.ListN.{length, take, drop}
 use borrow.Author.Tests.{eqb-true, eqb-false, eq-eqb}
 use Rattle.wire.specs.declared.check.Verdict.{Verdict}
 use Rattle.wire.specs.declared.check.Verdict.the-variants.{Clear, Refused as Not}
@@ -26,9 +26,9 @@ use Rattle.challenge.specs.declared.Reading.{Reading}
 use Rattle.challenge.specs.declared.Reading.the-variants.{Taken, Refused}
 use Rattle.challenge.specs.Challenge.{layout, fieldsAt, allFields, names, checkEnds, checkBegins, checkNames, checkFields, fieldsOf, onTaken, infoOf, readingOf, readChallenge}
 use Rattle.demands.specs.Order.{First}
-use Rattle.demands.specs.Message.{challenge, Fails}
-use Rattle.demands.specs.PairList.{Holds, FirstFault}
-use Rattle.demands.specs.TakenExactly.{IsTakenChallenge, ChallengeRefusedWith, InfoBytes, ChallengeIsTaken, ChallengeIsRefused}
+use Rattle.demands.specs.Message.{challenge, Fails, lenOf, offsetOf}
+use Rattle.demands.specs.PairList.{Holds, ListFails}
+use Rattle.demands.specs.TakenExactly.{IsTakenChallenge, ChallengeRefusedWith, InfoBytes, InfoIsThere, ChallengeHolds, ChallengeFails, in-fields, in-list, ChallengeIsTaken, ChallengeIsRefused}
 use Rattle.demands.proofs.Order.{Free, only-first, next-check, skip}
 use Rattle.demands.proofs.Message.{Stands, even-failed, even-held}
 use Rattle.demands.proofs.Fields.{AllStand, Link, ends-judged, begins-judged}
@@ -107,10 +107,18 @@ module _ (s : List ℕ) where
       by true p = own-field challenge s 2 f w (none 6 2) .none (w .empty p) .2 ∙ sym (info .absent (w .empty p))
       by false p = own-field challenge s 2 f w (none 6 2) .bytes (w .full p) ∙ sym (info .there (w .full p))
 
+pub info-there : InfoIsThere
+info-there s = go (two s (Stands challenge s) (λ i f w. w) .1) where
+  go : Stands challenge s 2 (fieldsAt s (flagsAt s 20) .«target_info») → (b : List ℕ) × InfoBytes s b
+  go w = by (isEmpty (fieldsAt s (flagsAt s 20) .«target_info»)) refl where
+    by : (e : Bool) → isEmpty (fieldsAt s (flagsAt s 20) .«target_info») ≡ e → (b : List ℕ) × InfoBytes s b
+    by true p = ([], record { there = λ ne. absurd (w .empty p ne); absent = λ none. refl })
+    by false p = (take (lenOf challenge s 2) (drop (offsetOf challenge s 2) s), record { there = λ ne. refl; absent = λ none. absurd (none (w .full p)) })
+
 -- checks 10 to 13 over a list
 abbrev pub JudgedP : List ℕ → Verdict → Type 0
 JudgedP b Clear = (n : ℕ) × Holds b n
-JudgedP b (Not e) = (0 < length b) × (fieldOf e ≡ 2) × FirstFault b (numberOf e) 0
+JudgedP b (Not e) = ListFails b (numberOf e) (fieldOf e)
 
 pub pairs-judged : (b : List ℕ) → JudgedP b (checkPairs b)
 unfolding countPairs
@@ -120,53 +128,44 @@ pairs-judged b = go (checkPairs b) (count-judged b) where
   go (Not e) j = j
 
 module _ (s b : List ℕ) (info : InfoBytes s b) where
-  abbrev Judged : Reading → Type 0
-  Judged (Taken c) = ((n i : ℕ) → Fails challenge s n i → ⊥) × ((n : ℕ) × Holds b n)
-  Judged (Refused e) =
-      First (Fails challenge s) (numberOf e) (fieldOf e)
-      ⊎ (((n i : ℕ) → Fails challenge s n i → ⊥) × (0 < length b) × (fieldOf e ≡ 2) × FirstFault b (numberOf e) 0)
+  abbrev pub Judged : Reading → Type 0
+  Judged (Taken c) = ChallengeHolds s b
+  Judged (Refused e) = ChallengeFails s b (numberOf e) (fieldOf e)
 
-  judged : Judged (readChallenge s .reading)
+  pub judged : Judged (readChallenge s .reading)
   unfolding readChallenge readingOf
   judged = go (fieldsOf s) (fields-of-judged s) where
     last : (c : Challenge) (v : Verdict) → ((n i : ℕ) → Fails challenge s n i → ⊥) → JudgedP b v → Judged (onClear Refused v (Taken c))
-    last c Clear none j = (none, j)
-    last c (Not e) none j = inr (none, j .0, j .1, j .2)
+    last c Clear none j = record { fields = none; count = j .0; list = j .1 }
+    last c (Not e) none j = in-list none j
 
     go : (r : Reading) → JudgedF s r → Judged (onTaken Refused r (λ c. onClear Refused (checkPairs (infoOf s c)) (Taken c)))
     go (Taken c) j =
         rw (j .1, info-is s b info (j .0)) (last (record { flags = flagsAt s 20; fields = fieldsAt s (flagsAt s 20) }) (checkPairs b) (j .0) (pairs-judged b))
-    go (Refused e) j = inl j
+    go (Refused e) j = in-fields j
+
+-- not both; and there is one reason only
+pub holds-or-fails : (s b : List ℕ) (n i : ℕ) → ChallengeHolds s b → ChallengeFails s b n i → ⊥
+holds-or-fails s b n i h (in-fields f) = h .fields n i (f .fails)
+holds-or-fails s b n i h (in-list none f) = holds-or-fault b (h .count) n (h .list) (f .0) (f .2)
+
+pub one-reason : (s b : List ℕ) (m j n i : ℕ) → ChallengeFails s b m j → ChallengeFails s b n i → (m ≡ n) × (j ≡ i)
+one-reason s b m j n i (in-fields f) (in-fields g) = only-first (Fails challenge s) m j n i f g
+one-reason s b m j n i (in-fields f) (in-list none g) = absurd (none m j (f .fails))
+one-reason s b m j n i (in-list none f) (in-fields g) = absurd (none n i (g .fails))
+one-reason s b m j n i (in-list x f) (in-list y g) = (one-first b (f .2) (g .2), f .1 ∙ sym (g .1))
 
 pub challenge-taken : ChallengeIsTaken
 challenge-taken s b info = go (readChallenge s .reading) (judged s b info) where
-  go : (r : Reading) → Judged s b info r → IsTakenChallenge r ↔ (((n i : ℕ) → Fails challenge s n i → ⊥) × ((n : ℕ) × Holds b n))
+  go : (r : Reading) → Judged s b info r → IsTakenChallenge r ↔ ChallengeHolds s b
   go (Taken c) j = (λ t. j, λ h. tt)
-  go (Refused e) j = (
-    λ t. absurd t,
-    λ h. ⊎-elim (λ f. h .0 (numberOf e) (fieldOf e) (f .fails)) (λ f. holds-or-fault b (h .1 .0) (numberOf e) (h .1 .1) (f .1) (f .3)) j,
-  )
-
--- why a message is refused with number m and field j; there is one such reason only
-abbrev Why : List ℕ → List ℕ → ℕ → ℕ → Type 0
-Why s b m j =
-    First (Fails challenge s) m j
-    ⊎ (((x y : ℕ) → Fails challenge s x y → ⊥) × (0 < length b) × (j ≡ 2) × FirstFault b m 0)
-
-one-reason : (s b : List ℕ) (m j n i : ℕ) → Why s b m j → Why s b n i → (m ≡ n) × (j ≡ i)
-one-reason s b m j n i (inl f) (inl g) = only-first (Fails challenge s) m j n i f g
-one-reason s b m j n i (inl f) (inr g) = absurd (g .0 m j (f .fails))
-one-reason s b m j n i (inr f) (inl g) = absurd (f .0 n i (g .fails))
-one-reason s b m j n i (inr f) (inr g) = (one-first b (f .3) (g .3), f .2 ∙ sym (g .2))
+  go (Refused e) j = (λ t. absurd t, λ h. holds-or-fails s b (numberOf e) (fieldOf e) h j)
 
 pub challenge-refused : ChallengeIsRefused
 challenge-refused s b info n i = go (readChallenge s .reading) (judged s b info) where
-  go : (r : Reading) → Judged s b info r → ChallengeRefusedWith r n i ↔ Why s b n i
-  go (Taken c) j = (
-    λ t. absurd t,
-    λ w. ⊎-elim (λ f. j .0 n i (f .fails)) (λ f. holds-or-fault b (j .1 .0) n (j .1 .1) (f .1) (f .3)) w,
-  )
+  go : (r : Reading) → Judged s b info r → ChallengeRefusedWith r n i ↔ ChallengeFails s b n i
+  go (Taken c) j = (λ t. absurd t, λ w. holds-or-fails s b n i j w)
   go (Refused e) j = (
-    λ t. subst (λ (x : ℕ). Why s b n x) (t .1) (subst (λ (x : ℕ). Why s b x (fieldOf e)) (t .0) j),
+    λ t. subst (λ (x : ℕ). ChallengeFails s b n x) (t .1) (subst (λ (x : ℕ). ChallengeFails s b x (fieldOf e)) (t .0) j),
     λ w. one-reason s b (numberOf e) (fieldOf e) n i j w,
   )

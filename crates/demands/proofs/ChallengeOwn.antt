@@ -28,7 +28,7 @@ use Rattle.challenge.specs.declared.Timestamp.the-variants.{Time, Nothing as No
 use Rattle.challenge.specs.declared.TimestampReading.the-variants.{Taken as TimeTaken, Refused as TimeRefused}
 use Rattle.challenge.specs.Challenge.{fieldsAt, fieldsOf, onTaken, infoOf, readingOf, serverChallenge, readChallenge, timeOf, timestampIn, timestampOf, serverNamesIn, serverNamesOf}
 use Rattle.demands.specs.Message.{challenge, Fails}
-use Rattle.demands.specs.PairList.{FirstWith}
+use Rattle.demands.specs.PairList.{FirstWith, PairThere}
 use Rattle.demands.specs.OwnBytes.{OwnField, ChallengeOwn, ChallengeRefusedZeros, TimestampOwn, NoTimestampThere, ServerNamesOwn}
 use Rattle.demands.specs.TakenExactly.{InfoBytes}
 use Rattle.demands.proofs.OwnBytes.{own-field}
@@ -69,15 +69,15 @@ unfolding readChallenge
 challenge-refused-zeros s e h = ap (λ (r : Reading). serverChallenge r s) h
 
 -- TargetInfo's bytes of a taken message
-info-of : (s b : List ℕ) (c : Challenge) → InfoBytes s b → readingOf s ≡ Taken c → infoOf s c ≡ b
+pub info-of : (s b : List ℕ) (c : Challenge) → InfoBytes s b → readingOf s ≡ Taken c → infoOf s c ≡ b
 unfolding readChallenge
 info-of s b c info h = let t = taken-as s c h in rw (t .answer) (info-is s b info (t .none))
 
-asks : (k : ℕ) (a : AvId) → (eqb (a .id) k ≡ true) ↔ (a .id ≡ k)
+pub asks : (k : ℕ) (a : AvId) → (eqb (a .id) k ≡ true) ↔ (a .id ≡ k)
 asks k a = (eqb-true (a .id) k, eq-eqb (a .id) k)
 
 -- the timestamp in a list
-time-judged : (b : List ℕ) (t : ℕ) → timestampIn b ≡ Time t → (place : ℕ) × FirstWith b 7 place 0 × (t ≡ u64At b (place + 4))
+pub time-judged : (b : List ℕ) (t : ℕ) → timestampIn b ≡ Time t → (place : ℕ) × FirstWith b 7 place 0 × (t ≡ u64At b (place + 4))
 unfolding timestampIn
 time-judged b t h = go (firstBy isTimestamp (pairsOf b)) (first-in-list b 7 isTimestamp (asks 7)) h where
   go : (x : Found) → JudgedW b 7 isTimestamp (asks 7) 0 x → timeOf b x ≡ Time t → (place : ℕ) × FirstWith b 7 place 0 × (t ≡ u64At b (place + 4))
@@ -86,7 +86,7 @@ time-judged b t h = go (firstBy isTimestamp (pairsOf b)) (first-in-list b 7 isTi
     same e = cc
   go Nothing j e = absurd (let z : _≡_ {A = ℕ} 0 1 = cc in omega arith)
 
-no-time-judged : (b : List ℕ) → timestampIn b ≡ NoTime → (place : ℕ) → FirstWith b 7 place 0 → ⊥
+pub no-time-judged : (b : List ℕ) → timestampIn b ≡ NoTime → (place : ℕ) → FirstWith b 7 place 0 → ⊥
 unfolding timestampIn
 no-time-judged b h = go (firstBy isTimestamp (pairsOf b)) (first-in-list b 7 isTimestamp (asks 7)) h where
   go : (x : Found) → JudgedW b 7 isTimestamp (asks 7) 0 x → timeOf b x ≡ NoTime → (place : ℕ) → FirstWith b 7 place 0 → ⊥
@@ -110,10 +110,10 @@ timestamp-own s b info t h = time-judged b t (time-taken s b (Time t) info h)
 pub no-timestamp-there : NoTimestampThere
 no-timestamp-there s b info h = no-time-judged b (time-taken s b NoTime info h)
 
-there-is : (b : List ℕ) (k : ℕ) (is : AvId → Bool) (q : (a : AvId) → (is a ≡ true) ↔ (a .id ≡ k)) →
-    (isThere (firstBy is (pairsOf b)) ≡ true) ↔ ((place : ℕ) × FirstWith b k place 0)
+pub there-is : (b : List ℕ) (k : ℕ) (is : AvId → Bool) (q : (a : AvId) → (is a ≡ true) ↔ (a .id ≡ k)) →
+    (isThere (firstBy is (pairsOf b)) ≡ true) ↔ PairThere b k
 there-is b k is q = go (firstBy is (pairsOf b)) (first-in-list b k is q) where
-  go : (x : Found) → JudgedW b k is q 0 x → (isThere x ≡ true) ↔ ((place : ℕ) × FirstWith b k place 0)
+  go : (x : Found) → JudgedW b k is q 0 x → (isThere x ≡ true) ↔ PairThere b k
   go (At p) j = (λ h. (j .0, j .1), λ h. refl)
   go Nothing j = (λ h. absurd (true-not-false (sym h)), λ h. absurd (j (h .0) (h .1)))
 
@@ -122,8 +122,8 @@ unfolding serverNamesOf serverNamesIn
 server-names-own s b info names h = go (readingOf s) refl h where
   Right : ServerNames → Type 0
   Right n =
-      ((n .«nb_computer_name» ≡ true) ↔ ((place : ℕ) × FirstWith b 1 place 0))
-      × ((n .«nb_domain_name» ≡ true) ↔ ((place : ℕ) × FirstWith b 2 place 0))
+      ((n .«nb_computer_name» ≡ true) ↔ PairThere b 1)
+      × ((n .«nb_domain_name» ≡ true) ↔ PairThere b 2)
 
   same : (y : ServerNames) → NamesTaken y ≡ NamesTaken names → y ≡ names
   same y p = cc

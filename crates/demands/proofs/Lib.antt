@@ -1,4 +1,5 @@
 pub mod Bools
+pub mod Rank
 pub mod Order
 pub mod Message
 pub mod Chain
@@ -36,3 +37,11 @@ pub mod Units
 pub mod Examples
 pub mod Hypotheses
 pub mod Asking
+pub mod WrittenExactly
+pub mod MessagesWritten
+pub mod NlWritten
+pub mod SearchedExactly
+pub mod Deciding
+pub mod DomainSent
+pub mod ToSend
+pub mod Answering

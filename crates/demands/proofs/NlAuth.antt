@@ -30,13 +30,12 @@ use Rattle.demands.specs.NlAuth.{typeOf, masks, maskOf, BitSet, ZeroAt, 
 use Rattle.demands.specs.OwnBytes.{OwnString, OwnRequest, OwnResponse, NlAuthOwn}
 use Rattle.demands.specs.TakenExactly.{IsTakenNl, NlRefusedWith, NlAuthIsTaken, NlAuthIsRefused}
 use Rattle.demands.proofs.Order.{Free, first, only-first, next-field, next-check, skip}
-use Rattle.demands.proofs.Chain.{chained}
-use Rattle.demands.proofs.Bools.{both-ways, failed-false, or-left, or-right, or-either, bit1, bit2, bit4, bit8, bit16}
+use Rattle.demands.proofs.Bools.{both-ways, failed-false, or-left, or-right, or-either, bit1, bit2, bit4, bit8, bit16, chained}
 
 -- ---- one string
 
 -- before the first zero byte of a list there is none
-before-nonzero : (l : List ℕ) (k : ℕ) → k < beforeZero l → getD l k 0 ≡ 0 → ⊥
+pub before-nonzero : (l : List ℕ) (k : ℕ) → k < beforeZero l → getD l k 0 ≡ 0 → ⊥
 before-nonzero [] k h e = omega arith
 before-nonzero (b ∷ bs) zero h e = go (eqb b 0) refl h where
   go : (t : Bool) → eqb b 0 ≡ t → 0 < cond t 0 (suc (beforeZero bs)) → ⊥
@@ -48,7 +47,7 @@ before-nonzero (b ∷ bs) (suc k) h e = go (eqb b 0) h (λ l. before-nonzero bs 
   go false q rest = rest (omega arith)
 
 -- and where it is inside the list, it is zero
-at-zero : (l : List ℕ) → beforeZero l < length l → getD l (beforeZero l) 0 ≡ 0
+pub at-zero : (l : List ℕ) → beforeZero l < length l → getD l (beforeZero l) 0 ≡ 0
 at-zero [] h = refl
 at-zero (b ∷ bs) h = go (eqb b 0) refl h (at-zero bs) where
   go : (t : Bool) → eqb b 0 ≡ t → cond t 0 (suc (beforeZero bs)) < suc (length bs) →

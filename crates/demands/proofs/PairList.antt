@@ -20,11 +20,10 @@ use Rattle.av_pairs.specs.declared.Step.the-variants.{Pair, End, Refused}
 use Rattle.av_pairs.specs.declared.Count.{Count}
 use Rattle.av_pairs.specs.declared.Count.the-variants.{Pairs, Refused as Uncounted}
 use Rattle.av_pairs.specs.AvPairs.{left, idAt, pairOf, stepAt, endOf, onStep, pairsFrom, stopFrom, pairsOf, checkPairs, countPairs}
-use Rattle.demands.specs.PairList.{idOf, sizeOf, nextOf, SizeAllowed, PairAt, EndAt, WellFormed, end, pair, Holds, empty, listed, Fails10, Fails11, Fails12, FaultAt, fault10, fault11, fault12, fault13, FirstFault, here, later}
+use Rattle.demands.specs.PairList.{idOf, sizeOf, nextOf, SizeAllowed, PairAt, EndAt, WellFormed, end, pair, Holds, empty, listed, Fails10, Fails11, Fails12, FaultAt, fault10, fault11, fault12, fault13, FirstFault, FirstWith, this, next, here, later, ListFails}
 use Rattle.demands.specs.TakenExactly.{CountRefused, PairsTaken, PairsRefused}
-use Rattle.demands.proofs.Chain.{chained}
 use Rattle.wire.proofs.Bools.{and-left, and-right, and-both}
-use Rattle.demands.proofs.Bools.{true-not-false, both-ways, failed-false, or-left, or-right, or-either}
+use Rattle.demands.proofs.Bools.{true-not-false, both-ways, failed-false, or-left, or-right, or-either, chained}
 
 -- a test that an id other than the asked one passes
 implied : (a b : Bool) → implies a b ≡ true → a ≡ true → b ≡ true
@@ -284,6 +283,13 @@ module _ (s : List ℕ) where
   holds-or-fault n m (empty e p) h f = omega arith
   holds-or-fault n m (listed l w) h f = no-fault w f
 
+-- and an id one first pair
+pub one-place : (s : List ℕ) (id p q at : ℕ) → FirstWith s id p at → FirstWith s id q at → p ≡ q
+one-place s id p q at (this e x i) (this f y j) = sym e ∙ f
+one-place s id p q at (this e x i) (next y j g) = absurd (j i)
+one-place s id p q at (next x i f) (this e y j) = absurd (i j)
+one-place s id p q at (next x i f) (next y j g) = one-place s id p q (nextOf s at) f g
+
 pub pairs-taken : PairsTaken
 pairs-taken s n = (λ e. subst (JudgedC s) e (count-judged s), λ h. go (countPairs s) (count-judged s) h) where
   go : (c : Count) → JudgedC s c → Holds s n → c ≡ Pairs n
@@ -292,7 +298,7 @@ pairs-taken s n = (λ e. subst (JudgedC s) e (count-judged s), λ h. go (countPa
 
 pub pairs-refused : PairsRefused
 pairs-refused s n i = go (countPairs s) (count-judged s) where
-  go : (c : Count) → JudgedC s c → CountRefused c n i ↔ ((0 < length s) × (i ≡ 2) × FirstFault s n 0)
+  go : (c : Count) → JudgedC s c → CountRefused c n i ↔ ListFails s n i
   go (Pairs m) j = (λ t. absurd t, λ f. holds-or-fault s m n j (f .0) (f .2))
   go (Uncounted e) j = (
     λ t. (j .0, sym (t .1) ∙ j .1, subst (λ (x : ℕ). FirstFault s x 0) (t .0) (j .2)),

@@ -1,19 +1,15 @@
--- The other calls on a pair list, by the list's bytes alone: asking at a place that the caller keeps, and the checks on the
--- whole list.
+-- Asking a pair list at a place that the caller keeps, by the list's bytes alone.
 use Prim.Native.Nat.{ℕ, _<_}
 use mathlib.Core.Path.{_≡_}
 use mathlib.Core.Logic.{_⊎_, _↔_}
 use mathlib.Core.List.{List}
 use lib.ListN.{length}
-use Rattle.wire.specs.declared.check.Verdict.{Verdict}
-use Rattle.wire.specs.declared.check.Verdict.the-variants.{Clear, Refused as Not}
-use Rattle.wire.specs.Refusal.{numberOf, fieldOf}
 use Rattle.av_pairs.specs.declared.AvPair.{AvPair}
 use Rattle.av_pairs.specs.declared.Asked.{Asked}
 use Rattle.av_pairs.specs.declared.Step.the-variants.{Pair, End}
-use Rattle.av_pairs.specs.AvPairs.{askAt, checkPairs}
+use Rattle.av_pairs.specs.AvPairs.{askAt}
 use Rattle.demands.specs.InTurn.{PairIs, StepRefused}
-use Rattle.demands.specs.PairList.{nextOf, PairAt, EndAt, FaultAt, Holds, FirstFault}
+use Rattle.demands.specs.PairList.{nextOf, PairAt, EndAt, FaultAt}
 
 -- what asking at a place gives: the pair there, the end, or the fault there; the place to ask at next is past a pair, and else
 -- the same. An empty list is at its end
@@ -26,15 +22,3 @@ pub record AskedAt (s : List ℕ) (at : ℕ) (a : Asked) : Type 0 where
 
 abbrev pub AskingGives : Type 0
 AskingGives = (s : List ℕ) (at : ℕ) → AskedAt s at (askAt s at)
-
--- the checks hold if and only if the list is empty or well-formed
-abbrev pub ChecksHold : Type 0
-ChecksHold = (s : List ℕ) → (checkPairs s ≡ Clear) ↔ ((n : ℕ) × Holds s n)
-
-abbrev pub VerdictRefused : Verdict → ℕ → ℕ → Type 0
-VerdictRefused Clear n i = ⊥
-VerdictRefused (Not e) n i = (numberOf e ≡ n) × (fieldOf e ≡ i)
-
--- and refuse if and only if the earliest faulty pair has that fault
-abbrev pub ChecksRefuse : Type 0
-ChecksRefuse = (s : List ℕ) (n i : ℕ) → VerdictRefused (checkPairs s) n i ↔ ((0 < length s) × (i ≡ 2) × FirstFault s n 0)

@@ -16,3 +16,6 @@ pub mod Units
 pub mod Examples
 pub mod Hypotheses
 pub mod Asking
+pub mod WrittenExactly
+pub mod SearchedExactly
+pub mod Answering

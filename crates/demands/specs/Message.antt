@@ -75,9 +75,12 @@ challenge =
       HasMic = ⊥;
     }
 
--- a flag is set, by its mask
+-- a flag is set, by its mask: of a number, and of a message
+abbrev pub FlagSet : ℕ → ℕ → Type 0
+FlagSet bits mask = bits / mask % 2 ≡ 1
+
 abbrev pub Set : Format → List ℕ → ℕ → Type 0
-Set k s mask = u32At s (k .flags) / mask % 2 ≡ 1
+Set k s mask = FlagSet (u32At s (k .flags)) mask
 
 abbrev pub Counts : Format → List ℕ → ℕ → Type 0
 Counts k s i = k .Counts (Set k s) i

@@ -1,12 +1,13 @@
 -- An NL_AUTH message by its bytes alone: where its strings stand, and when each of document 01's checks fails. Nothing
 -- here names the reader's definition.
-use Prim.Native.Nat.{ℕ, _+_, _-_, _/_, _%_, _≤_, _<_}
+use Prim.Native.Nat.{ℕ, _+_, _-_, _≤_, _<_}
 use mathlib.Core.Path.{_≡_}
 use mathlib.Core.Logic.{_⊎_}
 use mathlib.Core.List.{List, [], _∷_}
 use lib.ListN.{length, take, getD}
 use Rattle.wire.specs.Number.{u32At}
 use Rattle.demands.specs.Order.{check}
+use Rattle.demands.specs.Message.{FlagSet}
 
 -- "Type at 0 (0 request, 1 response), flags at 4, buffer from 8."
 abbrev pub typeOf : List ℕ → ℕ
@@ -20,7 +21,7 @@ abbrev pub maskOf : ℕ → ℕ
 maskOf i = getD masks (i - 1) 0
 
 abbrev pub BitSet : List ℕ → ℕ → Type 0
-BitSet s mask = u32At s 4 / mask % 2 ≡ 1
+BitSet s mask = FlagSet (u32At s 4) mask
 
 -- the first zero byte from p on stands at q
 pub record ZeroAt (s : List ℕ) (p q : ℕ) : Type 0 where

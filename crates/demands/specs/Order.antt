@@ -1,19 +1,36 @@
 -- Document 01: "Reading checks go by number. Checks 6, 7, 8, 9 each go over all fields in field order before the next
--- check starts." `F n i` says that check n fails at field i (0 where the check has no field).
-use Prim.Native.Nat.{ℕ, _<_}
+-- check starts." And "Writing AUTHENTICATE: 5, 31, 32, 30, 33." `F n i` says that check n fails at field i (0 where the
+-- check has no field).
+use Prim.Native.Nat.{ℕ, _+_, _<_}
 use mathlib.Core.Path.{_≡_}
 use mathlib.Core.Logic.{_⊎_}
-use mathlib.Core.Bool.{Bool, true, false}
+use mathlib.Core.Bool.{Bool, true, false, cond}
+use mathlib.Core.List.{List, [], _∷_}
 use lib.Dec.{eqb}
 
--- a smaller number comes first, and within one number a smaller field
-abbrev pub Before : ℕ → ℕ → ℕ → ℕ → Type 0
-Before m j n i = (m < n) ⊎ ((m ≡ n) × (j < i))
+-- a smaller rank comes first, and within one number a smaller field
+abbrev pub BeforeBy : (ℕ → ℕ) → ℕ → ℕ → ℕ → ℕ → Type 0
+BeforeBy rank m j n i = (rank m < rank n) ⊎ ((m ≡ n) × (j < i))
 
 -- check n fails at field i, and nothing before it fails
-pub record First (F : ℕ → ℕ → Type 0) (n i : ℕ) : Type 0 where
+pub record FirstBy (rank : ℕ → ℕ) (F : ℕ → ℕ → Type 0) (n i : ℕ) : Type 0 where
   pub fails : F n i
-  pub none-before : (m j : ℕ) → Before m j n i → F m j → ⊥
+  pub none-before : (m j : ℕ) → BeforeBy rank m j n i → F m j → ⊥
+
+-- where checks go by number
+abbrev pub Before : ℕ → ℕ → ℕ → ℕ → Type 0
+Before = BeforeBy (λ n. n)
+
+abbrev pub First : (ℕ → ℕ → Type 0) → ℕ → ℕ → Type 0
+First = FirstBy (λ n. n)
+
+-- where they go in the order of a list: a number's rank is its place there, and any other number comes after the list's
+abbrev pub placeIn : List ℕ → ℕ → ℕ
+placeIn [] n = 0
+placeIn (k ∷ ks) n = cond (eqb n k) 0 (1 + placeIn ks n)
+
+abbrev pub FirstIn : List ℕ → (ℕ → ℕ → Type 0) → ℕ → ℕ → Type 0
+FirstIn order = FirstBy (placeIn order)
 
 -- a row of a table of checks: for number k it is P, and for any other what the rest of the table says
 abbrev pub row : Bool → Type 0 → Type 0 → Type 0

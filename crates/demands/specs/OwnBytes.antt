@@ -32,7 +32,7 @@ use Rattle.nl_auth.specs.declared.Reading.the-variants.{Taken as NlTaken}
 use Rattle.nl_auth.specs.NlAuth.{readNlAuth}
 use Rattle.demands.specs.NlAuth.{typeOf, maskOf, BitSet, ZeroAt, StartsAt}
 use Rattle.demands.specs.Message.{Format, negotiate, authenticate, challenge, lenOf, offsetOf, Nonempty, MicThere}
-use Rattle.demands.specs.PairList.{sizeOf, FirstWith}
+use Rattle.demands.specs.PairList.{sizeOf, FirstWith, PairThere}
 use Rattle.demands.specs.TakenExactly.{InfoBytes}
 
 -- field i of s is handed out as f: the Len bytes from its offset on and nothing else; a field that is empty or doesn't
@@ -117,8 +117,8 @@ NoTimestampThere =
 abbrev pub ServerNamesOwn : Type 0
 ServerNamesOwn =
     (s b : List ℕ) → InfoBytes s b → (names : ServerNames) → serverNamesOf s ≡ NamesTaken names →
-    ((names .«nb_computer_name» ≡ true) ↔ ((place : ℕ) × FirstWith b 1 place 0))
-    × ((names .«nb_domain_name» ≡ true) ↔ ((place : ℕ) × FirstWith b 2 place 0))
+    ((names .«nb_computer_name» ≡ true) ↔ PairThere b 1)
+    × ((names .«nb_domain_name» ≡ true) ↔ PairThere b 2)
 
 -- string i of a request is handed out as f: under a set bit the bytes from where it stands up to its first zero byte, also
 -- where these are none; under a clear bit none, and place 0

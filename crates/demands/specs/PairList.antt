@@ -72,7 +72,15 @@ pub data FirstFault (s : List ℕ) (n : ℕ) : ℕ → Type 0 where
   here : {at : ℕ} → FaultAt s at n → FirstFault s n at
   later : {at : ℕ} → PairAt s at → FirstFault s n (nextOf s at) → FirstFault s n at
 
+-- a list is refused with its earliest faulty pair's number, and field 2; an empty one has none
+abbrev pub ListFails : List ℕ → ℕ → ℕ → Type 0
+ListFails s n i = (0 < length s) × (i ≡ 2) × FirstFault s n 0
+
 -- from a place on, the first pair with an id is the one at `found`
 pub data FirstWith (s : List ℕ) (id found : ℕ) : ℕ → Type 0 where
   this : {at : ℕ} → at ≡ found → PairAt s at → idOf s at ≡ id → FirstWith s id found at
   next : {at : ℕ} → PairAt s at → (idOf s at ≡ id → ⊥) → FirstWith s id found (nextOf s at) → FirstWith s id found at
+
+-- there is a pair with an id
+abbrev pub PairThere : List ℕ → ℕ → Type 0
+PairThere s id = (place : ℕ) × FirstWith s id place 0

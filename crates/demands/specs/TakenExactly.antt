@@ -1,10 +1,10 @@
 -- Demand 2: "A message is taken exactly when every check there holds", and demand 1: "It answers, or refuses by a
 -- number from document 01 in the order given there."
-use Prim.Native.Nat.{ℕ, _<_}
+use Prim.Native.Nat.{ℕ}
 use mathlib.Core.Path.{_≡_}
-use mathlib.Core.Logic.{_⊎_, _↔_}
+use mathlib.Core.Logic.{_↔_}
 use mathlib.Core.List.{List, []}
-use lib.ListN.{length, take, drop}
+use lib.ListN.{take, drop}
 use Rattle.wire.specs.Refusal.{numberOf, fieldOf}
 use Rattle.authenticate.specs.declared.Reading.{Reading}
 use Rattle.authenticate.specs.declared.Reading.the-variants.{Taken, Refused}
@@ -24,7 +24,7 @@ use Rattle.nl_auth.specs.NlAuth.{readNlAuth}
 use Rattle.demands.specs.NlAuth.{NlFails}
 use Rattle.demands.specs.Order.{First}
 use Rattle.demands.specs.Message.{Fails, negotiate, authenticate, challenge, Nonempty, lenOf, offsetOf}
-use Rattle.demands.specs.PairList.{Holds, FirstFault}
+use Rattle.demands.specs.PairList.{Holds, ListFails}
 
 abbrev pub IsTakenAuthenticate : Reading → Type 0
 IsTakenAuthenticate (Taken a) = Unit
@@ -67,7 +67,7 @@ PairsTaken = (s : List ℕ) (n : ℕ) → (countPairs s ≡ Pairs n) ↔ Holds s
 
 -- and refused with a number, and field 2, if and only if the earliest faulty pair has that fault
 abbrev pub PairsRefused : Type 0
-PairsRefused = (s : List ℕ) (n i : ℕ) → CountRefused (countPairs s) n i ↔ ((0 < length s) × (i ≡ 2) × FirstFault s n 0)
+PairsRefused = (s : List ℕ) (n i : ℕ) → CountRefused (countPairs s) n i ↔ ListFails s n i
 
 abbrev pub IsTakenChallenge : ChallengeReading → Type 0
 IsTakenChallenge (ChallengeTaken c) = Unit
@@ -82,18 +82,28 @@ pub record InfoBytes (s b : List ℕ) : Type 0 where
   pub there : Nonempty challenge s 2 → b ≡ take (lenOf challenge s 2) (drop (offsetOf challenge s 2) s)
   pub absent : (Nonempty challenge s 2 → ⊥) → b ≡ []
 
--- CHALLENGE is taken if and only if no check of 1 to 8 fails at any field and TargetInfo is a well-formed list
-abbrev pub ChallengeIsTaken : Type 0
-ChallengeIsTaken =
-    (s b : List ℕ) → InfoBytes s b →
-    IsTakenChallenge (readChallenge s .reading) ↔ (((n i : ℕ) → Fails challenge s n i → ⊥) × ((n : ℕ) × Holds b n))
+-- every message has them
+abbrev pub InfoIsThere : Type 0
+InfoIsThere = (s : List ℕ) → (b : List ℕ) × InfoBytes s b
 
--- and refused by the first of these that fails, and where none does by TargetInfo's earliest faulty pair, with field 2
+-- no check of 1 to 8 fails at any field, and TargetInfo is a well-formed list
+pub record ChallengeHolds (s b : List ℕ) : Type 0 where
+  pub fields : (n i : ℕ) → Fails challenge s n i → ⊥
+  pub count : ℕ
+  pub list : Holds b count
+
+-- the first of these fails with number n at field i, or none does and TargetInfo's earliest faulty pair has the number
+pub data ChallengeFails (s b : List ℕ) (n i : ℕ) : Type 0 where
+  in-fields : First (Fails challenge s) n i → ChallengeFails s b n i
+  in-list : ((m j : ℕ) → Fails challenge s m j → ⊥) → ListFails b n i → ChallengeFails s b n i
+
+-- CHALLENGE is taken, or refused with a number and field, if and only if so
+abbrev pub ChallengeIsTaken : Type 0
+ChallengeIsTaken = (s b : List ℕ) → InfoBytes s b → IsTakenChallenge (readChallenge s .reading) ↔ ChallengeHolds s b
+
 abbrev pub ChallengeIsRefused : Type 0
 ChallengeIsRefused =
-    (s b : List ℕ) → InfoBytes s b → (n i : ℕ) →
-    ChallengeRefusedWith (readChallenge s .reading) n i ↔
-    (First (Fails challenge s) n i ⊎ (((m j : ℕ) → Fails challenge s m j → ⊥) × (0 < length b) × (i ≡ 2) × FirstFault b n 0))
+    (s b : List ℕ) → InfoBytes s b → (n i : ℕ) → ChallengeRefusedWith (readChallenge s .reading) n i ↔ ChallengeFails s b n i
 
 abbrev pub IsTakenNl : NlReading → Type 0
 IsTakenNl (NlTaken m) = Unit

@@ -1,0 +1,161 @@
+-- A challenge is answered exactly when nothing fails, and the answer reads back.
+use Prim.Native.Nat.{ℕ}
+use mathlib.Core.Path.{_≡_, refl, sym, ap, _∙_, subst}
+use mathlib.Core.Logic.{inl, inr, ⊎-elim, _↔_}
+use mathlib.Core.Bool.{Bool, true, false}
+use mathlib.Core.List.{List}
+use native.Mathlib.Omega.{arith}
+use lib.ListN.{length, take}
+use Rattle.wire.specs.declared.refusal.Refusal.{Refusal}
+use Rattle.wire.specs.Refusal.{numberOf, fieldOf}
+use Rattle.place.specs.declared.written.Written.{Written}
+use Rattle.place.specs.declared.written.Written.the-variants.{Length, Refused as Unwritten}
+use Rattle.head.specs.Head.{flagsAt}
+use Rattle.authenticate_writing.specs.Writing.{writeAnswer, writeOut}
+use Rattle.challenge.specs.Challenge.{timestampIn}
+use Rattle.respond.specs.declared.answer.Answer.{Answer}
+use Rattle.respond.specs.declared.answer.Answered.{Answered}
+use Rattle.respond.specs.declared.answer.Answered.the-variants.{Sent, Refused as Unanswered}
+use Rattle.respond.specs.declared.decision.Decided.{Decided}
+use Rattle.respond.specs.declared.decision.Decided.the-variants.{Taken, Refused}
+use Rattle.respond.specs.declared.decision.Decision.{Decision}
+use Rattle.respond.specs.declared.decision.Settings.{Settings}
+use Rattle.respond.specs.Answer.{micDue, answerWith, sendAnswer, sendOut, respondAnswer, respondOut}
+use Rattle.respond.specs.Decision.{decisionOn, onDecided}
+use Rattle.respond.specs.Domain.{domainToSend}
+use Rattle.demands.specs.PairList.{PairThere}
+use Rattle.demands.specs.ReadBack.{AuthenticateBack}
+use Rattle.demands.specs.TakenExactly.{InfoBytes}
+use Rattle.demands.specs.WrittenExactly.{WrittenExactly, authenticateSize, AuthenticateWritingFails, authenticateOrder}
+use Rattle.demands.specs.Answering.{Agreed, Declined, ToSend, AnsweredExactly, RespondIsAnswered, RespondReadsBack}
+use Rattle.demands.proofs.AnswerKept.{mic-long}
+use Rattle.demands.proofs.Answered.{sent-written}
+use Rattle.demands.proofs.WriteBack.{authenticate-reads-back}
+use Rattle.demands.proofs.MessagesWritten.{authenticate-written}
+use Rattle.demands.proofs.Deciding.{Judged, judged, agreed-or-declined, one-decline}
+use Rattle.demands.proofs.ToSend.{due-is, mic-is, lm-is, key-is, time-is, domain-is}
+
+same-bool : {P : Type 0} (x y : Bool) → (x ≡ true) ↔ P → (y ≡ true) ↔ P → x ≡ y
+same-bool true true p q = refl
+same-bool true false p q = sym (q .1 (p .0 refl))
+same-bool false true p q = p .1 (q .0 refl)
+same-bool false false p q = refl
+
+module _ (settings : Settings) (s b : List ℕ) (F : ℕ → ℕ → Type 0) (size time : ℕ) where
+  -- an exact writing, with its time and whether a MIC is due, is an exact answer
+  as-answer : (r : Written) (due : Bool) → Agreed settings s b → (due ≡ true) ↔ PairThere b 7 → WrittenExactly r authenticateOrder F size →
+      AnsweredExactly (answerWith r time due) settings s b F size time
+  as-answer (Length m) due agreed there w =
+      record {
+        refused = λ n i. (λ t. absurd t, λ f. ⊎-elim (λ d. agreed-or-declined settings s b n i agreed d) (λ g. w .refused n i .1 (g .1)) f);
+        sent = λ x. (λ h. told x h, λ h. made x (w .written (x .len) .1 (h .1, h .2)) (h .3) (h .4));
+      }
+    where
+      told : (x : Answer) → Sent (record { len = m; time = time; «mic_due» = due }) ≡ Sent x →
+          Agreed settings s b × ((n i : ℕ) → F n i → ⊥) × (x .len ≡ size) × (x .time ≡ time) × ((x .«mic_due» ≡ true) ↔ PairThere b 7)
+      told x h = go (same h) where
+        same : Sent (record { len = m; time = time; «mic_due» = due }) ≡ Sent x → record { len = m; time = time; «mic_due» = due } ≡ x
+        same p = cc
+
+        go : record { len = m; time = time; «mic_due» = due } ≡ x →
+            Agreed settings s b × ((n i : ℕ) → F n i → ⊥) × (x .len ≡ size) × (x .time ≡ time) × ((x .«mic_due» ≡ true) ↔ PairThere b 7)
+        go e =
+            let v = w .written m .0 refl in
+            subst (λ (y : Answer). Agreed settings s b × ((n i : ℕ) → F n i → ⊥) × (y .len ≡ size) × (y .time ≡ time) × ((y .«mic_due» ≡ true) ↔ PairThere b 7)) e
+            (agreed, v .0, v .1, refl, there)
+
+      made : (x : Answer) → Length m ≡ Length (x .len) → x .time ≡ time → (x .«mic_due» ≡ true) ↔ PairThere b 7 →
+          Sent (record { len = m; time = time; «mic_due» = due }) ≡ Sent x
+      made x l t d = ap Sent (λ k. record { len = same l k; time = sym t k; «mic_due» = same-bool due (x .«mic_due») there d k }) where
+        same : Length m ≡ Length (x .len) → m ≡ x .len
+        same p = cc
+  as-answer (Unwritten e) due agreed there w =
+      record {
+        refused = λ n i. (
+          λ t. inr (agreed, w .refused n i .0 t),
+          λ f. ⊎-elim (λ d. absurd (agreed-or-declined settings s b n i agreed d)) (λ g. w .refused n i .1 (g .1)) f,
+        );
+        sent = λ x. (
+          λ h. absurd (let z : _≡_ {A = ℕ} 0 1 = cc in omega arith),
+          λ h. absurd (never (x .len) (w .written (x .len) .1 (h .1, h .2))),
+        );
+      }
+    where
+      never : (n : ℕ) → Unwritten e ≡ Length n → ⊥
+      never n h = let z : _≡_ {A = ℕ} 0 1 = cc in omega arith
+
+  -- so is a refusal of the decision
+  as-refusal : (e : Refusal) → Declined settings s b (numberOf e) (fieldOf e) → AnsweredExactly (Unanswered e) settings s b F size time
+  as-refusal e j =
+      record {
+        refused = λ n i. (
+          λ t. inl (subst (λ (x : ℕ). Declined settings s b n x) (t .1) (subst (λ (x : ℕ). Declined settings s b x (fieldOf e)) (t .0) j)),
+          λ f. ⊎-elim (λ d. one-decline settings s b (numberOf e) (fieldOf e) n i j d) (λ g. absurd (agreed-or-declined settings s b (numberOf e) (fieldOf e) (g .0) j)) f,
+        );
+        sent = λ x. (
+          λ h. absurd (let z : _≡_ {A = ℕ} 0 1 = cc in omega arith),
+          λ h. absurd (agreed-or-declined settings s b (numberOf e) (fieldOf e) (h .0) j),
+        );
+      }
+
+-- what is sent to a challenge that is agreed to
+module _ (s b v mic lm nt dom usr wks key : List ℕ) (settings : Settings) (clock : ℕ) (m16 : length mic ≡ 16) (info : InfoBytes s b) (x : ToSend settings s b clock mic lm dom key) where
+  mic-sent-long : length (x .mic-sent) ≡ 16
+  mic-sent-long = ap length (mic-is settings s b clock mic lm dom key x) ∙ mic-long (timestampIn b) mic m16
+
+  abbrev decision : Decision
+  decision = record { flags = flagsAt s 20; timestamp = timestampIn b }
+
+  send-answer : (room : ℕ) → Agreed settings s b → sendAnswer room settings decision clock v mic lm nt (domainToSend dom s) usr wks key ≡
+      answerWith (writeAnswer room (flagsAt s 20) v (x .mic-sent) (x .lm-sent) nt (x .domain-sent) usr wks (x .key-sent)) (x .time) (micDue (timestampIn b))
+  unfolding sendAnswer
+  send-answer room agreed =
+      rw (mic-is settings s b clock mic lm dom key x, lm-is settings s b clock mic lm dom key x, key-is settings s b clock mic lm dom key x, time-is settings s b clock mic lm dom key x, domain-is settings s b clock mic lm dom key x info (agreed .reading))
+
+  send-out : (out : List ℕ) → Agreed settings s b → sendOut out settings decision v mic lm nt (domainToSend dom s) usr wks key ≡
+      writeOut out (flagsAt s 20) v (x .mic-sent) (x .lm-sent) nt (x .domain-sent) usr wks (x .key-sent)
+  unfolding sendOut
+  send-out out agreed =
+      rw (mic-is settings s b clock mic lm dom key x, lm-is settings s b clock mic lm dom key x, key-is settings s b clock mic lm dom key x, domain-is settings s b clock mic lm dom key x info (agreed .reading))
+
+pub respond-answered : RespondIsAnswered
+unfolding respondAnswer
+respond-answered room s b v mic lm nt dom usr wks key settings clock v8 m16 info x = go (decisionOn settings s) (judged settings s b info) where
+  Right : Answered → Type 0
+  Right a =
+      AnsweredExactly a settings s b (AuthenticateWritingFails room (flagsAt s 20 .bits) (x .lm-sent) nt (x .domain-sent) usr wks (x .key-sent))
+      (authenticateSize (x .lm-sent) nt (x .domain-sent) usr wks (x .key-sent)) (x .time)
+
+  agreed-to : Agreed settings s b → Right (sendAnswer room settings (record { flags = flagsAt s 20; timestamp = timestampIn b }) clock v mic lm nt (domainToSend dom s) usr wks key)
+  agreed-to agreed =
+      subst Right (sym (send-answer s b v mic lm nt dom usr wks key settings clock m16 info x room agreed))
+      (as-answer settings s b (AuthenticateWritingFails room (flagsAt s 20 .bits) (x .lm-sent) nt (x .domain-sent) usr wks (x .key-sent))
+      (authenticateSize (x .lm-sent) nt (x .domain-sent) usr wks (x .key-sent)) (x .time)
+      (writeAnswer room (flagsAt s 20) v (x .mic-sent) (x .lm-sent) nt (x .domain-sent) usr wks (x .key-sent)) (micDue (timestampIn b)) agreed (due-is b)
+      (authenticate-written room (flagsAt s 20) v (x .mic-sent) (x .lm-sent) nt (x .domain-sent) usr wks (x .key-sent) v8 (mic-sent-long s b v mic lm nt dom usr wks key settings clock m16 info x)))
+
+  go : (d : Decided) → Judged settings s b info d → Right (onDecided Unanswered d (λ y. sendAnswer room settings y clock v mic lm nt (domainToSend dom s) usr wks key))
+  go (Taken d) j = subst (λ (y : Decision). Right (sendAnswer room settings y clock v mic lm nt (domainToSend dom s) usr wks key)) (sym (j .1)) (agreed-to (j .0))
+  go (Refused e) j =
+      as-refusal settings s b (AuthenticateWritingFails room (flagsAt s 20 .bits) (x .lm-sent) nt (x .domain-sent) usr wks (x .key-sent))
+      (authenticateSize (x .lm-sent) nt (x .domain-sent) usr wks (x .key-sent)) (x .time) e j
+
+pub respond-reads-back : RespondReadsBack
+unfolding respondAnswer respondOut
+respond-reads-back out s b v mic lm nt dom usr wks key settings clock v8 m16 info x y h = go (decisionOn settings s) (judged settings s b info) h where
+  Back : List ℕ → Type 0
+  Back l = AuthenticateBack (take (y .len) l) (flagsAt s 20) (x .mic-sent) (x .lm-sent) nt (x .domain-sent) usr wks (x .key-sent)
+
+  agreed-to : Agreed settings s b → sendAnswer (length out) settings (record { flags = flagsAt s 20; timestamp = timestampIn b }) clock v mic lm nt (domainToSend dom s) usr wks key ≡ Sent y →
+      Back (sendOut out settings (record { flags = flagsAt s 20; timestamp = timestampIn b }) v mic lm nt (domainToSend dom s) usr wks key)
+  agreed-to agreed e =
+      subst Back (sym (send-out s b v mic lm nt dom usr wks key settings clock m16 info x out agreed))
+      (authenticate-reads-back out (flagsAt s 20) v (x .mic-sent) (x .lm-sent) nt (x .domain-sent) usr wks (x .key-sent) (y .len) v8 (mic-sent-long s b v mic lm nt dom usr wks key settings clock m16 info x)
+      (sent-written _ (x .time) (micDue (timestampIn b)) y (sym (send-answer s b v mic lm nt dom usr wks key settings clock m16 info x (length out) agreed) ∙ e)))
+
+  go : (d : Decided) → Judged settings s b info d → onDecided Unanswered d (λ z. sendAnswer (length out) settings z clock v mic lm nt (domainToSend dom s) usr wks key) ≡ Sent y →
+      Back (onDecided (λ e. out) d (λ z. sendOut out settings z v mic lm nt (domainToSend dom s) usr wks key))
+  go (Taken d) j e =
+      subst (λ (z : Decision). Back (sendOut out settings z v mic lm nt (domainToSend dom s) usr wks key)) (sym (j .1))
+      (agreed-to (j .0) (subst (λ (z : Decision). sendAnswer (length out) settings z clock v mic lm nt (domainToSend dom s) usr wks key ≡ Sent y) (j .1) e))
+  go (Refused f) j e = absurd (let z : _≡_ {A = ℕ} 0 1 = cc in omega arith)

@@ -1,0 +1,172 @@
+-- An NL_AUTH request or response is written exactly when no check of its writing fails.
+use Prim.Native.Nat.{ℕ, _+_, _/_, _%_, _≤_}
+use mathlib.Core.Path.{_≡_, refl, sym, ap, _∙_, subst}
+use mathlib.Core.Logic.{⊎-elim}
+use mathlib.Core.Bool.{Bool, true, false, _||_, _&&_, not, cond}
+use mathlib.Core.List.{List, [], _∷_}
+use native.Mathlib.Omega.{arith}
+use lib.Dec.{eqb, leb}
+use lib.ListN.{length, length-append}
+use borrow.Author.Tests.{eqb-true, eqb-false, eq-eqb, ltb-true, ltb-false}
+use Rattle.wire.specs.declared.check.Checked.the-variants.{Held, Failed}
+use Rattle.wire.specs.declared.check.Verdict.the-variants.{Clear, Refused as Not}
+use Rattle.wire.specs.declared.refusal.Refusal.the-variants.{NoRoom, ZeroInString}
+use Rattle.wire.specs.Check.{checked, after}
+use Rattle.wire.specs.Number.{has}
+use Rattle.wire.proofs.Laws.{held-true}
+use Rattle.place.specs.declared.written.Written.the-variants.{Length, Refused}
+use Rattle.place.specs.Written.{answered}
+use Rattle.nl_auth_flags.specs.declared.NlAuthFlags.{NlAuthFlags}
+use Rattle.nl_auth_flags.specs.Flags.{nbDomain, nbComputer, dnsDomain, dnsHost, utf8Computer, known, stringsHold}
+use Rattle.nl_auth.specs.NlAuth.{beforeZero, holdsZero}
+use Rattle.nl_auth_writing.specs.Writing.{stringBytes, bytesUnder, requestBytes, responseBytes, noZero, checkZeros, checkRequest, requestAnswer, responseAnswer}
+use Rattle.nl_auth_writing.proofs.Sent.{length-request, length-response}
+use Rattle.demands.specs.Order.{placeIn}
+use Rattle.demands.specs.NlAuth.{maskOf}
+use Rattle.demands.specs.Message.{FlagSet}
+use Rattle.demands.specs.WrittenExactly.{WrittenExactly, HoldsZero, sizeUnder, requestSize, RequestWritingFails, NlRequestIsWritten, RoomFails, NlResponseIsWritten}
+use Rattle.demands.proofs.Bools.{true-not-false, failed-false, or-left, or-right, or-either, chained, bit1, bit2, bit4, bit8, bit16}
+use Rattle.demands.proofs.NlAuth.{before-nonzero, at-zero, five}
+use Rattle.demands.proofs.Rank.{FreeBy, JudgedBy, only-in, first-by, skip-by, then-by, over-judged-by}
+use Rattle.demands.proofs.WrittenExactly.{rows, free-at-first, next, room-judged, size-judged, only-room, only-room-judged, by-verdict}
+
+-- check 34 at one string
+zero-failed : (set : Bool) (x : List ℕ) → noZero (set, x) ≡ Failed → (set ≡ true) × HoldsZero x
+zero-failed set x f = go set (holdsZero x) refl refl (failed-false _ f) where
+  go : (a b : Bool) → set ≡ a → holdsZero x ≡ b → not (a && b) ≡ false → (set ≡ true) × HoldsZero x
+  go true true p q e = let l = ltb-true (beforeZero x) (length x) q in (p, (beforeZero x, l, at-zero x l))
+  go true false p q e = absurd (true-not-false e)
+  go false b p q e = absurd (true-not-false e)
+
+zero-held : (set : Bool) (x : List ℕ) → noZero (set, x) ≡ Held → set ≡ true → HoldsZero x → ⊥
+zero-held set x h on z = go set (holdsZero x) refl refl (held-true _ h) where
+  go : (a b : Bool) → set ≡ a → holdsZero x ≡ b → not (a && b) ≡ true → ⊥
+  go true true p q e = true-not-false (sym e)
+  go true false p q e = before-nonzero x (z .0) (omega (arith, ltb-false (beforeZero x) (length x) q, z .1)) (z .2)
+  go false b p q e = true-not-false (sym on ∙ p)
+
+under : (t : Bool) (x : List ℕ) → length (bytesUnder t x) ≡ cond t (length x + 1) 0
+unfolding bytesUnder stringBytes
+under true x = simp length-append
+under false x = refl
+
+abbrev order : List ℕ
+order = 14 ∷ 34 ∷ 30 ∷ 33 ∷ []
+
+module _ (room : ℕ) (flags : NlAuthFlags) (a b c d e : List ℕ) where
+  abbrev w : NlAuthFlags
+  w = known flags
+
+  abbrev bits : ℕ
+  bits = flags .bits
+
+  abbrev F : ℕ → ℕ → Type 0
+  F = RequestWritingFails room bits a b c d e
+
+  -- the string of a bit, which is the same of the lowest five bits
+  size-under : (m : ℕ) (x : List ℕ) → bits % 32 / m % 2 ≡ bits / m % 2 → length (bytesUnder (has (w .bits) m) x) ≡ sizeUnder bits m x
+  size-under m x q = under (has (w .bits) m) x ∙ ap (λ (k : ℕ). cond (eqb k 1) (length x + 1) 0) q
+
+  size-is : length (requestBytes w a b c d e) ≡ requestSize bits a b c d e
+  size-is =
+      length-request w a b c d e
+      ∙ simp (size-under 0x1 a (bit1 bits), size-under 0x2 b (bit2 bits), size-under 0x4 c (bit4 bits), size-under 0x8 d (bit8 bits), size-under 0x10 e (bit16 bits))
+
+  -- check 14
+  abbrev toC : Bool
+  toC = (nbDomain w || nbComputer w) || dnsDomain w
+
+  strings-failed : stringsHold w ≡ Failed → (k : ℕ) → 1 ≤ k → k ≤ 5 → FlagSet bits (maskOf k) → ⊥
+  strings-failed f =
+      let f5 = failed-false _ f in
+      let f4 = or-left (toC || dnsHost w) (utf8Computer w) f5 in
+      let f3 = or-left toC (dnsHost w) f4 in
+      let f2 = or-left (nbDomain w || nbComputer w) (dnsDomain w) f3 in
+      five (λ k. FlagSet bits (maskOf k) → ⊥)
+      (λ s. eqb-false _ 1 (or-left (nbDomain w) (nbComputer w) f2) (bit1 bits ∙ s))
+      (λ s. eqb-false _ 1 (or-right (nbDomain w) (nbComputer w) f2) (bit2 bits ∙ s))
+      (λ s. eqb-false _ 1 (or-right (nbDomain w || nbComputer w) (dnsDomain w) f3) (bit4 bits ∙ s))
+      (λ s. eqb-false _ 1 (or-right toC (dnsHost w) f4) (bit8 bits ∙ s))
+      (λ s. eqb-false _ 1 (or-right (toC || dnsHost w) (utf8Computer w) f5) (bit16 bits ∙ s))
+
+  strings-held : stringsHold w ≡ Held → ((k : ℕ) → 1 ≤ k → k ≤ 5 → FlagSet bits (maskOf k) → ⊥) → ⊥
+  strings-held h none =
+      ⊎-elim (λ h4. ⊎-elim (λ h3. ⊎-elim (λ h2. ⊎-elim
+      (λ p. none 1 (omega arith) (omega arith) (sym (bit1 bits) ∙ eqb-true _ 1 p))
+      (λ p. none 2 (omega arith) (omega arith) (sym (bit2 bits) ∙ eqb-true _ 1 p))
+      (or-either (nbDomain w) (nbComputer w) h2))
+      (λ p. none 3 (omega arith) (omega arith) (sym (bit4 bits) ∙ eqb-true _ 1 p))
+      (or-either (nbDomain w || nbComputer w) (dnsDomain w) h3))
+      (λ p. none 4 (omega arith) (omega arith) (sym (bit8 bits) ∙ eqb-true _ 1 p))
+      (or-either toC (dnsHost w) h4))
+      (λ p. none 5 (omega arith) (omega arith) (sym (bit16 bits) ∙ eqb-true _ 1 p))
+      (or-either (toC || dnsHost w) (utf8Computer w) (held-true _ h))
+
+  -- check 34
+  zeros-judged : FreeBy (placeIn order) F 34 0 → JudgedBy (placeIn order) F 30 (checkZeros w a b c d e)
+  unfolding checkZeros
+  zeros-judged free =
+      over-judged-by (placeIn order) F 34 30 noZero ZeroInString refl (only-in order 34 (omega arith)) (λ j. (refl, refl))
+      ((1, (nbDomain w, a)) ∷ (2, (nbComputer w, b)) ∷ (3, (dnsDomain w, c)) ∷ (4, (dnsHost w, d)) ∷ (5, (utf8Computer w, e)) ∷ []) 1 (
+        refl,
+        failed 1 0x1 a (omega arith) (omega arith) (bit1 bits),
+        held 0x1 a (bit1 bits),
+        (
+          refl,
+          failed 2 0x2 b (omega arith) (omega arith) (bit2 bits),
+          held 0x2 b (bit2 bits),
+          (
+            refl,
+            failed 3 0x4 c (omega arith) (omega arith) (bit4 bits),
+            held 0x4 c (bit4 bits),
+            (
+              refl,
+              failed 4 0x8 d (omega arith) (omega arith) (bit8 bits),
+              held 0x8 d (bit8 bits),
+              (refl, failed 5 0x10 e (omega arith) (omega arith) (bit16 bits), held 0x10 e (bit16 bits), tt),
+            ),
+          ),
+        ),
+      )
+      (skip-by (placeIn order) F 34 1 free (λ j l h. omega (arith, l, h .0)))
+      (λ j l h. omega (arith, l, h .1))
+    where
+      failed : (i m : ℕ) (x : List ℕ) → 1 ≤ i → i ≤ 5 → bits % 32 / m % 2 ≡ bits / m % 2 → noZero (has (w .bits) m, x) ≡ Failed →
+          (1 ≤ i) × (i ≤ 5) × FlagSet bits m × HoldsZero x
+      failed i m x l r q f = let z = zero-failed (has (w .bits) m) x f in (l, r, sym q ∙ eqb-true _ 1 (z .0), z .1)
+
+      held : {A B : Type 0} (m : ℕ) (x : List ℕ) → bits % 32 / m % 2 ≡ bits / m % 2 → noZero (has (w .bits) m, x) ≡ Held →
+          A × B × FlagSet bits m × HoldsZero x → ⊥
+      held m x q h y = zero-held (has (w .bits) m) x h (eq-eqb _ 1 (q ∙ y .2)) (y .3)
+
+  request-judged : JudgedBy (placeIn order) F 0 (checkRequest room w a b c d e)
+  unfolding checkRequest
+  request-judged =
+      let none = free-at-first order F 14 refl in
+      chained (JudgedBy (placeIn order) F 0) _ _ _
+      (λ f. first-by (placeIn order) F 14 0 none (refl, strings-failed f))
+      (λ h14. then-by (placeIn order) F 30 0 (checkZeros w a b c d e) _
+      (zeros-judged (next order F 14 34 refl (omega arith) none (λ j x. strings-held h14 (x .1))))
+      (λ c30. size-judged order F (requestSize bits a b c d e) (length (requestBytes w a b c d e)) _ size-is
+      (λ l. (refl, l)) (λ j x. x .1) refl (omega arith) c30
+      (room-judged order F room (requestSize bits a b c d e) (length (requestBytes w a b c d e)) size-is
+      (λ l. (refl, l)) (λ j x. x .1) refl (omega arith))))
+
+pub nl-request-written : NlRequestIsWritten
+unfolding requestAnswer
+nl-request-written room flags a b c d e =
+    by-verdict (14 ∷ 34 ∷ 30 ∷ 33 ∷ []) (RequestWritingFails room (flags .bits) a b c d e)
+    (rows (14 ∷ 34 ∷ 30 ∷ 33 ∷ []) (RequestWritingFails room (flags .bits) a b c d e) (λ n i z h. simp (z .0, z .1 .0, z .1 .1 .0, z .1 .1 .1 .0) at h)) 0 refl
+    (checkRequest room (known flags) a b c d e) (requestBytes (known flags) a b c d e) (requestSize (flags .bits) a b c d e)
+    (size-is room flags a b c d e) (request-judged room flags a b c d e)
+
+pub nl-response-written : NlResponseIsWritten
+unfolding responseAnswer
+nl-response-written room =
+    rw length-response (go (leb 9 room) (by-verdict (33 ∷ []) (RoomFails room 9) (only-room room 9) 0 refl
+    (after (checked (leb 9 room)) (Not NoRoom) Clear) responseBytes 9 length-response (only-room-judged room 9)))
+  where
+    go : (t : Bool) → WrittenExactly (answered (after (checked t) (Not NoRoom) Clear) responseBytes) (33 ∷ []) (RoomFails room 9) 9 →
+        WrittenExactly (after (checked t) (Refused NoRoom) (Length 9)) (33 ∷ []) (RoomFails room 9) 9
+    go true x = subst (λ (n : ℕ). WrittenExactly (Length n) (33 ∷ []) (RoomFails room 9) 9) length-response x
+    go false x = x
