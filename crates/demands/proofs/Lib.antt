@@ -30,3 +30,4 @@ pub mod WriteBack
 pub mod Answered
 pub mod AnswerKept
 pub mod CallKept
+pub mod FieldCopied
