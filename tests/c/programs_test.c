@@ -67,14 +67,20 @@ static void get_all(int fd, struct text *text)
         give_up("read");
 }
 
+static int opened(const char *path, int how)
+{
+    int fd = open(path, how | O_CLOEXEC);
+    if (fd < 0)
+        give_up(path);
+    return fd;
+}
+
 static void get_file(const char *folder, const char *name, const char *file, struct text *text)
 {
     char path[ROOM];
     int fd;
     snprintf(path, sizeof path, "%s/%s/%s", folder, name, file);
-    fd = open(path, O_RDONLY | O_CLOEXEC);
-    if (fd < 0)
-        give_up(path);
+    fd = opened(path, O_RDONLY);
     get_all(fd, text);
     close(fd);
 }
@@ -236,7 +242,7 @@ static void from_files(const struct program *program)
     int in = holding(program->message.bytes, program->message.len);
     reads_whole(program, "a file", &plain, in);
     close(in);
-    in = open("/dev/null", O_RDONLY | O_CLOEXEC);
+    in = opened("/dev/null", O_RDONLY);
     on_input(program, "an empty input", &plain, in, refused_2, sizeof refused_2 - 1, NULL);
     close(in);
     for (i = 0; i < sizeof too_long / sizeof *too_long; i++) {
@@ -248,10 +254,10 @@ static void from_files(const struct program *program)
 
 static void from_what_cannot_be_read(const struct program *program)
 {
-    int in = open("/", O_RDONLY | O_DIRECTORY | O_CLOEXEC);
+    int in = opened("/", O_RDONLY | O_DIRECTORY);
     cannot_read(program, "a directory", &plain, in);
     close(in);
-    in = open("/dev/null", O_WRONLY | O_CLOEXEC);
+    in = opened("/dev/null", O_WRONLY);
     cannot_read(program, "an input that is open for writing alone", &plain, in);
     close(in);
     cannot_read(program, "a closed input", &plain, CLOSED);
@@ -320,10 +326,10 @@ static void with_reads(const struct program *program, const char *preload, const
 
 static void to_what_has_no_room(const struct program *program)
 {
-    int out = open("/dev/full", O_WRONLY | O_CLOEXEC);
+    int out = opened("/dev/full", O_WRONLY);
     cannot_write(program, "a full device", &plain, out);
     close(out);
-    out = open("/dev/null", O_RDONLY | O_CLOEXEC);
+    out = opened("/dev/null", O_RDONLY);
     cannot_write(program, "an output that is open for reading alone", &plain, out);
     close(out);
     cannot_write(program, "a closed output", &plain, CLOSED);
@@ -416,6 +422,8 @@ int main(int argc, char **argv)
     /* With 0, 1 and 2 open, no file below gets one of these numbers. */
     while ((fd = open("/dev/null", O_RDWR | O_CLOEXEC)) >= 0 && fd < 3) {}
     close(fd);
+    /* A program that ends early fails its test and ends no other. */
+    signal(SIGPIPE, SIG_IGN);
     for (i = 0; i < sizeof names / sizeof *names; i++) {
         struct program program;
         program.name = names[i];
