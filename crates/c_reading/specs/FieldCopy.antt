@@ -1,5 +1,5 @@
--- A copy of a field's own bytes. A record that doesn't fit the message is refused 6, with field 0 since which field it is isn't
--- told; then check 33.
+-- A copy of a field's own bytes. A record that doesn't fit the message is refused 6, before check 33. The refusal's field is
+-- 0: the call isn't told which field it copies.
 use Prim.Native.Nat.{ℕ}
 use mathlib.Core.List.{List}
 use Rattle.wire.specs.declared.refusal.Refusal.the-variants.{PastEnd}
