@@ -131,8 +131,9 @@ enum {
 /* Answers 0. */
 uint64_t dialtable_read_nl_auth(const uint8_t *msg, size_t msg_len, uint64_t *numbers, size_t numbers_len);
 
-/* Copies a field's own bytes out of this message; none for a field that doesn't fit it. Answers how many. (Of a message
- * that was taken, they also stand at msg + offset.) */
+/* Copies a field's own bytes out of this message. Answers how many. An offset and length that don't fit this message, so
+ * that offset + len is more than msg_len, are refused 6 with field 0, before 33; those of a message that was taken fit it.
+ * (Its bytes also stand at msg + offset.) */
 uint64_t dialtable_field_bytes(const uint8_t *msg, size_t msg_len, uint32_t offset, uint16_t len, uint8_t *out,
                                size_t out_len);
 

@@ -222,7 +222,7 @@ line_calls! {
     nl_auth_program_line => dialtable_nl_auth_program_line;
 }
 
-/// Copies a field's own bytes.
+/// Copies a field's own bytes; what doesn't fit the message is refused 6.
 pub fn field_bytes(message: &[u8], offset: u32, len: u16, out: &mut [u8]) -> u64 {
     unsafe {
         c::dialtable_field_bytes(

@@ -124,9 +124,14 @@ fn fields_are_copied_where_there_is_room() {
     assert_eq!(user.copy(&message, &mut out), Ok(&b"b\0o\0x\x007\0"[..]));
     assert_eq!(out[8..], [0xEE, 0xEE]);
     assert_eq!(refusal(user.copy(&message, &mut out[..7])), (33, 0));
-    // A record of another message.
-    assert_eq!(user.copy(&message[..90], &mut out), Ok(&[][..]));
+    // A record of another message. It is refused before 33.
+    let mut out = [0xEE; 10];
+    assert_eq!(refusal(user.copy(&message[..95], &mut out)), (6, 0));
+    assert_eq!(refusal(user.copy(&message[..90], &mut [])), (6, 0));
+    assert_eq!(out, [0xEE; 10]);
     assert_eq!(user.bytes(&message[..90]), b"");
+    let up_to_it = &message[..96];
+    assert_eq!(user.copy(up_to_it, &mut out), Ok(&b"b\0o\0x\x007\0"[..]));
 }
 
 #[test]

@@ -8,28 +8,36 @@ ghost use Rattle.authenticate.specs.Authenticate.{readAuthenticate};
 ghost use Rattle.challenge.specs.Challenge.{readChallenge, timestampOf, serverNamesOf};
 ghost use Rattle.negotiate.specs.Negotiate.{readNegotiate};
 ghost use Rattle.nl_auth.specs.NlAuth.{readNlAuth};
+ghost use Rattle.wire.specs.Check.{checked};
+ghost use Rattle.field.specs.Field.{fits};
+ghost use Rattle.c_number.specs.Number.{writtenNumber};
+ghost use Rattle.c_reading.specs.FieldCopy.{fieldCopyAnswer, fieldCopyOut};
 ghost use Rattle.c_number.specs.Outcome.{callNumber, callOut, twoArrayNumber, twoArrayOut, twoArrayBytes};
 use authenticate::Authenticate;
 use authenticate::Reading as AuthenticateReading;
 use c_number::bit;
+use c_number::copy;
 use c_number::give;
 use c_number::give_bytes;
 use c_number::len_of;
 use c_number::offset_of;
 use c_number::refusal_number;
 use c_number::rooms_hold;
+use c_number::written_number;
 use challenge::Challenge;
 use challenge::Reading as ChallengeReading;
 use challenge::ServerNames;
 use challenge::ServerNamesReading;
 use challenge::Timestamp;
 use challenge::TimestampReading;
+use field::Field;
 use negotiate::Negotiate;
 use negotiate::Reading as NegotiateReading;
 use nl_auth::NlAuth;
 use nl_auth::Reading as NlAuthReading;
 use place::written::room_holds;
 use wire::check::Checked;
+use wire::check::check;
 use wire::refusal::Refusal;
 
 fn negotiate_numbers(m: Negotiate) -> [u64; 5]
@@ -227,4 +235,26 @@ pub fn read_nl_auth(msg: &[u8], numbers: &mut [u64]) -> u64
         NlAuthReading::Taken(m) => give(numbers, &nl_auth_numbers(m)),
         NlAuthReading::Refused(e) => refusal_number(e),
     }
+}
+
+// Whether a field's record fits a message. The sum is taken in 64 bits, where it can't wrap.
+fn record_fits(f: Field, msg: &[u8]) -> Checked
+    ensures { λ r. ⌜ r ≡ checked (fits (now (msg .entry)) f) ⌝ }
+{
+    check(f.offset as u64 + f.len as u64 <= msg.len() as u64)
+}
+
+// Copies a field's own bytes; a record that doesn't fit this message is no field of it.
+pub fn field_bytes(msg: &[u8], offset: u32, len: u16, out: &mut [u8]) -> u64
+    ensures answer { λ r. ⌜ r ≡ writtenNumber (fieldCopyAnswer (now (msg .entry)) (record { offset = offset; len = len }) (now (out .entry))) ⌝ }
+    ensures content { λ _. ⌜ now (out .exit) ≡ fieldCopyOut (now (msg .entry)) (record { offset = offset; len = len }) (now (out .entry)) ⌝ }
+{
+    let f = Field {
+        offset: offset,
+        len: len,
+    };
+    let Checked::Held = record_fits(f, msg) else {
+        return refusal_number(Refusal::PastEnd(0));
+    };
+    written_number(copy(out, f.bytes(msg)))
 }

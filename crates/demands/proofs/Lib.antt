@@ -45,3 +45,4 @@ pub mod Deciding
 pub mod DomainSent
 pub mod ToSend
 pub mod Answering
+pub mod FieldCopied

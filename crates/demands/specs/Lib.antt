@@ -19,3 +19,4 @@ pub mod Asking
 pub mod WrittenExactly
 pub mod SearchedExactly
 pub mod Answering
+pub mod FieldCopied

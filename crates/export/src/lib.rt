@@ -2,7 +2,6 @@
 // number.
 ghost use mathlib.Core.Path.{_≡_};
 ghost use lib.ListN.{length};
-ghost use Rattle.field.specs.Field.{fieldBytes};
 ghost use Rattle.place.specs.Written.{bytesAnswer, bytesAfter};
 ghost use Rattle.av_pairs.specs.AvPairs.{checkPairs, countPairs, findPair, askAt};
 ghost use Rattle.authenticate.specs.Authenticate.{readAuthenticate};
@@ -19,6 +18,7 @@ ghost use Rattle.respond.specs.Decision.{defaults, decisionOn};
 ghost use Rattle.respond.specs.Domain.{domainToSend};
 ghost use Rattle.c_number.specs.Number.{verdictNumber, writtenNumber};
 ghost use Rattle.c_number.specs.Outcome.{callNumber, callOut, twoArrayNumber, twoArrayOut, twoArrayBytes};
+ghost use Rattle.c_reading.specs.FieldCopy.{fieldCopyAnswer, fieldCopyOut};
 ghost use Rattle.c_reading.specs.Numbers.{negotiateOutcome, authenticateOutcome, challengeOutcome, timestampOutcome, serverNamesOutcome, nlAuthOutcome};
 ghost use Rattle.c_pairs.specs.Pairs.{countOutcome, searchOutcome, askedOutcome};
 ghost use Rattle.c_respond.specs.Respond.{settingsOf, decidedOutcome, respondedNumber, respondedNumbers, respondedOut};
@@ -27,7 +27,6 @@ use c_number::copy;
 use c_number::line_number;
 use c_number::verdict_number;
 use c_number::written_number;
-use field::Field;
 use negotiate_flags::NegotiateFlags;
 use nl_auth_flags::NlAuthFlags;
 use nl_auth_writing::write_request;
@@ -327,14 +326,10 @@ pub extern "C" fn dialtable_check_pairs(list: &[u8]) -> u64
 
 #[no_mangle]
 pub extern "C" fn dialtable_field_bytes(msg: &[u8], offset: u32, len: u16, out: &mut [u8]) -> u64
-    ensures answer { λ r. ⌜ r ≡ writtenNumber (bytesAnswer (fieldBytes (now (msg .entry)) (record { offset = offset; len = len })) (now (out .entry))) ⌝ }
-    ensures content { λ _. ⌜ now (out .exit) ≡ bytesAfter (fieldBytes (now (msg .entry)) (record { offset = offset; len = len })) (now (out .entry)) ⌝ }
+    ensures answer { λ r. ⌜ r ≡ writtenNumber (fieldCopyAnswer (now (msg .entry)) (record { offset = offset; len = len }) (now (out .entry))) ⌝ }
+    ensures content { λ _. ⌜ now (out .exit) ≡ fieldCopyOut (now (msg .entry)) (record { offset = offset; len = len }) (now (out .entry)) ⌝ }
 {
-    let f = Field {
-        offset: offset,
-        len: len,
-    };
-    written_number(copy(out, f.bytes(msg)))
+    c_reading::field_bytes(msg, offset, len, out)
 }
 
 #[no_mangle]

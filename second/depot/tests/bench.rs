@@ -22,6 +22,11 @@ fn program(name: &str) -> PathBuf {
             ("counts", "wc -c | tr -d ' '; exit"),
             ("fails", "echo 'refused 2 field=0'; exit 3"),
             ("prints_nothing", ":"),
+            ("says_why", "echo 'the input could not be read' >&2"),
+            (
+                "prints_and_says_why",
+                "echo 'refused 2 field=0'; echo 'the line could not be written' >&2",
+            ),
         ];
         for (name, script) in scripts {
             let path = folder.join(name);
@@ -122,6 +127,12 @@ fn a_program_that_fails_is_a_difference() {
     let cases = [
         ("fails", "refuses", "the proved program gave no line"),
         ("refuses", "fails", "the second program gave no line"),
+        ("says_why", "refuses", "the proved program gave no line"),
+        (
+            "prints_and_says_why",
+            "refuses",
+            "the proved program gave no line",
+        ),
         (
             "prints_nothing",
             "prints_nothing",

@@ -177,6 +177,8 @@ mod tests {
             ("printf 'one\\ntwo'", Fault::NoLine),
             ("printf 'one\\ntwo\\n'", Fault::MoreLines),
             ("echo one; echo two >&2", Fault::StandardError),
+            ("echo why >&2", Fault::StandardError),
+            ("printf one; echo why >&2", Fault::StandardError),
         ];
         for (script, fault) in cases {
             assert_eq!(shell(script, b""), Answer::Fault(fault), "{script}");

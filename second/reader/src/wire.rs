@@ -68,12 +68,13 @@ pub struct Field<'a> {
 }
 
 /// "Each field's place and bytes": the `len` bytes of `message` from `offset`
-/// on, and none where the message doesn't reach so far.
-pub fn field_bytes(message: &[u8], offset: u32, len: u16) -> &[u8] {
+/// on. Where the message doesn't reach so far it is no field of it: refused 6,
+/// with no field's number.
+pub fn field_bytes(message: &[u8], offset: u32, len: u16) -> Result<&[u8], Refusal> {
     Head { len, offset }
         .slice_of(message)
-        .unwrap_or_default()
-        .bytes
+        .map(|field| field.bytes)
+        .ok_or(Reason::FieldPastEnd.of_message())
 }
 
 impl Field<'_> {

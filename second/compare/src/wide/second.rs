@@ -80,7 +80,7 @@ fn call_of(call: &Call<'_>, out: &mut [u8], numbers: &mut [u64]) -> Result<usize
             message,
             offset,
             len,
-        } => copy(field_bytes(message, offset, len), out),
+        } => copy(field_bytes(message, offset, len)?, out),
         Call::CheckPairs { list } => TargetInfo(list).count().map(|_| 0),
         Call::CountPairs { list } => {
             put(numbers, &[TargetInfo(list).count()? as u64]);

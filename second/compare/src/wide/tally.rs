@@ -18,7 +18,7 @@ const OF_WRITING: [(u8, &[u8]); 6] = [
 
 /// Numbers, their fields and the readings and writings that can refuse by them:
 /// each must have done so itself, since kinds of message share numbers.
-const OF_CALLS: [(&[u8], &[u8], &[&str]); 15] = [
+const OF_CALLS: [(&[u8], &[u8], &[&str]); 16] = [
     (
         &[1, 2, 4, 33],
         &[0],
@@ -51,6 +51,7 @@ const OF_CALLS: [(&[u8], &[u8], &[&str]); 15] = [
     (&[14, 30, 33], &[0], &["write_nl_auth_request"]),
     (&[34], &[1, 2, 3, 4, 5], &["write_nl_auth_request"]),
     (&[33], &[0], &["write_nl_auth_response"]),
+    (&[6, 33], &[0], &["field_bytes"]),
 ];
 
 /// The calls that are given two inputs which only secrets tell apart.
@@ -68,6 +69,12 @@ const WITH_SECRETS: [&str; 8] = [
 /// All refusals, by their numbers.
 fn refusals() -> Vec<(u8, &'static [u8])> {
     let mut all = [&REFUSALS[..], &OF_WRITING].concat();
+    for (number, fields) in &mut all {
+        if *number == 6 {
+            // 0 is for a copy of a field that doesn't fit its message.
+            *fields = &[0, 1, 2, 3, 4, 5, 6];
+        }
+    }
     all.sort_by_key(|(number, _)| *number);
     all
 }

@@ -158,6 +158,32 @@ fn another_field_of_a_refusal_is_found() {
 }
 
 #[test]
+fn a_field_that_does_not_fit_and_is_copied_as_empty_is_found() {
+    found(
+        "DIFFERENT",
+        "field_bytes",
+        planted(|call, answer, _, _| match (call, refusal(answer)) {
+            (Call::FieldBytes { .. }, Some((6, 0))) => 0,
+            _ => answer,
+        }),
+    );
+}
+
+#[test]
+fn a_copy_whose_room_is_looked_at_first_is_found() {
+    found(
+        "DIFFERENT",
+        "field_bytes",
+        planted(|call, answer, out, _| match (call, refusal(answer)) {
+            (Call::FieldBytes { len, .. }, Some((6, 0))) if out.len() < usize::from(*len) => {
+                refused(33, 0)
+            }
+            _ => answer,
+        }),
+    );
+}
+
+#[test]
 fn a_short_array_that_is_read_for_is_found() {
     found(
         "DIFFERENT",
