@@ -20,15 +20,15 @@ use c_number::refusal_number;
 use c_number::rooms_hold;
 use challenge::Challenge;
 use challenge::Reading as ChallengeReading;
-use challenge::ServerNames;
 use challenge::ServerNamesReading;
-use challenge::Timestamp;
 use challenge::TimestampReading;
 use negotiate::Negotiate;
 use negotiate::Reading as NegotiateReading;
 use nl_auth::NlAuth;
 use nl_auth::Reading as NlAuthReading;
 use place::written::room_holds;
+use target_info::ServerNames;
+use target_info::Timestamp;
 use wire::check::Checked;
 use wire::refusal::Refusal;
 

@@ -6,8 +6,8 @@ use Rattle.wire.specs.declared.refusal.Refusal.the-variants.{NoRoom}
 use Rattle.wire.specs.Check.{after}
 use Rattle.wire.specs.Number.{has}
 use Rattle.place.specs.Written.{roomHolds, atFront}
-use Rattle.challenge.specs.declared.Timestamp.{Timestamp}
-use Rattle.challenge.specs.declared.Timestamp.the-variants.{Time, Nothing}
+use Rattle.target_info.specs.declared.Timestamp.{Timestamp}
+use Rattle.target_info.specs.declared.Timestamp.the-variants.{Time, Nothing}
 use Rattle.respond.specs.declared.answer.Answered.{Answered}
 use Rattle.respond.specs.declared.answer.Answered.the-variants.{Sent, Refused}
 use Rattle.respond.specs.declared.decision.Decided.{Decided}

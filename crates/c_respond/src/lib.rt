@@ -9,11 +9,11 @@ ghost use Rattle.c_respond.specs.Respond.{settingsOf, decisionNumbers, d
 use c_number::bit;
 use c_number::give;
 use c_number::refusal_number;
-use challenge::Timestamp;
 use place::written::room_holds;
 use respond::answer::Answered;
 use respond::decision::Decided;
 use respond::decision::Settings;
+use target_info::Timestamp;
 use wire::check::Checked;
 use wire::number::has;
 use wire::refusal::Refusal;
