@@ -3,14 +3,13 @@ use Prim.Native.Nat.{ℕ, zero, suc, _+_, _-_}
 use mathlib.Core.Bool.{Bool, true, false, _&&_, cond}
 use mathlib.Core.List.{List, [], _∷_}
 use lib.Dec.{leb, eqb}
-use lib.ListN.{length}
+use lib.ListN.{length, take, drop}
 use Rattle.av_id.specs.declared.AvId.{AvId}
 use Rattle.wire.specs.declared.check.Checked.{Checked}
 use Rattle.wire.specs.declared.check.Verdict.{Verdict}
 use Rattle.wire.specs.declared.check.Verdict.the-variants.{Clear, Refused as Not}
-use Rattle.wire.specs.declared.refusal.Refusal.{Refusal}
-use Rattle.wire.specs.declared.refusal.Refusal.the-variants.{TooLong, PairPastEnd, PairMissing, WrongEndPair, WrongPairSize}
-use Rattle.av_id.specs.AvId.{isEnd, sizeAllowed, sameId, implies}
+use Rattle.wire.specs.declared.refusal.Refusal.the-variants.{PairPastEnd, PairMissing, WrongEndPair, WrongPairSize}
+use Rattle.av_id.specs.AvId.{isEnd, sizeAllowed, implies}
 use Rattle.wire.specs.Check.{checked, after, onClear}
 use Rattle.wire.specs.Number.{u16At}
 use Rattle.av_pairs.specs.declared.AvPair.{AvPair}
@@ -21,8 +20,6 @@ use Rattle.av_pairs.specs.declared.Count.{Count}
 use Rattle.av_pairs.specs.declared.Count.the-variants.{Pairs, Refused as Uncounted}
 use Rattle.av_pairs.specs.declared.Found.{Found}
 use Rattle.av_pairs.specs.declared.Found.the-variants.{At, Nothing}
-use Rattle.av_pairs.specs.declared.Search.{Search}
-use Rattle.av_pairs.specs.declared.Search.the-variants.{Done, Refused as Unsearched}
 
 -- how many bytes are left from a place on
 unfoldable pub left : List ℕ → ℕ → ℕ
@@ -75,6 +72,14 @@ onStep (Refused e) pair stop = stop (Not e)
 unfoldable pub askAt : List ℕ → ℕ → Asked
 askAt s at = record { step = stepAt s at; next = onStep (stepAt s at) endOf (λ v. at) }
 
+-- the pair at a place, or nothing at the end or a fault
+unfoldable pub pairAt : List ℕ → ℕ → Found
+pairAt s at = onStep (stepAt s at) At (λ v. Nothing)
+
+-- a pair's value
+abbrev pub valueIn : List ℕ → AvPair → List ℕ
+valueIn s p = take (p .len) (drop (p .at) s)
+
 -- the pairs from a place on, before the end or the first fault, in at most so many steps
 abbrev pub pairsFrom : ℕ → List ℕ → ℕ → List AvPair
 pairsFrom zero s at = []
@@ -97,24 +102,7 @@ checkPairs s = stopFrom (suc (length s)) s 0
 unfoldable pub countPairs : List ℕ → Count
 countPairs s = onClear Uncounted (checkPairs s) (Pairs (length (pairsOf s)))
 
--- whether a search found a pair
+-- whether a pair was found
 abbrev pub isThere : Found → Bool
 isThere (At p) = true
 isThere Nothing = false
-
--- the first pair whose id answers a question with yes
-abbrev pub firstBy : (AvId → Bool) → List AvPair → Found
-firstBy is [] = Nothing
-firstBy is (p ∷ ps) = cond (is (p .id)) (At p) (firstBy is ps)
-
-unfoldable pub firstPair : AvId → List ℕ → Found
-firstPair id s = firstBy (sameId id) (pairsOf s)
-
--- a search: checks 10 to 13 on the whole list, which refuse, and then the first pair with the id
-unfoldable pub findPair : AvId → List ℕ → Search
-findPair id s = onClear Unsearched (checkPairs s) (Done (firstPair id s))
-
--- the refusal of a search that was refused (asked only then)
-abbrev pub searchRefusal : Search → Refusal
-searchRefusal (Done f) = TooLong
-searchRefusal (Unsearched e) = e

@@ -1,11 +1,7 @@
 // TargetInfo (MS-NLMP 2.2.2.1): a list of AvPairs, each an id, a length and a value, up to the end pair.
 ghost use mathlib.Core.Path.{_≡_};
-ghost use Prim.Native.Nat.{suc, _+_, _-_, _≤_, _<_, _^_};
-ghost use lib.ListN.{length};
-ghost use Rattle.wire.specs.Check.{onClear};
-ghost use Rattle.av_pairs.specs.declared.Found.the-variants.{At};
-ghost use Rattle.av_pairs.specs.declared.Search.the-variants.{Done, Refused as Unsearched};
-ghost use Rattle.av_pairs.specs.AvPairs.{left, pairThere, endPairHolds, valueInside, sizeHolds, pairOf, stepAt, stopFrom, countPairs, checkPairs, firstPair, findPair, searchRefusal, isThere, askAt};
+ghost use Prim.Native.Nat.{_+_, _<_, _^_};
+ghost use Rattle.av_pairs.specs.AvPairs.{left, pairThere, endPairHolds, valueInside, sizeHolds, pairOf, stepAt, askAt, countPairs, checkPairs, pairAt, isThere};
 use av_id::AvId;
 use wire::check::Checked;
 use wire::check::Verdict;
@@ -41,15 +37,10 @@ pub enum Count {
     Refused(Refusal),
 }
 
+// A pair that was looked for, or that none is there.
 pub enum Found {
     At(AvPair),
     Nothing,
-}
-
-// What a search answers: what it found in a list without fault, or the refusal of the list.
-pub enum Search {
-    Done(Found),
-    Refused(Refusal),
 }
 
 // How many bytes are left from a place on.
@@ -168,11 +159,11 @@ pub fn count_pairs(list: &[u8]) -> Count
     count
 }
 
-// Checks 10 to 13 from a place on.
-fn check_from(list: &[u8], start: usize) -> Verdict
-    ensures { λ r. ⌜ r ≡ stopFrom (suc (length (now (list .entry)) - start)) (now (list .entry)) start ⌝ }
+// Checks 10 to 13 over the whole list, without the count.
+pub fn check_pairs(list: &[u8]) -> Verdict
+    ensures { λ r. ⌜ r ≡ checkPairs (now (list .entry)) ⌝ }
 {
-    let mut at = start;
+    let mut at: usize = 0;
     let verdict = loop {
         match step_at(list, at) {
             Step::Pair(p) => {
@@ -185,59 +176,15 @@ fn check_from(list: &[u8], start: usize) -> Verdict
     verdict
 }
 
-// Checks 10 to 13 over the whole list, without the count.
-pub fn check_pairs(list: &[u8]) -> Verdict
-    ensures { λ r. ⌜ r ≡ checkPairs (now (list .entry)) ⌝ }
+// The pair at a place, or nothing at the end or a fault: a step over a list whose checks are made elsewhere.
+pub fn pair_at(list: &[u8], at: usize) -> Found
+    ensures { λ r. ⌜ r ≡ pairAt (now (list .entry)) at ⌝ }
 {
-    check_from(list, 0)
-}
-
-// The first pair with the id before the end or the first fault.
-pub fn first_pair(list: &[u8], id: AvId) -> Found
-    ensures { λ r. ⌜ r ≡ firstPair id (now (list .entry)) ⌝ }
-{
-    let mut at: usize = 0;
-    let found = loop {
-        let Step::Pair(p) = step_at(list, at) else {
-            break Found::Nothing;
-        };
-        if p.id.same(id) {
-            break Found::At(p);
-        }
-        at = p.at + p.len as usize;
-    };
-    found
-}
-
-// A pair that was found is the answer, unless a fault stands behind it.
-fn found_at(list: &[u8], p: AvPair) -> Search
-    requires { ⌜ p .at + p .len ≤ length (now list) ⌝ }
-    ensures { λ r. ⌜ r ≡ onClear Unsearched (stopFrom (suc (length (now (list .entry)) - (p .at + p .len))) (now (list .entry)) (p .at + p .len)) (Done (At p)) ⌝ }
-{
-    match check_from(list, p.at + p.len as usize) {
-        Verdict::Clear => Search::Done(Found::At(p)),
-        Verdict::Refused(e) => Search::Refused(e),
+    match step_at(list, at) {
+        Step::Pair(p) => Found::At(p),
+        Step::End => Found::Nothing,
+        Step::Refused(_) => Found::Nothing,
     }
-}
-
-// The first pair with the id in a list without fault. One pass: the checks are made up to the pair, and then behind it.
-pub fn find_pair(list: &[u8], id: AvId) -> Search
-    ensures { λ r. ⌜ r ≡ findPair id (now (list .entry)) ⌝ }
-{
-    let mut at: usize = 0;
-    let search = loop {
-        match step_at(list, at) {
-            Step::Pair(p) => {
-                if p.id.same(id) {
-                    break found_at(list, p);
-                }
-                at = p.at + p.len as usize;
-            }
-            Step::End => break Search::Done(Found::Nothing),
-            Step::Refused(e) => break Search::Refused(e),
-        }
-    };
-    search
 }
 
 impl Found {
@@ -247,18 +194,6 @@ impl Found {
         match self {
             Found::At(_) => true,
             Found::Nothing => false,
-        }
-    }
-}
-
-impl Search {
-    // The refusal of a search that was refused; callers ask for it only then.
-    pub fn refusal(self) -> Refusal
-        ensures { λ r. ⌜ r ≡ searchRefusal self ⌝ }
-    {
-        match self {
-            Search::Refused(e) => e,
-            Search::Done(_) => Refusal::TooLong,
         }
     }
 }

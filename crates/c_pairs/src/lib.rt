@@ -1,18 +1,19 @@
 // The calls of the C interface over a pair list that is lent by itself.
 ghost use mathlib.Core.Path.{_≡_};
 ghost use lib.ListN.{length};
-ghost use Rattle.av_pairs.specs.AvPairs.{countPairs, findPair, askAt};
+ghost use Rattle.av_pairs.specs.AvPairs.{countPairs, askAt};
+ghost use Rattle.target_info.specs.TargetInfo.{findPair};
 ghost use Rattle.c_number.specs.Outcome.{callNumber, callOut};
 ghost use Rattle.c_pairs.specs.Pairs.{countOutcome, foundNumbers, searchOutcome, pairNumbers, askedOutcome};
 use av_id::AvId;
 use av_pairs::AvPair;
 use av_pairs::Count;
 use av_pairs::Found;
-use av_pairs::Search;
 use av_pairs::Step;
 use c_number::give;
 use c_number::refusal_number;
 use place::written::room_holds;
+use target_info::Search;
 use wire::check::Checked;
 use wire::refusal::Refusal;
 
@@ -47,7 +48,7 @@ pub fn find_pair(list: &[u8], id: u16, numbers: &mut [u64]) -> u64
     let Checked::Held = room_holds(3, numbers.len()) else {
         return refusal_number(Refusal::NoRoom);
     };
-    match av_pairs::find_pair(list, AvId { id: id }) {
+    match target_info::find_pair(list, AvId { id: id }) {
         Search::Done(found) => give(numbers, &found_numbers(found)),
         Search::Refused(e) => refusal_number(e),
     }

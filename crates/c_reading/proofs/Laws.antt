@@ -9,11 +9,11 @@ use Rattle.authenticate.specs.declared.Reading.the-variants.{Taken, Refused}
 use Rattle.challenge.specs.declared.Answer.{Answer as ChalAnswer}
 use Rattle.challenge.specs.declared.Challenge.{Challenge}
 use Rattle.challenge.specs.declared.Reading.the-variants.{Taken as ChalTaken, Refused as ChalRefused}
-use Rattle.challenge.specs.declared.ServerNames.{ServerNames}
+use Rattle.target_info.specs.declared.ServerNames.{ServerNames}
 use Rattle.challenge.specs.declared.ServerNamesReading.{ServerNamesReading}
 use Rattle.challenge.specs.declared.ServerNamesReading.the-variants.{Taken as NamesTaken, Refused as NamesRefused}
-use Rattle.challenge.specs.declared.Timestamp.{Timestamp}
-use Rattle.challenge.specs.declared.Timestamp.the-variants.{Time, Nothing}
+use Rattle.target_info.specs.declared.Timestamp.{Timestamp}
+use Rattle.target_info.specs.declared.Timestamp.the-variants.{Time, Nothing}
 use Rattle.challenge.specs.declared.TimestampReading.{TimestampReading}
 use Rattle.challenge.specs.declared.TimestampReading.the-variants.{Taken as TimeTaken, Refused as TimeRefused}
 use Rattle.negotiate.specs.declared.Negotiate.{Negotiate}

@@ -11,9 +11,9 @@ use Rattle.challenge.specs.declared.TimestampReading.{TimestampReading}
 use Rattle.challenge.specs.declared.TimestampReading.the-variants.{Taken as TimeTaken, Refused as TimeRefused}
 use Rattle.challenge.specs.declared.ServerNamesReading.{ServerNamesReading}
 use Rattle.challenge.specs.declared.ServerNamesReading.the-variants.{Taken as NamesTaken, Refused as NamesRefused}
-use Rattle.challenge.specs.declared.ServerNames.{ServerNames}
-use Rattle.challenge.specs.declared.Timestamp.{Timestamp}
-use Rattle.challenge.specs.declared.Timestamp.the-variants.{Time, Nothing}
+use Rattle.target_info.specs.declared.ServerNames.{ServerNames}
+use Rattle.target_info.specs.declared.Timestamp.{Timestamp}
+use Rattle.target_info.specs.declared.Timestamp.the-variants.{Time, Nothing}
 use Rattle.negotiate.specs.declared.Negotiate.{Negotiate}
 use Rattle.negotiate.specs.declared.Reading.{Reading as NegoReading}
 use Rattle.negotiate.specs.declared.Reading.the-variants.{Taken as NegoTaken, Refused as NegoRefused}

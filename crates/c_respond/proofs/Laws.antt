@@ -10,11 +10,10 @@ use Rattle.wire.specs.declared.check.Checked.{Checked}
 use Rattle.wire.specs.declared.check.Checked.the-variants.{Held, Failed}
 use Rattle.wire.specs.declared.refusal.Refusal.{Refusal}
 use Rattle.wire.specs.declared.refusal.Refusal.the-variants.{NoRoom}
-use Rattle.wire.specs.Number.{has}
 use Rattle.wire.proofs.Laws.{held-true}
 use Rattle.place.specs.Written.{roomHolds, atFront}
-use Rattle.challenge.specs.declared.Timestamp.{Timestamp}
-use Rattle.challenge.specs.declared.Timestamp.the-variants.{Time, Nothing}
+use Rattle.target_info.specs.declared.Timestamp.{Timestamp}
+use Rattle.target_info.specs.declared.Timestamp.the-variants.{Time, Nothing}
 use Rattle.respond.specs.declared.answer.Answer.{Answer}
 use Rattle.respond.specs.declared.answer.Answered.{Answered}
 use Rattle.respond.specs.declared.answer.Answered.the-variants.{Sent, Refused}
@@ -26,11 +25,14 @@ use Rattle.respond.specs.Answer.{respondAnswer, respondOut}
 use Rattle.respond.specs.Decision.{decisionOn}
 use Rattle.c_number.specs.Number.{refusalNumber, bit}
 use Rattle.c_number.specs.Outcome.{numbers, refused}
-use Rattle.c_respond.specs.Respond.{settingsOf, decisionNumbers, decidedOutcome, answeredNumber, answeredOut, respondedNumber, respondedNumbers, respondedOut}
+use Rattle.c_respond.specs.declared.settings.SettingsBits.{SettingsBits}
+use Rattle.c_respond.specs.Settings.{demand128, ntlmv2, integrity, confidentiality, settingsOf}
+use Rattle.c_respond.specs.Respond.{decisionNumbers, decidedOutcome, answeredNumber, answeredOut, respondedNumber, respondedNumbers, respondedOut}
 
-pub settings-are : (bits : ℕ) (a b c d : Bool) → a ≡ has bits 0x1 → b ≡ has bits 0x2 → c ≡ has bits 0x4 → d ≡ has bits 0x8 →
-    record { «demand_128» = a; ntlmv2 = b; integrity = c; confidentiality = d } ≡ settingsOf bits
-settings-are bits a b c d p q r s = simp (p, q, r, s)
+pub settings-are : (asked : SettingsBits) (a b c d : Bool) →
+    a ≡ demand128 asked → b ≡ ntlmv2 asked → c ≡ integrity asked → d ≡ confidentiality asked →
+    record { «demand_128» = a; ntlmv2 = b; integrity = c; confidentiality = d } ≡ settingsOf (asked .bits)
+settings-are asked a b c d p q r s = simp (p, q, r, s)
 
 module _ (flags : ℕ) (w : Timestamp) where
   pub timed : (t : ℕ) → w ≡ Time t → (flags ∷ 1 ∷ t ∷ []) ≡ decisionNumbers flags w

@@ -1,30 +1,18 @@
--- Answering a challenge by the C interface: settings as one number, the decision and the answer as numbers.
+-- Answering a challenge by the C interface: the decision and the answer as numbers.
 use Prim.Native.Nat.{ℕ}
 use mathlib.Core.List.{List, [], _∷_}
 use lib.ListN.{length}
 use Rattle.wire.specs.declared.refusal.Refusal.the-variants.{NoRoom}
 use Rattle.wire.specs.Check.{after}
-use Rattle.wire.specs.Number.{has}
 use Rattle.place.specs.Written.{roomHolds, atFront}
-use Rattle.challenge.specs.declared.Timestamp.{Timestamp}
-use Rattle.challenge.specs.declared.Timestamp.the-variants.{Time, Nothing}
+use Rattle.target_info.specs.declared.Timestamp.{Timestamp}
+use Rattle.target_info.specs.declared.Timestamp.the-variants.{Time, Nothing}
 use Rattle.respond.specs.declared.answer.Answered.{Answered}
 use Rattle.respond.specs.declared.answer.Answered.the-variants.{Sent, Refused}
 use Rattle.respond.specs.declared.decision.Decided.{Decided}
 use Rattle.respond.specs.declared.decision.Decided.the-variants.{Taken, Refused as Undecided}
-use Rattle.respond.specs.declared.decision.Settings.{Settings}
 use Rattle.c_number.specs.Number.{refusalNumber, bit}
 use Rattle.c_number.specs.Outcome.{Outcome, numbers, refused}
-
--- the settings' bits: 128-bit demanded, NTLMv2, integrity, confidentiality
-abbrev pub settingsOf : ℕ → Settings
-settingsOf bits =
-    record {
-      «demand_128» = has bits 0x1;
-      ntlmv2 = has bits 0x2;
-      integrity = has bits 0x4;
-      confidentiality = has bits 0x8;
-    }
 
 -- ---- the decision: flags, whether a timestamp is there, and its value
 

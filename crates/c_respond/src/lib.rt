@@ -5,33 +5,20 @@ ghost use lib.ListN.{length};
 ghost use Rattle.respond.specs.Answer.{respondAnswer, respondOut};
 ghost use Rattle.respond.specs.Decision.{defaults, decisionOn};
 ghost use Rattle.c_number.specs.Outcome.{callNumber, callOut};
-ghost use Rattle.c_respond.specs.Respond.{settingsOf, decisionNumbers, decidedOutcome, answeredNumber, answeredOut, respondedNumber, respondedNumbers, respondedOut};
+ghost use Rattle.c_respond.specs.Settings.{settingsOf};
+ghost use Rattle.c_respond.specs.Respond.{decisionNumbers, decidedOutcome, answeredNumber, answeredOut, respondedNumber, respondedNumbers, respondedOut};
+use crate::settings::SettingsBits;
 use c_number::bit;
 use c_number::give;
 use c_number::refusal_number;
-use challenge::Timestamp;
 use place::written::room_holds;
 use respond::answer::Answered;
 use respond::decision::Decided;
-use respond::decision::Settings;
+use target_info::Timestamp;
 use wire::check::Checked;
-use wire::number::has;
 use wire::refusal::Refusal;
 
-// The bits of the default settings: NTLMv2 alone.
-const DEFAULTS: u32 = 0x2;
-
-// The settings of the header's bits.
-fn settings_of(bits: u32) -> Settings
-    ensures { λ r. ⌜ r ≡ settingsOf bits ⌝ }
-{
-    Settings {
-        demand_128: has(bits, 0x1),
-        ntlmv2: has(bits, 0x2),
-        integrity: has(bits, 0x4),
-        confidentiality: has(bits, 0x8),
-    }
-}
+pub mod settings;
 
 fn decision_numbers(flags: u32, timestamp: Timestamp) -> [u64; 3]
     ensures { λ r. ⌜ r ≡ decisionNumbers flags timestamp ⌝ }
@@ -50,7 +37,7 @@ pub fn decide(settings: u32, challenge: &[u8], numbers: &mut [u64]) -> u64
     let Checked::Held = room_holds(3, numbers.len()) else {
         return refusal_number(Refusal::NoRoom);
     };
-    match respond::decision::decide(settings_of(settings), challenge) {
+    match respond::decision::decide(SettingsBits { bits: settings }.settings(), challenge) {
         Decided::Taken(d) => {
             let timestamp = d.timestamp;
             give(numbers, &decision_numbers(d.flags.bits, timestamp))
@@ -100,7 +87,7 @@ pub fn respond<'a>(
     let answered = respond::answer::respond(
         out,
         challenge,
-        settings_of(settings),
+        SettingsBits { bits: settings }.settings(),
         clock,
         version,
         mic,
@@ -136,7 +123,7 @@ pub fn respond_for_bench<'a>(
     respond(
         out,
         challenge,
-        DEFAULTS,
+        SettingsBits::DEFAULTS,
         clock,
         version,
         mic,
@@ -172,7 +159,7 @@ pub fn respond_to_old_server<'a>(
     respond(
         out,
         challenge,
-        DEFAULTS,
+        SettingsBits::DEFAULTS,
         clock,
         version,
         mic,
@@ -208,7 +195,7 @@ pub fn respond_for_relay<'a>(
     respond(
         out,
         challenge,
-        DEFAULTS,
+        SettingsBits::DEFAULTS,
         clock,
         version,
         mic,

@@ -15,7 +15,7 @@ use Rattle.place.specs.declared.written.Written.the-variants.{Length, Refused a
 use Rattle.place.specs.Written.{sizeHolds, roomHolds}
 use Rattle.authenticate_writing.specs.Writing.{authenticateBytes, checkNamesToWrite, keyHolds, sizeToWrite, checkToWrite, writeAnswer, writeOut}
 use Rattle.authenticate_writing.proofs.Sent.{length-message}
-use Rattle.challenge.specs.declared.Timestamp.{Timestamp}
+use Rattle.target_info.specs.declared.Timestamp.{Timestamp}
 use Rattle.respond.specs.declared.answer.Answered.the-variants.{Refused}
 use Rattle.respond.specs.declared.decision.Decided.{Decided}
 use Rattle.respond.specs.declared.decision.Decided.the-variants.{Taken as Decides, Refused as Declines}

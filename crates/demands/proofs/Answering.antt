@@ -12,7 +12,6 @@ use Rattle.place.specs.declared.written.Written.{Written}
 use Rattle.place.specs.declared.written.Written.the-variants.{Length, Refused as Unwritten}
 use Rattle.head.specs.Head.{flagsAt}
 use Rattle.authenticate_writing.specs.Writing.{writeAnswer, writeOut}
-use Rattle.challenge.specs.Challenge.{timestampIn}
 use Rattle.respond.specs.declared.answer.Answer.{Answer}
 use Rattle.respond.specs.declared.answer.Answered.{Answered}
 use Rattle.respond.specs.declared.answer.Answered.the-variants.{Sent, Refused as Unanswered}
@@ -23,6 +22,7 @@ use Rattle.respond.specs.declared.decision.Settings.{Settings}
 use Rattle.respond.specs.Answer.{micDue, answerWith, sendAnswer, sendOut, respondAnswer, respondOut}
 use Rattle.respond.specs.Decision.{decisionOn, onDecided}
 use Rattle.respond.specs.Domain.{domainToSend}
+use Rattle.target_info.specs.TargetInfo.{timestampIn}
 use Rattle.demands.specs.PairList.{PairThere}
 use Rattle.demands.specs.ReadBack.{AuthenticateBack}
 use Rattle.demands.specs.TakenExactly.{InfoBytes}

@@ -20,7 +20,8 @@ use Rattle.challenge.specs.declared.Reading.{Reading}
 use Rattle.challenge.specs.declared.Reading.the-variants.{Taken, Refused}
 use Rattle.challenge.specs.declared.ServerNamesReading.the-variants.{Taken as NamesTaken, Refused as NamesRefused}
 use Rattle.challenge.specs.declared.TimestampReading.the-variants.{Taken as TimeTaken, Refused as TimeRefused}
-use Rattle.challenge.specs.Challenge.{layout, fieldsAt, checkFields, fieldsOf, onTaken, infoOf, readingOf, serverChallenge, readChallenge, timestampIn, timestampOf, serverNamesIn, serverNamesOf}
+use Rattle.challenge.specs.Challenge.{layout, fieldsAt, checkFields, fieldsOf, onTaken, infoOf, readingOf, serverChallenge, readChallenge, timestampOf, serverNamesOf}
+use Rattle.target_info.specs.TargetInfo.{timestampIn, serverNamesIn}
 use Rattle.demands.specs.Message.{challenge, Fails, Ignored, DifferInIgnored}
 use Rattle.demands.specs.Ignored.{SameBytes, ChallengeIgnored}
 use Rattle.demands.proofs.Alike.{same-part}

@@ -17,16 +17,17 @@ use Rattle.wire.specs.Number.{u64At}
 use Rattle.av_pairs.specs.declared.AvPair.{AvPair}
 use Rattle.av_pairs.specs.declared.Found.{Found}
 use Rattle.av_pairs.specs.declared.Found.the-variants.{At, Nothing}
-use Rattle.av_pairs.specs.AvPairs.{checkPairs, pairsOf, firstBy, isThere}
+use Rattle.av_pairs.specs.AvPairs.{checkPairs, pairsOf, isThere}
 use Rattle.challenge.specs.declared.Challenge.{Challenge}
 use Rattle.challenge.specs.declared.Reading.{Reading}
 use Rattle.challenge.specs.declared.Reading.the-variants.{Taken, Refused}
-use Rattle.challenge.specs.declared.ServerNames.{ServerNames}
+use Rattle.target_info.specs.declared.ServerNames.{ServerNames}
 use Rattle.challenge.specs.declared.ServerNamesReading.the-variants.{Taken as NamesTaken, Refused as NamesRefused}
-use Rattle.challenge.specs.declared.Timestamp.{Timestamp}
-use Rattle.challenge.specs.declared.Timestamp.the-variants.{Time, Nothing as NoTime}
+use Rattle.target_info.specs.declared.Timestamp.{Timestamp}
+use Rattle.target_info.specs.declared.Timestamp.the-variants.{Time, Nothing as NoTime}
 use Rattle.challenge.specs.declared.TimestampReading.the-variants.{Taken as TimeTaken, Refused as TimeRefused}
-use Rattle.challenge.specs.Challenge.{fieldsAt, fieldsOf, onTaken, infoOf, readingOf, serverChallenge, readChallenge, timeOf, timestampIn, timestampOf, serverNamesIn, serverNamesOf}
+use Rattle.challenge.specs.Challenge.{fieldsAt, fieldsOf, onTaken, infoOf, readingOf, serverChallenge, readChallenge, timestampOf, serverNamesOf}
+use Rattle.target_info.specs.TargetInfo.{firstBy, timeOf, timestampIn, serverNamesIn}
 use Rattle.demands.specs.Message.{challenge, Fails}
 use Rattle.demands.specs.PairList.{FirstWith, PairThere}
 use Rattle.demands.specs.OwnBytes.{OwnField, ChallengeOwn, ChallengeRefusedZeros, TimestampOwn, NoTimestampThere, ServerNamesOwn}

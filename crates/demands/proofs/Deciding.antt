@@ -13,20 +13,21 @@ use Rattle.wire.specs.Number.{u64At}
 use Rattle.wire.specs.Refusal.{numberOf, fieldOf}
 use Rattle.wire.proofs.Laws.{held-true}
 use Rattle.av_id.specs.AvId.{isNbComputerName, isNbDomainName}
-use Rattle.av_pairs.specs.AvPairs.{pairsOf, firstBy, isThere}
+use Rattle.av_pairs.specs.AvPairs.{pairsOf, isThere}
 use Rattle.negotiate_flags.specs.Flags.{negotiate128}
 use Rattle.head.specs.Head.{flagsAt}
 use Rattle.challenge.specs.declared.Challenge.{Challenge}
 use Rattle.challenge.specs.declared.Reading.{Reading}
 use Rattle.challenge.specs.declared.Reading.the-variants.{Taken as Read, Refused as Unread}
-use Rattle.challenge.specs.declared.Timestamp.{Timestamp}
-use Rattle.challenge.specs.declared.Timestamp.the-variants.{Time, Nothing}
-use Rattle.challenge.specs.Challenge.{readingOf, readChallenge, onTaken, infoOf, timestampIn, serverNamesIn}
+use Rattle.target_info.specs.declared.Timestamp.{Timestamp}
+use Rattle.target_info.specs.declared.Timestamp.the-variants.{Time, Nothing}
+use Rattle.challenge.specs.Challenge.{readingOf, readChallenge, onTaken, infoOf}
 use Rattle.respond.specs.declared.decision.Decided.{Decided}
 use Rattle.respond.specs.declared.decision.Decided.the-variants.{Taken, Refused}
 use Rattle.respond.specs.declared.decision.Decision.{Decision}
 use Rattle.respond.specs.declared.decision.Settings.{Settings}
 use Rattle.respond.specs.Decision.{strengthHolds, serverNamesHold, decisionOn}
+use Rattle.target_info.specs.TargetInfo.{firstBy, timestampIn, serverNamesIn}
 use Rattle.demands.specs.PairList.{PairThere}
 use Rattle.demands.specs.TakenExactly.{InfoBytes, ChallengeHolds}
 use Rattle.demands.specs.Answering.{Fails20, Fails21, Agreed, Declined, by-reading, by-20, by-21, TimestampIs, DecisionRefusedWith, DecisionIsRefused, DecisionIsTaken}

@@ -12,7 +12,7 @@ use borrow.Author.Tests.{eqb-true, eqb-false, eq-eqb, ne-eqb, le-leb}
 use Rattle.av_id.specs.AvId.{isNbDomainName}
 use Rattle.av_pairs.specs.declared.Found.{Found}
 use Rattle.av_pairs.specs.declared.Found.the-variants.{At, Nothing}
-use Rattle.av_pairs.specs.AvPairs.{pairsOf, firstBy}
+use Rattle.av_pairs.specs.AvPairs.{pairsOf}
 use Rattle.field.specs.declared.Field.{Field}
 use Rattle.field.specs.Field.{isEmpty, fieldStart}
 use Rattle.head.specs.Head.{flagsAt}
@@ -22,6 +22,7 @@ use Rattle.challenge.specs.declared.Reading.{Reading}
 use Rattle.challenge.specs.declared.Reading.the-variants.{Taken, Refused}
 use Rattle.challenge.specs.Challenge.{fieldsAt, readingOf, readChallenge, onTaken, infoOf}
 use Rattle.respond.specs.Domain.{Part, ownPart, valuePart, onFound, domainPart}
+use Rattle.target_info.specs.TargetInfo.{firstBy}
 use Rattle.demands.specs.Message.{challenge, Set, Nonempty, lenOf, offsetOf, Fails}
 use Rattle.demands.specs.PairList.{sizeOf, PairAt, FirstWith, PairThere}
 use Rattle.demands.specs.TakenExactly.{InfoBytes, ChallengeHolds}

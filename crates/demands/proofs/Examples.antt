@@ -8,7 +8,7 @@ use Rattle.word.specs.Digits.{hexDigit, hex, decimalSize, decimal}
 use Rattle.word.specs.Name.{escape, unitText, textOf, nameText}
 use Rattle.word.specs.Words.{numberWord, nameWord, flagsWord, setWord, startText, micWord, kindWord}
 use Rattle.av_pairs.specs.AvPairs.{countPairs, checkPairs, pairsOf, stepAt, pairOf, left}
-use Rattle.challenge.specs.Challenge.{fieldsAt as challengeFieldsAt, checkEnds as challengeEnds, checkBegins as challengeBegins, checkNames as challengeNames, checkFields as challengeChecks, fieldsOf, readingOf as challengeReadingOf, readChallenge, timestampIn, timestampOf, serverNamesIn, serverNamesOf}
+use Rattle.challenge.specs.Challenge.{fieldsAt as challengeFieldsAt, checkEnds as challengeEnds, checkBegins as challengeBegins, checkNames as challengeNames, checkFields as challengeChecks, fieldsOf, readingOf as challengeReadingOf, readChallenge, timestampOf, serverNamesOf}
 use Rattle.negotiate.specs.Negotiate.{fieldsAt as negotiateFieldsAt, checkEnds as negotiateEnds, checkBegins as negotiateBegins, checkFields as negotiateChecks, readNegotiate}
 use Rattle.negotiate_writing.specs.Writing.{flagsToWrite, fieldsTo as negotiateFieldsTo, afterType, fixedBytes as negotiateFixed, negotiateBytes, checkToWrite as negotiateCheck, writeAnswer as negotiateAnswer, writeOut as negotiateOut}
 use Rattle.authenticate.specs.Authenticate.{fieldsAt, checkEnds, checkBegins, checkNames, checkShared, checkFields, micPresent, readingOf, readAuthenticate}
@@ -17,14 +17,15 @@ use Rattle.nl_auth_writing.specs.Writing.{headBytes as nlHeadBytes, stringBytes
 use Rattle.respond.specs.Domain.{domainPart}
 use Rattle.respond.specs.Decision.{decisionOn}
 use Rattle.respond.specs.Answer.{lmToSend, micToSend, keyToSend, sendAnswer, sendOut, respondAnswer, respondOut}
-use Rattle.line_chal.specs.Chal.{timeText, timeWord, chalEnd, chalText}
+use Rattle.line_chal.specs.Chal.{timeText, timeWord, chalEnd, chalWords, chalText}
 use Rattle.line_nego.specs.Nego.{negoNames, negoText}
 use Rattle.line_auth.specs.Auth.{authNames, authLengths, authEnd, authText}
 use Rattle.line.specs.Line.{authenticateLine, challengeLine, negotiateLine, ntlmLine}
+use Rattle.target_info.specs.TargetInfo.{timestampIn, serverNamesIn}
 use Rattle.demands.specs.Examples.{ChallengeExample, NegotiateExample, AuthenticateExample, AnswerExample, NlAuthExample, ExamplesHold}
 
 challenge-example : ChallengeExample
-unfolding readChallenge challengeReadingOf fieldsOf challengeFieldsAt challengeEnds challengeBegins challengeNames challengeChecks readHead signatureHolds fieldAt fieldBytes countPairs checkPairs pairsOf stepAt pairOf left timestampIn timestampOf serverNamesIn serverNamesOf hexDigit hex decimalSize decimal escape unitText textOf nameText numberWord nameWord flagsWord setWord startText timeText timeWord chalEnd chalText challengeLine kindOf ntlmLine
+unfolding readChallenge challengeReadingOf fieldsOf challengeFieldsAt challengeEnds challengeBegins challengeNames challengeChecks readHead signatureHolds fieldAt fieldBytes countPairs checkPairs pairsOf stepAt pairOf left timestampIn timestampOf serverNamesIn serverNamesOf hexDigit hex decimalSize decimal escape unitText textOf nameText numberWord nameWord flagsWord setWord startText timeText timeWord chalEnd chalWords chalText challengeLine kindOf ntlmLine
 challenge-example = record { reading = refl; server-challenge = refl; pairs = refl; timestamp = refl; server-names = refl; line = refl }
 
 negotiate-example : NegotiateExample

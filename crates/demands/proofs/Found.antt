@@ -15,10 +15,11 @@ use Rattle.wire.specs.Check.{onClear}
 use Rattle.wire.specs.Refusal.{numberOf}
 use Rattle.av_pairs.specs.declared.Found.{Found}
 use Rattle.av_pairs.specs.declared.Found.the-variants.{At, Nothing}
-use Rattle.av_pairs.specs.declared.Search.the-variants.{Done, Refused as Unsearched}
+use Rattle.target_info.specs.declared.Search.the-variants.{Done, Refused as Unsearched}
 use Rattle.av_pairs.specs.declared.Step.{Step}
 use Rattle.av_pairs.specs.declared.Step.the-variants.{Pair, End, Refused}
-use Rattle.av_pairs.specs.AvPairs.{idAt, stepAt, endOf, onStep, pairsFrom, pairsOf, checkPairs, firstBy, firstPair, findPair}
+use Rattle.av_pairs.specs.AvPairs.{idAt, stepAt, endOf, onStep, pairsFrom, pairsOf, checkPairs}
+use Rattle.target_info.specs.TargetInfo.{firstBy, firstPair, findPair}
 use Rattle.demands.specs.PairList.{idOf, sizeOf, nextOf, PairAt, FirstWith, this, next}
 use Rattle.demands.specs.OwnBytes.{OwnPair, FoundOwn, NothingThere}
 use Rattle.demands.proofs.PairList.{JudgedS, step-judged, empty-step, pair-or-end, pair-or-fault}

@@ -24,7 +24,7 @@ use Rattle.nl_auth.specs.NlAuth.{readNlAuth}
 use Rattle.line_nego.specs.Nego.{negoNames, negoText}
 use Rattle.line_auth.specs.Auth.{authNames, authText}
 use Rattle.line.specs.Line.{negoLine, negotiateLine, authLine, authenticateLine, chalLine, challengeLine, lineAs, ntlmLine, nlLine, nlAuthLine}
-use Rattle.line_chal.specs.Chal.{chalText}
+use Rattle.line_chal.specs.Chal.{chalWords, chalText}
 use Rattle.line_nl.specs.Nl.{nlOem, nlUtf8, nlText}
 use Rattle.demands.specs.Ignored.{SameFields, SameNegotiate, SameChallenge, SameNlAuth, AuthenticateLineIgnored, NegotiateLineIgnored, ChallengeLineIgnored, NtlmLineIgnored, NlAuthLineIgnored}
 use Rattle.demands.specs.Message.{Format, negotiate, authenticate, challenge, DifferInIgnored}
@@ -61,7 +61,7 @@ nl-auth-line-ignored s t d =
     nl-line-same s t (readNlAuth s) w refl ∙ ap (λ (r : NlReading). nlLine t r) (w .answer)
 
 challenge-line-same : (s t : List ℕ) (r : ChallengeReading) → SameChallenge s t → readChallenge s .reading ≡ r → chalLine s r ≡ chalLine t r
-unfolding chalText
+unfolding chalText chalWords
 challenge-line-same s t (ChallengeTaken c) w e = simp (w .target-name c e, w .target-info c e)
 challenge-line-same s t (ChallengeRefused x) w e = refl
 

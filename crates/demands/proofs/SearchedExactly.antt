@@ -9,13 +9,14 @@ use Rattle.wire.specs.declared.check.Verdict.the-variants.{Clear, Refused as No
 use Rattle.wire.specs.Check.{onClear}
 use Rattle.wire.specs.Refusal.{numberOf}
 use Rattle.av_pairs.specs.declared.Count.the-variants.{Pairs, Refused as Uncounted}
-use Rattle.av_pairs.specs.declared.Search.the-variants.{Done, Refused as Unsearched}
-use Rattle.av_pairs.specs.AvPairs.{checkPairs, pairsOf, countPairs, firstPair, findPair}
+use Rattle.target_info.specs.declared.Search.the-variants.{Done, Refused as Unsearched}
+use Rattle.av_pairs.specs.AvPairs.{checkPairs, pairsOf, countPairs}
 use Rattle.challenge.specs.declared.Reading.{Reading}
 use Rattle.challenge.specs.declared.Reading.the-variants.{Taken, Refused}
 use Rattle.challenge.specs.declared.TimestampReading.the-variants.{Taken as TimeTaken, Refused as TimeRefused}
 use Rattle.challenge.specs.declared.ServerNamesReading.the-variants.{Taken as NamesTaken, Refused as NamesRefused}
-use Rattle.challenge.specs.Challenge.{onTaken, infoOf, readingOf, readChallenge, timestampIn, timestampOf, serverNamesIn, serverNamesOf}
+use Rattle.challenge.specs.Challenge.{onTaken, infoOf, readingOf, readChallenge, timestampOf, serverNamesOf}
+use Rattle.target_info.specs.TargetInfo.{firstPair, findPair, timestampIn, serverNamesIn}
 use Rattle.demands.specs.PairList.{Holds, ListFails}
 use Rattle.demands.specs.TakenExactly.{CountRefused, IsTakenChallenge, ChallengeRefusedWith}
 use Rattle.demands.specs.SearchedExactly.{ListRefusedWith, ListIsClear, ListIsRefused, IsDone, SearchRefusedWith, SearchIsDone, SearchIsRefused, IsTakenTimestamp, TimestampRefusedWith, TimestampIsTaken, TimestampIsRefused, IsTakenServerNames, ServerNamesRefusedWith, ServerNamesIsTaken, ServerNamesIsRefused}

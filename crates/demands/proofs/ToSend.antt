@@ -13,15 +13,15 @@ use Rattle.av_id.specs.AvId.{isNbDomainName}
 use Rattle.av_pairs.specs.declared.AvPair.{AvPair}
 use Rattle.av_pairs.specs.declared.Found.{Found}
 use Rattle.av_pairs.specs.declared.Found.the-variants.{At, Nothing as Unfound}
-use Rattle.av_pairs.specs.AvPairs.{pairsOf, firstBy}
+use Rattle.av_pairs.specs.AvPairs.{pairsOf}
 use Rattle.negotiate_flags.specs.Flags.{unicode, keyExch, sign, seal}
 use Rattle.head.specs.Head.{flagsAt}
-use Rattle.challenge.specs.declared.Timestamp.{Timestamp}
-use Rattle.challenge.specs.declared.Timestamp.the-variants.{Time, Nothing}
-use Rattle.challenge.specs.Challenge.{timestampIn}
+use Rattle.target_info.specs.declared.Timestamp.{Timestamp}
+use Rattle.target_info.specs.declared.Timestamp.the-variants.{Time, Nothing}
 use Rattle.respond.specs.declared.decision.Settings.{Settings}
 use Rattle.respond.specs.Answer.{micDue, timeToSend, lmToSend, micToSend, keyToSend}
 use Rattle.respond.specs.Domain.{Part, onFound, domainPart, domainToSend}
+use Rattle.target_info.specs.TargetInfo.{firstBy, timestampIn}
 use Rattle.demands.specs.Message.{challenge, Set}
 use Rattle.demands.specs.PairList.{sizeOf, FirstWith, PairThere}
 use Rattle.demands.specs.TakenExactly.{InfoBytes, ChallengeHolds}

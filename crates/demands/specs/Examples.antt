@@ -15,7 +15,7 @@ use Rattle.av_pairs.specs.declared.Count.the-variants.{Pairs}
 use Rattle.av_pairs.specs.AvPairs.{countPairs}
 use Rattle.challenge.specs.declared.Reading.the-variants.{Taken as ChallengeTaken}
 use Rattle.challenge.specs.declared.ServerNamesReading.the-variants.{Taken as NamesTaken}
-use Rattle.challenge.specs.declared.Timestamp.the-variants.{Time}
+use Rattle.target_info.specs.declared.Timestamp.the-variants.{Time}
 use Rattle.challenge.specs.declared.TimestampReading.the-variants.{Taken as TimeTaken}
 use Rattle.challenge.specs.Challenge.{readChallenge, timestampOf, serverNamesOf}
 use Rattle.negotiate.specs.declared.Reading.the-variants.{Taken as NegotiateTaken}

@@ -15,13 +15,13 @@ use Rattle.authenticate.specs.declared.Reading.the-variants.{Taken, Refused}
 use Rattle.authenticate.specs.Authenticate.{readAuthenticate}
 use Rattle.av_pairs.specs.declared.AvPair.{AvPair}
 use Rattle.av_pairs.specs.declared.Found.the-variants.{At, Nothing}
-use Rattle.av_pairs.specs.declared.Search.the-variants.{Done}
-use Rattle.av_pairs.specs.AvPairs.{findPair}
+use Rattle.target_info.specs.declared.Search.the-variants.{Done}
+use Rattle.target_info.specs.TargetInfo.{findPair}
 use Rattle.challenge.specs.declared.Challenge.{Challenge}
 use Rattle.challenge.specs.declared.Reading.the-variants.{Taken as ChallengeTaken, Refused as ChallengeRefused}
-use Rattle.challenge.specs.declared.Timestamp.the-variants.{Time, Nothing as NoTime}
+use Rattle.target_info.specs.declared.Timestamp.the-variants.{Time, Nothing as NoTime}
 use Rattle.challenge.specs.declared.TimestampReading.the-variants.{Taken as TimeTaken}
-use Rattle.challenge.specs.declared.ServerNames.{ServerNames}
+use Rattle.target_info.specs.declared.ServerNames.{ServerNames}
 use Rattle.challenge.specs.declared.ServerNamesReading.the-variants.{Taken as NamesTaken}
 use Rattle.challenge.specs.Challenge.{readChallenge, timestampOf, serverNamesOf}
 use Rattle.negotiate.specs.declared.Negotiate.{Negotiate}

@@ -9,14 +9,15 @@ use Rattle.wire.specs.declared.check.Verdict.{Verdict}
 use Rattle.wire.specs.declared.check.Verdict.the-variants.{Clear, Refused as Not}
 use Rattle.wire.specs.Refusal.{numberOf, fieldOf}
 use Rattle.av_id.specs.declared.AvId.{AvId}
-use Rattle.av_pairs.specs.declared.Search.{Search}
-use Rattle.av_pairs.specs.declared.Search.the-variants.{Done, Refused as Unsearched}
-use Rattle.av_pairs.specs.AvPairs.{checkPairs, findPair}
+use Rattle.target_info.specs.declared.Search.{Search}
+use Rattle.target_info.specs.declared.Search.the-variants.{Done, Refused as Unsearched}
+use Rattle.av_pairs.specs.AvPairs.{checkPairs}
 use Rattle.challenge.specs.declared.TimestampReading.{TimestampReading}
 use Rattle.challenge.specs.declared.TimestampReading.the-variants.{Taken as TimeTaken, Refused as TimeRefused}
 use Rattle.challenge.specs.declared.ServerNamesReading.{ServerNamesReading}
 use Rattle.challenge.specs.declared.ServerNamesReading.the-variants.{Taken as NamesTaken, Refused as NamesRefused}
 use Rattle.challenge.specs.Challenge.{timestampOf, serverNamesOf}
+use Rattle.target_info.specs.TargetInfo.{findPair}
 use Rattle.demands.specs.PairList.{Holds, ListFails}
 use Rattle.demands.specs.TakenExactly.{InfoBytes, ChallengeHolds, ChallengeFails}
 

@@ -3,7 +3,8 @@
 ghost use mathlib.Core.Path.{_≡_};
 ghost use lib.ListN.{length};
 ghost use Rattle.place.specs.Written.{bytesAnswer, bytesAfter};
-ghost use Rattle.av_pairs.specs.AvPairs.{checkPairs, countPairs, findPair, askAt};
+ghost use Rattle.av_pairs.specs.AvPairs.{checkPairs, countPairs, askAt};
+ghost use Rattle.target_info.specs.TargetInfo.{findPair};
 ghost use Rattle.authenticate.specs.Authenticate.{readAuthenticate};
 ghost use Rattle.authenticate_writing.specs.Writing.{writeAnswer, writeOut};
 ghost use Rattle.challenge.specs.Challenge.{readChallenge, timestampOf, serverNamesOf};
@@ -21,7 +22,8 @@ ghost use Rattle.c_number.specs.Outcome.{callNumber, callOut, twoArrayNumber, t
 ghost use Rattle.c_reading.specs.FieldCopy.{fieldCopyAnswer, fieldCopyOut};
 ghost use Rattle.c_reading.specs.Numbers.{negotiateOutcome, authenticateOutcome, challengeOutcome, timestampOutcome, serverNamesOutcome, nlAuthOutcome};
 ghost use Rattle.c_pairs.specs.Pairs.{countOutcome, searchOutcome, askedOutcome};
-ghost use Rattle.c_respond.specs.Respond.{settingsOf, decidedOutcome, respondedNumber, respondedNumbers, respondedOut};
+ghost use Rattle.c_respond.specs.Settings.{settingsOf};
+ghost use Rattle.c_respond.specs.Respond.{decidedOutcome, respondedNumber, respondedNumbers, respondedOut};
 use authenticate_writing::write;
 use c_number::copy;
 use c_number::line_number;

@@ -18,10 +18,9 @@ use Rattle.authenticate.specs.Authenticate.{readAuthenticate}
 use Rattle.nl_auth.specs.declared.Reading.{Reading as NlReading}
 use Rattle.nl_auth.specs.declared.Reading.the-variants.{Taken as NlTaken, Refused as NlRefused}
 use Rattle.nl_auth.specs.NlAuth.{readNlAuth}
-use Rattle.av_pairs.specs.AvPairs.{pairsOf}
 use Rattle.challenge.specs.declared.Reading.{Reading as ChalReading}
 use Rattle.challenge.specs.declared.Reading.the-variants.{Taken as ChalTaken, Refused as ChalRefused}
-use Rattle.challenge.specs.Challenge.{infoOf, timestampIn, readChallenge}
+use Rattle.challenge.specs.Challenge.{readChallenge}
 use Rattle.line_refused.specs.Refused.{refusedLine}
 use Rattle.line_nego.specs.Nego.{negoText}
 use Rattle.line_auth.specs.Auth.{authText}
@@ -46,8 +45,7 @@ nlAuthLine s = nlLine s (readNlAuth s)
 
 -- the line of a message read as CHALLENGE
 abbrev pub chalLine : List ℕ → ChalReading → List ℕ
-chalLine s (ChalTaken c) =
-    chalText (unicode (c .flags)) s c (length (pairsOf (infoOf s c))) (timestampIn (infoOf s c))
+chalLine s (ChalTaken c) = chalText s c
 chalLine s (ChalRefused e) = refusedLine e
 
 unfoldable pub challengeLine : List ℕ → List ℕ

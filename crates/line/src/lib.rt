@@ -1,15 +1,9 @@
 // Log lines: one for each message read.
 ghost use mathlib.Core.Path.{_≡_};
-ghost use Rattle.challenge.specs.declared.Reading.the-variants.{Taken};
-ghost use Rattle.challenge.specs.Challenge.{fieldsOf};
 ghost use Rattle.line.specs.Line.{negotiateLine, authenticateLine, nlAuthLine, challengeLine, ntlmLine, shownLine};
 ghost use Rattle.place.specs.Written.{bytesAnswer, bytesAfter};
 use authenticate::Reading;
-use av_pairs::Count;
-use av_pairs::count_pairs;
-use challenge::Challenge;
 use challenge::Reading as ChallengeReading;
-use challenge::timestamp_in;
 use head::Kind;
 use head::kind_of;
 use negotiate::Reading as NegotiateReading;
@@ -42,19 +36,6 @@ pub fn nl_auth_line(msg: &[u8], out: &mut [u8]) -> Written
     }
 }
 
-// The line of a CHALLENGE message whose checks 1 to 8 held: 10 to 13 and the count of the pairs, then the words.
-fn challenge_listed(out: &mut [u8], msg: &[u8], c: Challenge) -> Written
-    requires { ⌜ fieldsOf (now msg) ≡ Taken c ⌝ }
-    ensures answer { λ r. ⌜ r ≡ bytesAnswer (challengeLine (now (msg .entry))) (now (out .entry)) ⌝ }
-    ensures content { λ _. ⌜ now (out .exit) ≡ bytesAfter (challengeLine (now (msg .entry))) (now (out .entry)) ⌝ }
-{
-    let list = c.fields.target_info.bytes(msg);
-    match count_pairs(list) {
-        Count::Pairs(n) => line_chal::write(out, msg, c, c.flags.unicode(), n, timestamp_in(list)),
-        Count::Refused(e) => line_refused::write(out, e),
-    }
-}
-
 // The line of a message read as CHALLENGE, at the start of the output: its length, or 33 with the output as it was.
 pub fn challenge_line(msg: &[u8], out: &mut [u8]) -> Written
     ensures answer { λ r. ⌜ r ≡ bytesAnswer (challengeLine (now (msg .entry))) (now (out .entry)) ⌝ }
@@ -62,7 +43,7 @@ pub fn challenge_line(msg: &[u8], out: &mut [u8]) -> Written
 {
     let reading = challenge::fields_of(msg);
     match reading {
-        ChallengeReading::Taken(c) => challenge_listed(out, msg, c),
+        ChallengeReading::Taken(c) => line_chal::write(out, msg, c),
         ChallengeReading::Refused(e) => line_refused::write(out, e),
     }
 }

@@ -1,4 +1,4 @@
--- Laws of the timestamp's word, and of the line's length.
+-- Laws of the timestamp's word, of the line's length, and of the list that decides on the line.
 use Prim.Native.Nat.{ℕ, _+_, _*_, _≤_}
 use mathlib.Core.Path.{_≡_, sym}
 use mathlib.Core.Bool.{Bool}
@@ -9,17 +9,26 @@ use Rattle.text.specs.Text.{ascii}
 use Rattle.field.specs.Field.{fieldBytes}
 use Rattle.place.specs.Place.{Wrote}
 use Rattle.place.proofs.Laws.{nothing}
+use Rattle.wire.specs.declared.refusal.Refusal.{Refusal}
+use Rattle.negotiate_flags.specs.Flags.{unicode}
+use Rattle.av_pairs.specs.declared.Count.{Count}
+use Rattle.av_pairs.specs.declared.Count.the-variants.{Pairs, Refused as Uncounted}
+use Rattle.av_pairs.specs.AvPairs.{countPairs}
+use Rattle.av_pairs.proofs.Walks.{all-held, one-failed, count-is}
 use Rattle.challenge.specs.declared.Challenge.{Challenge}
-use Rattle.challenge.specs.declared.Timestamp.{Timestamp}
-use Rattle.challenge.specs.declared.Timestamp.the-variants.{Time, Nothing as NoTime}
+use Rattle.challenge.specs.Challenge.{infoOf}
+use Rattle.target_info.specs.declared.Timestamp.{Timestamp}
+use Rattle.target_info.specs.declared.Timestamp.the-variants.{Time, Nothing as NoTime}
+use Rattle.target_info.specs.TargetInfo.{timestampIn}
 use Rattle.wire.specs.declared.check.Checked.the-variants.{Held}
+use Rattle.line_refused.specs.Refused.{refusedLine}
 use Rattle.place.specs.Written.{roomHolds}
 use Rattle.word.specs.Words.{Room, numberWord, nameWord}
 use Rattle.word.proofs.Calls.{bound-fits}
 use Rattle.word.proofs.Labels.{start-size}
 use Rattle.word.proofs.Names.{word-bound}
 use Rattle.word.proofs.Numbers.{length-hex}
-use Rattle.line_chal.specs.Chal.{timeText, timeWord, chalEnd, chalText}
+use Rattle.line_chal.specs.Chal.{timeText, timeWord, chalEnd, chalWords, chalText}
 
 -- ---- its word
 
@@ -60,8 +69,8 @@ module _ (unicode : Bool) (s : List ℕ) (c : Challenge) (pairs : ℕ) (time : T
   target = nameWord (ascii " target=") unicode (fieldBytes s (c .fields .«target_name»))
 
   pub chal-size : (n p t : ℕ) → n ≡ length target → p ≡ length (numberWord (ascii " pairs=") pairs) → t ≡ length (timeWord time) →
-      25 + n + p + t + 1 ≡ length (chalText unicode s c pairs time)
-  unfolding chalText chalEnd
+      25 + n + p + t + 1 ≡ length (chalWords unicode s c pairs time)
+  unfolding chalWords chalEnd
   chal-size n p t e f g = simp (length-append, start-size) (omega arith)
 
   time-bound : (w : Timestamp) → length (timeWord w) ≤ 22
@@ -70,12 +79,24 @@ module _ (unicode : Bool) (s : List ℕ) (c : Challenge) (pairs : ℕ) (time : T
   time-bound NoTime = omega arith
 
   chal-bound : (p : ℕ) → p ≡ length (numberWord (ascii " pairs=") pairs) →
-      length (chalText unicode s c pairs time) ≤ 56 + p + 4 * c .fields .«target_name» .len
-  unfolding chalText chalEnd
+      length (chalWords unicode s c pairs time) ≤ 56 + p + 4 * c .fields .«target_name» .len
+  unfolding chalWords chalEnd
   chal-bound p e =
       simp (length-append, start-size)
       (omega (arith, time-bound time, word-bound (ascii " target=") s unicode (c .fields .«target_name»)))
 
   pub chal-fits : (p room : ℕ) → p ≡ length (numberWord (ascii " pairs=") pairs) → 56 + p + 4 * c .fields .«target_name» .len ≤ room →
-      Held ≡ roomHolds (length (chalText unicode s c pairs time)) room
-  chal-fits p room e h = bound-fits (chalText unicode s c pairs time) (56 + p + 4 * c .fields .«target_name» .len) room (chal-bound p e) h
+      Held ≡ roomHolds (length (chalWords unicode s c pairs time)) room
+  chal-fits p room e h = bound-fits (chalWords unicode s c pairs time) (56 + p + 4 * c .fields .«target_name» .len) room (chal-bound p e) h
+
+-- ---- the list: its count and its timestamp, or its refusal
+
+module _ (s : List ℕ) (c : Challenge) (l : List ℕ) (i : l ≡ infoOf s c) (r : Count) (e : r ≡ countPairs l) where
+  pub list-told : (n : ℕ) (b : Bool) (t : Timestamp) → r ≡ Pairs n → b ≡ unicode (c .flags) → t ≡ timestampIn l →
+      chalWords b s c n t ≡ chalText s c
+  unfolding chalText
+  list-told n b t h p q = simp (← i, all-held l r e n h, p, q, count-is l r e n h)
+
+  pub list-refused : (d : Refusal) → r ≡ Uncounted d → refusedLine d ≡ chalText s c
+  unfolding chalText
+  list-refused d h = simp (← i, one-failed l r e d h)

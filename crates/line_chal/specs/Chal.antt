@@ -2,11 +2,18 @@
 use Prim.Native.Nat.{ℕ}
 use mathlib.Core.Bool.{Bool}
 use mathlib.Core.List.{List, [], _++_}
+use lib.ListN.{length}
 use Rattle.text.specs.Text.{ascii}
 use Rattle.field.specs.Field.{fieldBytes}
+use Rattle.wire.specs.Check.{onClear}
+use Rattle.negotiate_flags.specs.Flags.{unicode}
+use Rattle.av_pairs.specs.AvPairs.{pairsOf, checkPairs}
 use Rattle.challenge.specs.declared.Challenge.{Challenge}
-use Rattle.challenge.specs.declared.Timestamp.{Timestamp}
-use Rattle.challenge.specs.declared.Timestamp.the-variants.{Time, Nothing}
+use Rattle.challenge.specs.Challenge.{infoOf}
+use Rattle.target_info.specs.declared.Timestamp.{Timestamp}
+use Rattle.target_info.specs.declared.Timestamp.the-variants.{Time, Nothing}
+use Rattle.target_info.specs.TargetInfo.{timestampIn}
+use Rattle.line_refused.specs.Refused.{refusedLine}
 use Rattle.word.specs.Digits.{hex}
 use Rattle.word.specs.Words.{numberWord, nameWord, startText, lineEnd}
 
@@ -22,8 +29,15 @@ timeWord Nothing = []
 unfoldable pub chalEnd : ℕ → Timestamp → List ℕ
 chalEnd pairs time = numberWord (ascii " pairs=") pairs ++ (timeWord time ++ lineEnd)
 
-unfoldable pub chalText : Bool → List ℕ → Challenge → ℕ → Timestamp → List ℕ
-chalText unicode s c pairs time =
+-- the words
+unfoldable pub chalWords : Bool → List ℕ → Challenge → ℕ → Timestamp → List ℕ
+chalWords unicode s c pairs time =
     startText (ascii "chal") (c .flags) unicode ++ (
     nameWord (ascii " target=") unicode (fieldBytes s (c .fields .«target_name»)) ++
     chalEnd pairs time)
+
+-- the line of c, read from s: the words with the count and the timestamp of its list, or the line of the list's refusal
+unfoldable pub chalText : List ℕ → Challenge → List ℕ
+chalText s c =
+    onClear refusedLine (checkPairs (infoOf s c))
+    (chalWords (unicode (c .flags)) s c (length (pairsOf (infoOf s c))) (timestampIn (infoOf s c)))

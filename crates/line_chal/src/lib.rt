@@ -1,16 +1,19 @@
-// The line of a CHALLENGE message that was taken.
+// The line of a CHALLENGE message whose checks 1 to 8 held.
 ghost use mathlib.Core.Path.{_≡_};
 ghost use Prim.Native.Nat.{_+_, _≤_};
 ghost use lib.ListN.{length};
 ghost use Rattle.place.specs.Place.{Wrote};
 ghost use Rattle.place.specs.Written.{roomHolds, bytesAnswer, bytesAfter};
 ghost use Rattle.word.specs.Words.{Room};
-ghost use Rattle.line_chal.specs.Chal.{timeText, timeWord, chalEnd, chalText};
+ghost use Rattle.line_chal.specs.Chal.{timeText, timeWord, chalEnd, chalWords, chalText};
+use av_pairs::Count;
+use av_pairs::count_pairs;
 use challenge::Challenge;
-use challenge::Timestamp;
 use place::Place;
 use place::written::Written;
 use place::written::room_holds;
+use target_info::Timestamp;
+use target_info::timestamp_in;
 use wire::check::Checked;
 use wire::refusal::Refusal;
 use word::digits::put_hex;
@@ -39,7 +42,7 @@ fn fits(
     time: Timestamp,
     room: usize,
 ) -> Checked
-    ensures { λ r. ⌜ r ≡ roomHolds (length (chalText unicode (now (msg .entry)) c pairs time)) room ⌝ }
+    ensures { λ r. ⌜ r ≡ roomHolds (length (chalWords unicode (now (msg .entry)) c pairs time)) room ⌝ }
 {
     let count = number_word_size(b" pairs=", pairs);
     if 56 + count + 4 * c.fields.target_name.len as usize <= room {
@@ -86,17 +89,15 @@ fn put(
     pairs: usize,
     time: Timestamp,
 ) -> Place
-    requires { ⌜ Room 0 (chalText unicode (now msg) c pairs time) (length (now out)) ⌝ }
-    ensures { λ r. ⌜ Wrote (now (out .entry)) (now (out .exit)) 0 (r .at) (chalText unicode (now (msg .entry)) c pairs time) ⌝ }
+    requires { ⌜ Room 0 (chalWords unicode (now msg) c pairs time) (length (now out)) ⌝ }
+    ensures { λ r. ⌜ Wrote (now (out .entry)) (now (out .exit)) 0 (r .at) (chalWords unicode (now (msg .entry)) c pairs time) ⌝ }
 {
     let p = put_start(out, b"chal", c.flags, unicode);
     let p = put_name_word(p, out, b" target=", msg, c.fields.target_name, unicode);
     put_end(p, out, pairs, time)
 }
 
-// The line of `c`, which was read from the message: `unicode` is the answer of its flags, `pairs` and `time` are those of its
-// list.
-pub fn write(
+fn write_words(
     out: &mut [u8],
     msg: &[u8],
     c: Challenge,
@@ -104,12 +105,24 @@ pub fn write(
     pairs: usize,
     time: Timestamp,
 ) -> Written
-    ensures answer { λ r. ⌜ r ≡ bytesAnswer (chalText unicode (now (msg .entry)) c pairs time) (now (out .entry)) ⌝ }
-    ensures content { λ _. ⌜ now (out .exit) ≡ bytesAfter (chalText unicode (now (msg .entry)) c pairs time) (now (out .entry)) ⌝ }
+    ensures answer { λ r. ⌜ r ≡ bytesAnswer (chalWords unicode (now (msg .entry)) c pairs time) (now (out .entry)) ⌝ }
+    ensures content { λ _. ⌜ now (out .exit) ≡ bytesAfter (chalWords unicode (now (msg .entry)) c pairs time) (now (out .entry)) ⌝ }
 {
     let Checked::Held = fits(msg, c, unicode, pairs, time, out.len()) else {
         return Written::Refused(Refusal::NoRoom);
     };
     let p = put(out, msg, c, unicode, pairs, time);
     Written::Length(p.at)
+}
+
+// The line of `c`, which was read from the message: checks 10 to 13 on its list, and then the words or the line of the refusal.
+pub fn write(out: &mut [u8], msg: &[u8], c: Challenge) -> Written
+    ensures answer { λ r. ⌜ r ≡ bytesAnswer (chalText (now (msg .entry)) c) (now (out .entry)) ⌝ }
+    ensures content { λ _. ⌜ now (out .exit) ≡ bytesAfter (chalText (now (msg .entry)) c) (now (out .entry)) ⌝ }
+{
+    let list = c.fields.target_info.bytes(msg);
+    match count_pairs(list) {
+        Count::Pairs(n) => write_words(out, msg, c, c.flags.unicode(), n, timestamp_in(list)),
+        Count::Refused(e) => line_refused::write(out, e),
+    }
 }

@@ -13,9 +13,10 @@ use Rattle.wire.proofs.Laws.{chain}
 use Rattle.challenge.specs.declared.Challenge.{Challenge}
 use Rattle.challenge.specs.declared.Reading.{Reading}
 use Rattle.challenge.specs.declared.Reading.the-variants.{Taken, Refused as Unread}
-use Rattle.challenge.specs.declared.ServerNames.{ServerNames}
-use Rattle.challenge.specs.declared.Timestamp.{Timestamp}
-use Rattle.challenge.specs.Challenge.{readingOf, timestampIn, serverNamesIn, readingRefusal}
+use Rattle.target_info.specs.declared.ServerNames.{ServerNames}
+use Rattle.target_info.specs.declared.Timestamp.{Timestamp}
+use Rattle.challenge.specs.Challenge.{readingOf, readingRefusal}
+use Rattle.target_info.specs.TargetInfo.{timestampIn, serverNamesIn}
 use Rattle.respond.specs.declared.decision.Settings.{Settings}
 use Rattle.respond.specs.declared.decision.Decision.{Decision}
 use Rattle.respond.specs.declared.decision.Decided.{Decided}

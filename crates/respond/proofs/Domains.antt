@@ -12,34 +12,32 @@ use borrow.Author.Tests.{leb-true}
 use borrow.Rule.Slice.Shared.{byByte}
 use Rattle.field.specs.declared.Field.{Field}
 use Rattle.wire.specs.declared.refusal.Refusal.{Refusal}
-use Rattle.av_id.specs.AvId.{isNbDomainName, sameId}
+use Rattle.av_id.specs.AvId.{isNbDomainName}
 use Rattle.field.specs.Field.{PartAt, fieldBytes, fieldStart}
 use Rattle.wire.proofs.Laws.{branches}
 use Rattle.av_pairs.specs.declared.AvPair.{AvPair}
 use Rattle.av_pairs.specs.declared.Found.{Found}
 use Rattle.av_pairs.specs.declared.Found.the-variants.{At, Nothing}
-use Rattle.av_pairs.specs.AvPairs.{pairsOf, firstBy, firstPair}
-use Rattle.av_pairs.proofs.Searches.{found-in}
+use Rattle.av_pairs.specs.AvPairs.{pairsOf}
+use Rattle.target_info.specs.TargetInfo.{firstBy, firstPair}
+use Rattle.target_info.proofs.Searches.{found-in}
 use Rattle.challenge.specs.declared.Answer.{Answer}
 use Rattle.challenge.specs.declared.Challenge.{Challenge}
 use Rattle.challenge.specs.declared.Reading.{Reading}
 use Rattle.challenge.specs.declared.Reading.the-variants.{Taken, Refused}
 use Rattle.challenge.specs.Challenge.{readingOf, readChallenge, onTaken, infoOf}
-use Rattle.respond.specs.Domain.{Part, ownPart, valuePart, onFound, domainPart, domainToSend, lent, Within, ValueInside}
+use Rattle.respond.specs.Domain.{Part, ownPart, valuePart, onFound, domainPart, domainToSend, lent, Within}
 
 -- ---- the search for pair 2
 
-pub found-inside : (l : List ℕ) (f : Found) → f ≡ firstPair (record { id = 2 }) l → ValueInside f (length l)
-unfolding firstPair
-found-inside l (At p) k = found-in (sameId (record { id = 2 })) l p (sym k) .gave .inside
-found-inside l Nothing k = tt
-
 -- a pair that was found ends within its list
-pub value-end : (f : Found) (p : AvPair) (n : ℕ) → ValueInside f n → f ≡ At p → p .at + p .len ≤ n
-value-end f p n v h = rw h at v
+module _ (l : List ℕ) (f : Found) (p : AvPair) (k : f ≡ firstPair (record { id = 2 }) l) (h : f ≡ At p) where
+  pub value-end : p .at + p .len ≤ length l
+  unfolding firstPair
+  value-end = found-in isNbDomainName l p (sym k ∙ h) .gave .inside
 
-pub end-fits : (f : Found) (p : AvPair) (l : List ℕ) → ValueInside f (length l) → f ≡ At p → length l < 2 ^ 64 → Fits w64 (p .at + p .len)
-end-fits f p l v h b = record { fits = omega (arith, value-end f p (length l) v h) }
+  pub end-fits : length l < 2 ^ 64 → Fits w64 (p .at + p .len)
+  end-fits b = record { fits = omega (arith, value-end) }
 
 -- ---- the challenge's pair 2
 
@@ -102,10 +100,10 @@ module _ (own s : List ℕ) (c : Challenge) (f : Found) (p : AvPair) (t : readin
       PartAt (m, byByte n x) (lent (domainPart own s) a b) (domainPart own s .start)
   value-place m x n a b k y z = rw (← e) (y, simp k (omega arith))
 
-  pub value-within : (l : List ℕ) → l ≡ infoOf s c → ValueInside f (length l) →
+  pub value-within : (l : List ℕ) → l ≡ infoOf s c → f ≡ firstPair (record { id = 2 }) l →
       Within (domainPart own s) (lent (domainPart own s) (length own) (length s))
   value-within l k v =
-      let inside : p .at + p .len ≤ length l = value-end f p (length l) v h in
+      let inside : p .at + p .len ≤ length l = value-end l f p v h in
       rw (← e) (simp (length-take, length-drop) (omega (arith, inside, ap length k, part-within s (c .fields .«target_info»))))
 
 pub ruleset own = (own-content, own-place, own-within, ways)

@@ -9,8 +9,9 @@ use Rattle.wire.specs.declared.refusal.Refusal.the-variants.{TooLong, No128Bit,
 use Rattle.av_id.specs.AvId.{implies}
 use Rattle.wire.specs.Check.{checked, after}
 use Rattle.negotiate_flags.specs.Flags.{negotiate128}
-use Rattle.challenge.specs.declared.ServerNames.{ServerNames}
-use Rattle.challenge.specs.Challenge.{readingOf, onTaken, infoOf, timestampIn, serverNamesIn}
+use Rattle.target_info.specs.declared.ServerNames.{ServerNames}
+use Rattle.challenge.specs.Challenge.{readingOf, onTaken, infoOf}
+use Rattle.target_info.specs.TargetInfo.{timestampIn, serverNamesIn}
 use Rattle.respond.specs.declared.decision.Settings.{Settings}
 use Rattle.respond.specs.declared.decision.Decision.{Decision}
 use Rattle.respond.specs.declared.decision.Decided.{Decided}

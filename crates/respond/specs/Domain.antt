@@ -3,14 +3,15 @@ use Prim.Native.Nat.{ℕ, _+_, _≤_}
 use mathlib.Core.Bool.{Bool, true, false, cond}
 use mathlib.Core.List.{List}
 use lib.Dec.{eqb}
-use lib.ListN.{length, take, drop}
+use lib.ListN.{length}
 use Rattle.av_id.specs.AvId.{isNbDomainName}
 use Rattle.field.specs.Field.{fieldStart}
 use Rattle.negotiate_flags.specs.Flags.{unicode}
 use Rattle.av_pairs.specs.declared.AvPair.{AvPair}
 use Rattle.av_pairs.specs.declared.Found.{Found}
 use Rattle.av_pairs.specs.declared.Found.the-variants.{At, Nothing}
-use Rattle.av_pairs.specs.AvPairs.{pairsOf, firstBy}
+use Rattle.av_pairs.specs.AvPairs.{pairsOf, valueIn}
+use Rattle.target_info.specs.TargetInfo.{firstBy}
 use Rattle.challenge.specs.declared.Challenge.{Challenge}
 use Rattle.challenge.specs.Challenge.{readingOf, onTaken, infoOf}
 
@@ -30,7 +31,7 @@ valuePart s c p =
     record {
       ofChallenge = true;
       start = fieldStart s (c .fields .«target_info») + p .at;
-      bytes = take (p .len) (drop (p .at) (infoOf s c));
+      bytes = valueIn (infoOf s c) p;
     }
 
 abbrev pub onFound : {A : Type 0} → Found → (AvPair → A) → A → A
@@ -59,8 +60,3 @@ lent part own challenge = cond (part .ofChallenge) challenge own
 -- a part ends within the n bytes that it is a part of
 abbrev pub Within : Part → ℕ → Type 0
 Within part n = part .start + length (part .bytes) ≤ n
-
--- a pair's value ends within the n bytes of its list
-abbrev pub ValueInside : Found → ℕ → Type 0
-ValueInside (At p) n = p .at + p .len ≤ n
-ValueInside Nothing n = Unit

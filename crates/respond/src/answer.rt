@@ -10,10 +10,10 @@ use crate::decision::decide_on;
 use crate::domain::domain_of;
 use authenticate_writing::write;
 use challenge::Reading;
-use challenge::Timestamp;
 use challenge::read;
 use negotiate_flags::NegotiateFlags;
 use place::written::Written;
+use target_info::Timestamp;
 use wire::number::fill;
 use wire::refusal::Refusal;
 

@@ -1,16 +1,19 @@
 // The decision on a challenge: what the settings want of it, and what of it decides the answer.
 ghost use mathlib.Core.Path.{_≡_};
+ghost use Rattle.wire.specs.declared.check.Verdict.the-variants.{Clear};
+ghost use Rattle.av_pairs.specs.AvPairs.{checkPairs};
 ghost use Rattle.challenge.specs.declared.Reading.the-variants.{Taken as Read};
-ghost use Rattle.challenge.specs.Challenge.{readingOf, serverNamesIn};
+ghost use Rattle.challenge.specs.Challenge.{readingOf};
+ghost use Rattle.target_info.specs.TargetInfo.{serverNamesIn};
 ghost use Rattle.respond.specs.Decision.{defaults, strengthHolds, serverNamesHold, decisionOn, decidedRefusal};
 use challenge::Challenge;
 use challenge::Reading;
-use challenge::ServerNames;
-use challenge::Timestamp;
 use challenge::read;
-use challenge::server_names_in;
-use challenge::timestamp_in;
 use negotiate_flags::NegotiateFlags;
+use target_info::ServerNames;
+use target_info::Timestamp;
+use target_info::server_names_in;
+use target_info::timestamp_in;
 use wire::check::Checked;
 use wire::check::check;
 use wire::refusal::Refusal;
@@ -65,6 +68,7 @@ impl Settings {
 
 // Check 21 for the pairs of a challenge, which are looked at only where the names are wanted.
 fn names_hold(settings: Settings, list: &[u8]) -> Checked
+    requires { ⌜ checkPairs (now list) ≡ Clear ⌝ }
     ensures { λ r. ⌜ r ≡ serverNamesHold settings (serverNamesIn (now (list .entry))) ⌝ }
 {
     if settings.ntlmv2 & (settings.integrity | settings.confidentiality) {

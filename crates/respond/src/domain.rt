@@ -2,29 +2,15 @@
 ghost use mathlib.Core.Path.{_≡_};
 ghost use lib.ListN.{length};
 ghost use Rattle.field.specs.Field.{PartAt};
-ghost use Rattle.av_pairs.specs.AvPairs.{firstPair};
 ghost use Rattle.challenge.specs.declared.Reading.the-variants.{Taken};
 ghost use Rattle.challenge.specs.Challenge.{readingOf};
-ghost use Rattle.respond.specs.Domain.{domainPart, domainToSend, lent, Within, ValueInside};
+ghost use Rattle.respond.specs.Domain.{domainPart, domainToSend, lent, Within};
 use av_id::AvId;
 use av_pairs::Found;
-use av_pairs::first_pair;
 use challenge::Challenge;
 use challenge::Reading;
 use challenge::read;
-
-// The first pair 2 of a list, whose value ends within it.
-fn first_domain(list: &[u8]) -> Found
-    ensures inside { λ r. ⌜ ValueInside r (length (now (list .entry))) ⌝ }
-    ensures { λ r. ⌜ r ≡ firstPair (record { id = 2 }) (now (list .entry)) ⌝ }
-{
-    first_pair(
-        list,
-        AvId {
-            id: AvId::NB_DOMAIN_NAME,
-        },
-    )
-}
+use target_info::first_pair;
 
 // The domain to send, for a challenge that was taken as `c`.
 pub(crate) fn domain_of<'a>(own: &'a [u8], challenge: &'a [u8], c: Challenge) -> &'a [u8]
@@ -38,7 +24,10 @@ pub(crate) fn domain_of<'a>(own: &'a [u8], challenge: &'a [u8], c: Challenge) ->
     }
     if c.flags.unicode() {
         let list = c.fields.target_info.bytes(challenge);
-        let Found::At(p) = first_domain(list) else {
+        let id = AvId {
+            id: AvId::NB_DOMAIN_NAME,
+        };
+        let Found::At(p) = first_pair(list, id) else {
             return own;
         };
         let at = p.at;

@@ -4,11 +4,11 @@ use native.Mathlib.Omega.{arith}
 use Rattle.word.proofs.Rooms.{parts3}
 use Rattle.line_chal.proofs.put.Statement.{statement}
 use Rattle.line_chal.proofs.put.Tie as tie
-use Rattle.line_chal.specs.Chal.{chalText}
+use Rattle.line_chal.specs.Chal.{chalWords}
 use Rattle.place.proofs.Laws.{and-then}
 
 pub put-spec : {M : Type 1} → statement M
-unfolding chalText
+unfolding chalWords
 put-spec =
     tie.close
     (tie.spec

@@ -1,6 +1,8 @@
--- `write` writes the line, or refuses by check 33.
+-- `write` checks the list, and writes the words or the line of the list's refusal.
 use borrow.Author.Needs.{needs}
-use Rattle.word.proofs.Calls.{has-room, no-room, as-it-was, its-length, its-bytes}
+use Rattle.av_pairs.proofs.Walks.{all-held}
+use Rattle.word.proofs.Calls.{same-line}
+use Rattle.line_chal.proofs.Laws.{list-told, list-refused}
 use Rattle.line_chal.proofs.write.Statement.{statement}
 use Rattle.line_chal.proofs.write.Tie as tie
 
@@ -8,6 +10,7 @@ pub write-spec : {M : Type 1} → statement M
 write-spec =
     tie.close
     (tie.spec
-    (λ c κs. search needs) (λ c. search needs) (λ c. search needs)
-    (λ c. (search no-room, search as-it-was)) (λ c κs. search has-room) (λ c. search needs)
-    (λ c. (search its-length, search its-bytes)))
+    (λ c κs. search needs) (λ c κs. search needs) (λ c. search needs) (λ c κs. search needs) (λ c κs. search all-held)
+    (λ c κs. search needs) (λ c. search needs) (λ c κs. search needs) (λ c. search needs)
+    (λ c. (search (same-line, list-told), search (same-line, list-told))) (λ c. search needs)
+    (λ c. (search (same-line, list-refused), search (same-line, list-refused))))

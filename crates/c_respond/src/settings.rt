@@ -1,0 +1,59 @@
+// The settings as one number of the C interface: each bit is named once, with a question for it.
+ghost use mathlib.Core.Path.{_≡_};
+ghost use Rattle.c_respond.specs.Settings.{demand128, ntlmv2, integrity, confidentiality, settingsOf};
+use respond::decision::Settings;
+use wire::number::has;
+
+pub struct SettingsBits {
+    pub bits: u32,
+}
+
+impl SettingsBits {
+    // Document 01's "128-bit demanded".
+    pub const DEMAND_128: u32 = 0x1;
+
+    pub const NTLMV2: u32 = 0x2;
+
+    pub const INTEGRITY: u32 = 0x4;
+
+    pub const CONFIDENTIALITY: u32 = 0x8;
+
+    // Of the defaults only NTLMv2 is yes.
+    pub const DEFAULTS: u32 = SettingsBits::NTLMV2;
+
+    pub fn demand_128(self) -> bool
+        ensures { λ r. ⌜ r ≡ demand128 self ⌝ }
+    {
+        has(self.bits, SettingsBits::DEMAND_128)
+    }
+
+    pub fn ntlmv2(self) -> bool
+        ensures { λ r. ⌜ r ≡ ntlmv2 self ⌝ }
+    {
+        has(self.bits, SettingsBits::NTLMV2)
+    }
+
+    pub fn integrity(self) -> bool
+        ensures { λ r. ⌜ r ≡ integrity self ⌝ }
+    {
+        has(self.bits, SettingsBits::INTEGRITY)
+    }
+
+    pub fn confidentiality(self) -> bool
+        ensures { λ r. ⌜ r ≡ confidentiality self ⌝ }
+    {
+        has(self.bits, SettingsBits::CONFIDENTIALITY)
+    }
+
+    // The settings that the bits stand for; the other bits are passed over.
+    pub fn settings(self) -> Settings
+        ensures { λ r. ⌜ r ≡ settingsOf (self .bits) ⌝ }
+    {
+        Settings {
+            demand_128: self.demand_128(),
+            ntlmv2: self.ntlmv2(),
+            integrity: self.integrity(),
+            confidentiality: self.confidentiality(),
+        }
+    }
+}

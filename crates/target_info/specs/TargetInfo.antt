@@ -1,0 +1,46 @@
+-- What is looked for in a list of pairs: the first pair with an id, the timestamp, the server's names.
+use Prim.Native.Nat.{ℕ}
+use mathlib.Core.Bool.{Bool, cond}
+use mathlib.Core.List.{List, [], _∷_}
+use Rattle.av_id.specs.declared.AvId.{AvId}
+use Rattle.av_id.specs.AvId.{sameId, isNbComputerName, isNbDomainName, isTimestamp}
+use Rattle.wire.specs.Check.{onClear}
+use Rattle.wire.specs.Number.{u64At}
+use Rattle.av_pairs.specs.declared.AvPair.{AvPair}
+use Rattle.av_pairs.specs.declared.Found.{Found}
+use Rattle.av_pairs.specs.declared.Found.the-variants.{At, Nothing}
+use Rattle.av_pairs.specs.AvPairs.{checkPairs, pairsOf, isThere}
+use Rattle.target_info.specs.declared.Search.{Search}
+use Rattle.target_info.specs.declared.Search.the-variants.{Done, Refused}
+use Rattle.target_info.specs.declared.Timestamp.{Timestamp}
+use Rattle.target_info.specs.declared.Timestamp.the-variants.{Time, Nothing as NoTime}
+use Rattle.target_info.specs.declared.ServerNames.{ServerNames}
+
+-- the first pair whose id answers a question with yes
+abbrev pub firstBy : (AvId → Bool) → List AvPair → Found
+firstBy is [] = Nothing
+firstBy is (p ∷ ps) = cond (is (p .id)) (At p) (firstBy is ps)
+
+unfoldable pub firstPair : AvId → List ℕ → Found
+firstPair id s = firstBy (sameId id) (pairsOf s)
+
+-- a search: checks 10 to 13 on the whole list, which refuse, and then the first pair with the id
+unfoldable pub findPair : AvId → List ℕ → Search
+findPair id s = onClear Refused (checkPairs s) (Done (firstPair id s))
+
+-- a timestamp pair's value as a number
+abbrev pub timeOf : List ℕ → Found → Timestamp
+timeOf list (At p) = Time (u64At list (p .at))
+timeOf list Nothing = NoTime
+
+-- the timestamp of a list of pairs: the value of the first pair 7
+unfoldable pub timestampIn : List ℕ → Timestamp
+timestampIn list = timeOf list (firstBy isTimestamp (pairsOf list))
+
+-- which of pairs 1 and 2 are in a list
+unfoldable pub serverNamesIn : List ℕ → ServerNames
+serverNamesIn list =
+    record {
+      «nb_computer_name» = isThere (firstBy isNbComputerName (pairsOf list));
+      «nb_domain_name» = isThere (firstBy isNbDomainName (pairsOf list));
+    }

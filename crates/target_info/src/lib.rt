@@ -1,0 +1,97 @@
+// What is looked for in TargetInfo's list of pairs. `first_pair`, `timestamp_in` and `server_names_in` ask that checks 10 to 13
+// held on the list, so that none of them takes a list that runs out as ended; `find_pair` makes these checks itself.
+ghost use mathlib.Core.Path.{_≡_};
+ghost use Rattle.wire.specs.declared.check.Verdict.the-variants.{Clear};
+ghost use Rattle.av_pairs.specs.AvPairs.{checkPairs};
+ghost use Rattle.target_info.specs.TargetInfo.{firstPair, findPair, timestampIn, serverNamesIn};
+use av_id::AvId;
+use av_pairs::Found;
+use av_pairs::check_pairs;
+use av_pairs::pair_at;
+use wire::check::Verdict;
+use wire::number::u64_at;
+use wire::refusal::Refusal;
+
+// What a search answers: what it found in a list without fault, or the refusal of the list.
+pub enum Search {
+    Done(Found),
+    Refused(Refusal),
+}
+
+// The value of the first timestamp pair, if there is one.
+pub enum Timestamp {
+    Time(u64),
+    Nothing,
+}
+
+// Which of the server's NetBIOS names are there: pairs 1 and 2.
+pub struct ServerNames {
+    pub nb_computer_name: bool,
+    pub nb_domain_name: bool,
+}
+
+// The first pair with the id.
+pub fn first_pair(list: &[u8], id: AvId) -> Found
+    requires { ⌜ checkPairs (now list) ≡ Clear ⌝ }
+    ensures { λ r. ⌜ r ≡ firstPair id (now (list .entry)) ⌝ }
+{
+    let mut at: usize = 0;
+    let found = loop {
+        let Found::At(p) = pair_at(list, at) else {
+            break Found::Nothing;
+        };
+        if p.id.same(id) {
+            break Found::At(p);
+        }
+        at = p.at + p.len as usize;
+    };
+    found
+}
+
+// Checks 10 to 13 on the whole list, then the first pair with the id.
+pub fn find_pair(list: &[u8], id: AvId) -> Search
+    ensures { λ r. ⌜ r ≡ findPair id (now (list .entry)) ⌝ }
+{
+    let verdict = check_pairs(list);
+    let Verdict::Clear = verdict else {
+        return Search::Refused(verdict.refusal());
+    };
+    Search::Done(first_pair(list, id))
+}
+
+// The timestamp, as a number.
+pub fn timestamp_in(list: &[u8]) -> Timestamp
+    requires { ⌜ checkPairs (now list) ≡ Clear ⌝ }
+    ensures { λ r. ⌜ r ≡ timestampIn (now (list .entry)) ⌝ }
+{
+    let id = AvId {
+        id: AvId::TIMESTAMP,
+    };
+    let Found::At(p) = first_pair(list, id) else {
+        return Timestamp::Nothing;
+    };
+    Timestamp::Time(u64_at(list, p.at))
+}
+
+// Which of pairs 1 and 2 are there.
+pub fn server_names_in(list: &[u8]) -> ServerNames
+    requires { ⌜ checkPairs (now list) ≡ Clear ⌝ }
+    ensures { λ r. ⌜ r ≡ serverNamesIn (now (list .entry)) ⌝ }
+{
+    let computer = first_pair(
+        list,
+        AvId {
+            id: AvId::NB_COMPUTER_NAME,
+        },
+    );
+    let domain = first_pair(
+        list,
+        AvId {
+            id: AvId::NB_DOMAIN_NAME,
+        },
+    );
+    ServerNames {
+        nb_computer_name: computer.is_there(),
+        nb_domain_name: domain.is_there(),
+    }
+}
