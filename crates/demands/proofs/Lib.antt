@@ -30,3 +30,5 @@ pub mod WriteBack
 pub mod Answered
 pub mod AnswerKept
 pub mod CallKept
+pub mod RespondIgnored
+pub mod SecretPrinted
