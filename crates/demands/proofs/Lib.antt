@@ -32,3 +32,4 @@ pub mod AnswerKept
 pub mod CallKept
 pub mod RespondIgnored
 pub mod SecretPrinted
+pub mod CallFront

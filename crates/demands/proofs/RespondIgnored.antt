@@ -1,6 +1,6 @@
 -- MaxLen and ignored bytes of a challenge change no decision, no domain to send and no answer.
 use Prim.Native.Nat.{ℕ, _+_}
-use mathlib.Core.Path.{_≡_, ap, _∙_}
+use mathlib.Core.Path.{ap, _∙_}
 use mathlib.Core.Bool.{true, cond}
 use mathlib.Core.List.{List}
 use lib.Dec.{eqb, leb}

@@ -10,3 +10,4 @@ pub mod Kept
 pub mod Secret
 pub mod ReadBack
 pub mod Bench
+pub mod FromC
