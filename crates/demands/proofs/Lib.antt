@@ -33,3 +33,7 @@ pub mod CallKept
 pub mod RespondIgnored
 pub mod SecretPrinted
 pub mod CallFront
+pub mod Told
+pub mod SmallFields
+pub mod LineShort
+pub mod Answers

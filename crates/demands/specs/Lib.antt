@@ -11,3 +11,4 @@ pub mod Secret
 pub mod ReadBack
 pub mod Bench
 pub mod FromC
+pub mod Answers
