@@ -48,13 +48,11 @@ use Rattle.word.specs.Digits.{decimal}
 use Rattle.word.specs.Words.{numberWord}
 use Rattle.word.proofs.Names.{field-small}
 use Rattle.word.proofs.Numbers.{decimal-small}
-use Rattle.line_auth.specs.Auth.{authLengths, authText}
+use Rattle.line_auth.specs.Auth.{authLengths}
 use Rattle.line_auth.proofs.Laws.{auth-fits}
-use Rattle.line_chal.specs.Chal.{chalText}
 use Rattle.line_chal.proofs.Laws.{chal-fits}
-use Rattle.line_nego.specs.Nego.{negoText}
 use Rattle.line_nego.proofs.Laws.{nego-fits}
-use Rattle.line_nl.specs.Nl.{givenBy, nlText}
+use Rattle.line_nl.specs.Nl.{givenBy}
 use Rattle.line_nl.proofs.Laws.{nl-fits}
 use Rattle.line_refused.specs.Refused.{refusedText, refusedLine}
 use Rattle.line.specs.Line.{negoLine, negotiateLine, authLine, authenticateLine, chalLine, challengeLine, nlLine, nlAuthLine, lineAs, ntlmLine, shownLine}
@@ -102,7 +100,7 @@ refused-short e small =
 
 -- ---- AUTHENTICATE
 
-auth-short : (s : List ℕ) (a : Authenticate) → readAuthenticate s .reading ≡ Taken a → length (authText (unicode (a .flags)) s a) < 0x100000
+auth-short : (s : List ℕ) (a : Authenticate) → readAuthenticate s .reading ≡ Taken a → length (authLine s (Taken a)) < 0x100000
 unfolding authLengths
 auth-short s a h =
     let n = not-long (length s) (λ l. none-fails s a h 1 0 (refl, l)) in
@@ -115,7 +113,7 @@ auth-short s a h =
     let key = own-len authenticate s 6 (a .fields .key) (o .key) in
     let lengths : length (authLengths (a .fields .lm .len) (a .fields .nt .len) (a .fields .key .len)) ≤ 73 =
     simp length-append (omega (arith, number-bound (ascii " lm=") (a .fields .lm .len) (omega (arith, n, lm)), number-bound (ascii " nt=") (a .fields .nt .len) (omega (arith, n, nt)), number-bound (ascii " key=") (a .fields .key .len) (omega (arith, n, key)))) in
-    let fits = fits-short (length (authText (unicode (a .flags)) s a)) 1000000 (auth-fits (unicode (a .flags)) s a (length (authLengths (a .fields .lm .len) (a .fields .nt .len) (a .fields .key .len))) 1000000 refl (omega (arith, n, lengths, domain, user, workstation))) in
+    let fits = fits-short (length (authLine s (Taken a))) 1000000 (auth-fits (unicode (a .flags)) s a (length (authLengths (a .fields .lm .len) (a .fields .nt .len) (a .fields .key .len))) 1000000 refl (omega (arith, n, lengths, domain, user, workstation))) in
     omega (arith, fits)
 
 authenticate-short : (s : List ℕ) → length (authenticateLine s) < 0x100000
@@ -127,13 +125,13 @@ authenticate-short s = go (readAuthenticate s .reading) refl where
 
 -- ---- NEGOTIATE
 
-nego-short : (s : List ℕ) (m : Negotiate) → readNegotiate s ≡ NegotiateTaken m → length (negoText s m) < 0x100000
+nego-short : (s : List ℕ) (m : Negotiate) → readNegotiate s ≡ NegotiateTaken m → length (negoLine s (NegotiateTaken m)) < 0x100000
 nego-short s m h =
     let n = not-long (length s) (λ l. negotiate-taken s .0 (subst IsTakenNegotiate (sym h) tt) 1 0 (refl, l)) in
     let o = negotiate-own s m h in
     let domain = own-len negotiate s 1 (m .fields .domain) (o .domain) in
     let workstation = own-len negotiate s 2 (m .fields .workstation) (o .workstation) in
-    let fits = fits-short (length (negoText s m)) 1000000 (nego-fits s m 1000000 (omega (arith, n, domain, workstation))) in
+    let fits = fits-short (length (negoLine s (NegotiateTaken m))) 1000000 (nego-fits s m 1000000 (omega (arith, n, domain, workstation))) in
     omega (arith, fits)
 
 negotiate-short : (s : List ℕ) → length (negotiateLine s) < 0x100000
@@ -167,7 +165,7 @@ chal-short s c h =
     let bytes = field-small s (infoOf s c) (c .fields .«target_info») refl in
     let pairs = pairs-few (infoOf s c) in
     let word = number-bound (ascii " pairs=") (length (pairsOf (infoOf s c))) (omega (arith, n, info, bytes, pairs)) in
-    let fits = fits-short (length (chalText (unicode (c .flags)) s c (length (pairsOf (infoOf s c))) (timestampIn (infoOf s c)))) 1000000
+    let fits = fits-short (length (chalLine s (ChallengeTaken c))) 1000000
     (chal-fits (unicode (c .flags)) s c (length (pairsOf (infoOf s c))) (timestampIn (infoOf s c)) (length (numberWord (ascii " pairs=") (length (pairsOf (infoOf s c))))) 1000000 refl (omega (arith, n, name, word))) in
     omega (arith, fits)
 
@@ -231,13 +229,13 @@ nl-inside s =
         utf8-inside (flagsAt s) s a b b′ (omega arith))))
     go false = after-inside s (responseHolds s) WrongResponse _ (omega arith, omega arith)
 
-nl-short : (s : List ℕ) (m : NlAuth) → readNlAuth s ≡ NlTaken m → length (nlText (givenBy (m .flags)) s m) < 0x100000
+nl-short : (s : List ℕ) (m : NlAuth) → readNlAuth s ≡ NlTaken m → length (nlLine s (NlTaken m)) < 0x100000
 unfolding total
 nl-short s m h =
     let n = not-long (length s) (λ l. nl-auth-taken s .0 (subst IsTakenNl (sym h) tt) 1 0 (refl, l)) in
     let inside = subst (Inside s) h (nl-inside s) in
     let word = number-bound (ascii "nl type=") (m .«message_type») (omega (arith, inside .1)) in
-    let fits = fits-short (length (nlText (givenBy (m .flags)) s m)) 1000000
+    let fits = fits-short (length (nlLine s (NlTaken m))) 1000000
     (nl-fits (givenBy (m .flags)) s m (length (numberWord (ascii "nl type=") (m .«message_type»)))
     (4 * (m .strings .«nb_domain» .len + m .strings .«nb_computer» .len + m .strings .«dns_domain» .len + m .strings .«dns_host» .len + m .strings .«utf8_computer» .len))
     1000000 refl refl (omega (arith, n, inside .0, word))) in

@@ -62,12 +62,12 @@ pub record SamePrinted (s t : List ℕ) : Type 0 where
 abbrev pub SecretPrinted : Type 0
 SecretPrinted = (s t : List ℕ) → DifferInSecrets s t → kindOf s ≡ AsAuthenticate → SamePrinted s t
 
--- the theorem speaks of something: P1, and P1 with another first byte of its NT response
+-- the theorems speak of something: P1, which is read as AUTHENTICATE, and P1 with another first byte of its NT response
 abbrev pub p1Other : List ℕ
 p1Other = set p1 96 0xBB
 
 abbrev pub SecretExample : Type 0
-SecretExample = DifferInSecrets p1 p1Other × (p1 ≡ p1Other → ⊥)
+SecretExample = DifferInSecrets p1 p1Other × (kindOf p1 ≡ AsAuthenticate) × (p1 ≡ p1Other → ⊥)
 
 -- "Now let a box answer one challenge twice by the same call, with the same settings, clock reading and length of output,
 -- but with any other LM response, NT response, key and MIC bytes, each as long as before. Both times it gets the same answer
