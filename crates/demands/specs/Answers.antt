@@ -1,5 +1,5 @@
--- The answer of a call from C as its caller takes it apart: by the macros of include/dialtable.h, whose `>>` and `&` are `/`
--- and `%` here.
+-- Demand 1: "A refusal gives its number and field". From C it gives them by the macros of include/dialtable.h, whose `>>` and
+-- `&` are `/` and `%` here, and no length is taken for a refusal.
 use Prim.Native.Nat.{ℕ, _/_, _%_, _≤_, _<_}
 use mathlib.Core.Path.{_≡_}
 use mathlib.Core.Logic.{_⊎_}
