@@ -24,7 +24,7 @@ use Rattle.line.specs.Line.{authLine, authenticateLine}
 use Rattle.place.specs.Written.{bytesAnswer, bytesAfter}
 use Rattle.demands.specs.Bench.{p1}
 use Rattle.demands.specs.Ignored.{SameBytes}
-use Rattle.demands.specs.Message.{authenticate, lenOf, offsetOf, Nonempty, Covers, Fails, MicThere}
+use Rattle.demands.specs.Message.{authenticate, lenOf, offsetOf, Nonempty, Covers, Fails}
 use Rattle.demands.specs.Secret.{Secret, secret-field, mic, DifferInSecrets, SecretRead, p1Other, SecretExample}
 use Rattle.demands.proofs.Alike.{same-part, same16, same32}
 use Rattle.demands.proofs.Message.{Stands}
@@ -63,7 +63,7 @@ module _ (s t : List ℕ) (d : DifferInSecrets s t) where
   name-same i f w none name = go (isEmpty f) refl where
     plain : (p : ℕ) → Nonempty authenticate s i → Covers authenticate s i p → Secret s p → ⊥
     plain p ne c (secret-field j l q nj cj) = none 9 i (ne, name, (j, p, nj, q, c, cj))
-    plain p ne c (mic l m a b) = let there : MicThere authenticate s = m in omega (arith, there .fields i ne, c .0)
+    plain p ne c (mic l m a b) = omega (arith, m .fields i ne, c .0)
 
     fit : (n : ℕ) → isEmpty f ≡ false → n ≡ length s → f .offset + f .len ≤ n
     fit n p e = inside (λ l. none 6 i (w .full p, l)) where
@@ -109,8 +109,9 @@ secret-read s t d =
 -- P1's byte 96 is one of its NT response
 nt-byte : Secret p1 96
 nt-byte =
-    let there : Nonempty authenticate p1 2 = record { first = omega arith; last = omega arith; counts = λ e. absurd (omega arith); some = omega arith } in
-    secret-field 2 (omega arith) (inr (inl refl)) there (omega arith, omega arith)
+    secret-field 2 (omega arith) (inr (inl refl))
+    (record { first = omega arith; last = omega arith; counts = λ e. absurd (omega arith); some = omega arith })
+    (omega arith, omega arith)
 
 pub secret-example : SecretExample
 unfolding kindOf

@@ -499,7 +499,7 @@ module _ (w : NegotiateFlags) (v dom usr wks mic lm nt key mic′ lm′ nt′ ke
 
   alike : keyHolds w key ≡ Held → AlikeOutside S T
   unfolding S
-  alike held = record { length-same = lengths-same; elsewhere = λ p. go p (ltb p 72) (ltb p 88) (ltb p a) (ltb p b) (ltb p c) (ltb p (length S)) refl refl refl refl refl refl }
+  alike held = record { length-same = lengths-same; outside = λ p. go p (ltb p 72) (ltb p 88) (ltb p a) (ltb p b) (ltb p c) (ltb p (length S)) refl refl refl refl refl refl }
     where
       a : ℕ
       a = 88 + length named
@@ -522,24 +522,20 @@ module _ (w : NegotiateFlags) (v dom usr wks mic lm nt key mic′ lm′ nt′ ke
       go : (p : ℕ) (x1 x2 x3 x4 x5 x6 : Bool) → ltb p 72 ≡ x1 → ltb p 88 ≡ x2 → ltb p a ≡ x3 → ltb p b ≡ x4 → ltb p c ≡ x5 → ltb p (length S) ≡ x6 → (getD S p 0 ≡ getD T p 0) ⊎ Secret S p
       go p true x2 x3 x4 x5 x6 p1 p2 p3 p4 p5 p6 = inl (in-front p (ltb-true p 72 p1))
       go p false true x3 x4 x5 x6 p1 p2 p3 p4 p5 p6 =
-          let there : MicThere authenticate S = record { kind = tt; fields = λ i ne. field-start w v mic lm nt dom usr wks key v8 (long-as .mic-16) i (ne .first) (ne .last); message = λ h. omega (arith, whole w v mic lm nt dom usr wks key v8 (long-as .mic-16)) } in
-          inr (mic-byte fixed-there there (ltb-false p 72 p1) (ltb-true p 88 p2))
+          inr (mic-byte fixed-there (record { kind = tt; fields = λ i ne. field-start w v mic lm nt dom usr wks key v8 (long-as .mic-16) i (ne .first) (ne .last); message = λ h. omega (arith, whole w v mic lm nt dom usr wks key v8 (long-as .mic-16)) }) (ltb-false p 72 p1) (ltb-true p 88 p2))
       go p false false true x4 x5 x6 p1 p2 p3 p4 p5 p6 = inl (in-names p (ltb-false p 88 p2) (ltb-true p a p3))
       go p false false false true x5 x6 p1 p2 p3 p4 p5 p6 =
-          let there : Nonempty authenticate S 1 =
-          record { first = omega arith; last = omega arith; counts = λ e. absurd (omega arith); some = omega (arith, ltb-false p a p3, ltb-true p b p4, len1 w v mic lm nt dom usr wks key v8 (long-as .mic-16)) } in
-          inr (secret-field 1 fixed-there (inl refl) there
+          inr (secret-field 1 fixed-there (inl refl)
+          (record { first = omega arith; last = omega arith; counts = λ e. absurd (omega arith); some = omega (arith, ltb-false p a p3, ltb-true p b p4, len1 w v mic lm nt dom usr wks key v8 (long-as .mic-16)) })
           (omega (arith, ltb-false p a p3, off1 w v mic lm nt dom usr wks key v8 (long-as .mic-16), named-long), omega (arith, ltb-true p b p4, off1 w v mic lm nt dom usr wks key v8 (long-as .mic-16), len1 w v mic lm nt dom usr wks key v8 (long-as .mic-16), named-long)))
       go p false false false false true x6 p1 p2 p3 p4 p5 p6 =
-          let there : Nonempty authenticate S 2 =
-          record { first = omega arith; last = omega arith; counts = λ e. absurd (omega arith); some = omega (arith, ltb-false p b p4, ltb-true p c p5, len2 w v mic lm nt dom usr wks key v8 (long-as .mic-16)) } in
-          inr (secret-field 2 fixed-there (inr (inl refl)) there
+          inr (secret-field 2 fixed-there (inr (inl refl))
+          (record { first = omega arith; last = omega arith; counts = λ e. absurd (omega arith); some = omega (arith, ltb-false p b p4, ltb-true p c p5, len2 w v mic lm nt dom usr wks key v8 (long-as .mic-16)) })
           (omega (arith, ltb-false p b p4, off2 w v mic lm nt dom usr wks key v8 (long-as .mic-16), named-long), omega (arith, ltb-true p c p5, off2 w v mic lm nt dom usr wks key v8 (long-as .mic-16), len2 w v mic lm nt dom usr wks key v8 (long-as .mic-16), named-long)))
       go p false false false false false true p1 p2 p3 p4 p5 p6 =
           let some : 0 < length key = omega (arith, ltb-false p c p5, ltb-true p (length S) p6, whole w v mic lm nt dom usr wks key v8 (long-as .mic-16), named-long) in
-          let there : Nonempty authenticate S 6 =
-          record { first = omega arith; last = omega arith; counts = λ e. ap (λ (n : ℕ). n / 0x40000000 % 2) (flags-back w v mic lm nt dom usr wks key v8 (long-as .mic-16)) ∙ eqb-true _ 1 (exchanged some); some = omega (arith, some, len6 w v mic lm nt dom usr wks key v8 (long-as .mic-16)) } in
-          inr (secret-field 6 fixed-there (inr (inr refl)) there
+          inr (secret-field 6 fixed-there (inr (inr refl))
+          (record { first = omega arith; last = omega arith; counts = λ e. ap (λ (n : ℕ). n / 0x40000000 % 2) (flags-back w v mic lm nt dom usr wks key v8 (long-as .mic-16)) ∙ eqb-true _ 1 (exchanged some); some = omega (arith, some, len6 w v mic lm nt dom usr wks key v8 (long-as .mic-16)) })
           (omega (arith, ltb-false p c p5, off6 w v mic lm nt dom usr wks key v8 (long-as .mic-16), named-long), omega (arith, ltb-true p (length S) p6, off6 w v mic lm nt dom usr wks key v8 (long-as .mic-16), len6 w v mic lm nt dom usr wks key v8 (long-as .mic-16), whole w v mic lm nt dom usr wks key v8 (long-as .mic-16))))
       go p false false false false false false p1 p2 p3 p4 p5 p6 = inl (List·getD-eq-default S 0 (ltb-false p (length S) p6) ∙ sym (List·getD-eq-default T 0 (omega (arith, ltb-false p (length S) p6, lengths-same))))
 

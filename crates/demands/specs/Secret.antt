@@ -74,7 +74,7 @@ SecretExample = DifferInSecrets p1 p1Other × (kindOf p1 ≡ AsAuthenticate) × 
 -- or the same refusal. Where messages are written, the two are of one length and alike outside those four places."
 pub record AlikeOutside (s t : List ℕ) : Type 0 where
   pub length-same : length s ≡ length t
-  pub elsewhere : (p : ℕ) → (getD s p 0 ≡ getD t p 0) ⊎ Secret s p
+  pub outside : (p : ℕ) → (getD s p 0 ≡ getD t p 0) ⊎ Secret s p
 
 -- what the two callings have of their own, each as long as before; Version and MIC are of 8 and 16 bytes, as the call takes them
 pub record AsLong (mic lm nt key mic′ lm′ nt′ key′ : List ℕ) : Type 0 where
