@@ -1,14 +1,16 @@
 -- Writing AUTHENTICATE and answering a challenge change only what they write.
-use Prim.Native.Nat.{ℕ}
+use Prim.Native.Nat.{ℕ, _≤_}
 use mathlib.Core.Path.{_≡_, refl}
 use mathlib.Core.Bool.{Bool, true, false, cond}
 use mathlib.Core.List.{List}
 use native.Mathlib.Omega.{arith}
 use lib.ListN.{length, replicate}
 use borrow.Author.Tests.{leb-true}
+use Rattle.wire.specs.declared.check.Verdict.the-variants.{Clear}
 use Rattle.wire.specs.declared.refusal.Refusal.{Refusal}
 use Rattle.wire.specs.declared.refusal.Refusal.the-variants.{NoCharset, WrongKey, TooLongToWrite, NoRoom}
 use Rattle.wire.proofs.Laws.{held-true}
+use Rattle.negotiate_flags.specs.declared.NegotiateFlags.{NegotiateFlags}
 use Rattle.negotiate_flags.specs.Flags.{unicode, charsetHolds}
 use Rattle.place.specs.declared.written.Written.{Written}
 use Rattle.place.specs.declared.written.Written.the-variants.{Length, Refused as Unwritten}
@@ -27,17 +29,25 @@ use Rattle.demands.proofs.Answered.{sent-written}
 use Rattle.demands.proofs.Bools.{after-held}
 use Rattle.demands.proofs.Kept.{by-verdict, clear-both}
 
-pub authenticate-kept : AuthenticateKept
-unfolding writeAnswer writeOut checkToWrite
-authenticate-kept out w v mic lm nt dom usr wks key v8 m16 =
-    by-verdict (checkToWrite (length out) w lm nt dom usr wks key) (authenticateBytes w v mic lm nt dom usr wks key) out
-    (λ h.
+-- a message that is written passed checks 30 and 33
+pub message-fits : (room : ℕ) (w : NegotiateFlags) (lm nt dom usr wks key : List ℕ) → checkToWrite room w lm nt dom usr wks key ≡ Clear →
+    (sizeToWrite lm nt dom usr wks key ≤ 65535) × (sizeToWrite lm nt dom usr wks key ≤ room)
+unfolding checkToWrite
+message-fits room w lm nt dom usr wks key h =
     let c = after-held (charsetHolds w) NoCharset _ h in
     let m = clear-both (checkNamesToWrite (unicode w) dom usr wks) _ (c .1) in
     let k = after-held (keyHolds w key) WrongKey _ (m .1) in
     let z = after-held (sizeHolds (sizeToWrite lm nt dom usr wks key)) TooLongToWrite _ (k .1) in
-    let r = after-held (roomHolds (sizeToWrite lm nt dom usr wks key) (length out)) NoRoom _ (z .1) in
-    omega (arith, leb-true (sizeToWrite lm nt dom usr wks key) (length out) (held-true _ (r .0)), length-message lm nt dom usr wks key w v mic v8 m16))
+    let r = after-held (roomHolds (sizeToWrite lm nt dom usr wks key) room) NoRoom _ (z .1) in (
+      leb-true (sizeToWrite lm nt dom usr wks key) 65535 (held-true _ (z .0)),
+      leb-true (sizeToWrite lm nt dom usr wks key) room (held-true _ (r .0)),
+    )
+
+pub authenticate-kept : AuthenticateKept
+unfolding writeAnswer writeOut
+authenticate-kept out w v mic lm nt dom usr wks key v8 m16 =
+    by-verdict (checkToWrite (length out) w lm nt dom usr wks key) (authenticateBytes w v mic lm nt dom usr wks key) out
+    (λ h. omega (arith, message-fits (length out) w lm nt dom usr wks key h .1, length-message lm nt dom usr wks key w v mic v8 m16))
 
 unsent : (r : Written) (time : ℕ) (due : Bool) (e : Refusal) → answerWith r time due ≡ Refused e → r ≡ Unwritten e
 unsent (Length n) time due e h = absurd (let z : _≡_ {A = ℕ} 0 1 = cc in omega arith)

@@ -1,25 +1,24 @@
--- A refused call of the C interface leaves its arrays as they were.
+-- A refused call of the C interface leaves its arrays as they were, and an answer that is sent changes only what it hands out.
 use Prim.Native.Nat.{ℕ}
 use mathlib.Core.Path.{_≡_, refl}
 use mathlib.Core.Logic.{_⊎_, inl, inr}
 use mathlib.Core.Bool.{Bool, true, false, _&&_}
-use mathlib.Core.List.{List}
+use mathlib.Core.List.{List, [], _∷_}
 use lib.Dec.{leb}
 use lib.ListN.{length, drop}
-use lib.Seq.{drop-append-seam}
-use borrow.Author.Tests.{lt-leb}
+use borrow.Author.Tests.{le-leb, lt-leb}
 use Rattle.wire.specs.declared.refusal.Refusal.{Refusal}
 use Rattle.wire.specs.declared.refusal.Refusal.the-variants.{NoRoom}
 use Rattle.wire.specs.Check.{checked, after}
-use Rattle.place.specs.Written.{atFront}
 use Rattle.respond.specs.declared.answer.Answered.{Answered}
 use Rattle.respond.specs.declared.answer.Answered.the-variants.{Refused}
 use Rattle.respond.specs.Answer.{respondAnswer, respondOut}
-use Rattle.c_number.specs.Number.{refusalNumber}
+use Rattle.c_number.specs.Number.{refusalNumber, bit}
 use Rattle.c_number.specs.Outcome.{Outcome, numbers, refused, outcomeNumber, outcomeOut, outcomeBytes, callNumber, callOut, twoArrayNumber, twoArrayOut, twoArrayBytes}
-use Rattle.c_respond.specs.Respond.{answeredOut, respondedNumbers, respondedOut}
-use Rattle.demands.specs.Kept.{CallKept, TwoArraysKept, CallFront, KeptAnswer, RespondedKept}
+use Rattle.c_respond.specs.Respond.{answeredOut, respondedNumber, respondedNumbers, respondedOut}
+use Rattle.demands.specs.Kept.{CallKept, TwoArraysKept, KeptAnswer, RespondedKept}
 use Rattle.demands.proofs.AnswerKept.{respond-kept}
+use Rattle.demands.proofs.CallFront.{at-front}
 use Rattle.demands.proofs.Bools.{true-not-false}
 
 pub call-kept : CallKept
@@ -41,19 +40,16 @@ beside-kept n m h bytes out beside = go (leb n (length out) && leb m (length bes
   go true (refused e) = inr (refl, refl)
   go false h = inr (refl, refl)
 
-pub call-front : CallFront
-unfolding callOut
-call-front n xs out = go (leb n (length out)) where
-  go : (t : Bool) → drop (length xs) (after (checked t) out (atFront xs out)) ≡ drop (length xs) out
-  go true = drop-append-seam xs (drop (length xs) out)
-  go false = refl
-
 pub responded-kept : RespondedKept
-unfolding respondedNumbers respondedOut
+unfolding respondedNumber respondedNumbers respondedOut
 responded-kept xs out s v mic lm nt domain user workstation key settings clock v8 m16 =
     record {
       short = λ l. by-room (leb 2 (length xs)) (lt-leb 2 (length xs) l) a sent;
       refused = λ e h. by-answer (leb 2 (length xs)) a sent e h (kept .refused e h);
+      number = λ x h l. rw (h, le-leb 2 (length xs) l);
+      front = λ x h l. rw (h, le-leb 2 (length xs) l) (at-front (x .time ∷ bit (x .«mic_due») ∷ []) xs l);
+      same-length = λ x h. by-length (leb 2 (length xs)) (kept .same-length x h);
+      rest = λ x h. by-rest (leb 2 (length xs)) (x .len) (kept .rest x h);
     }
   where
     a : Answered
@@ -69,6 +65,14 @@ responded-kept xs out s v mic lm nt domain user workstation key settings clock v
         (after (checked t) xs (answeredOut b xs) ≡ xs) × (after (checked t) out l ≡ out)
     by-room true p b l = absurd (true-not-false p)
     by-room false p b l = (refl, refl)
+
+    by-length : (t : Bool) → length sent ≡ length out → length (after (checked t) out sent) ≡ length out
+    by-length true e = e
+    by-length false e = refl
+
+    by-rest : (t : Bool) (n : ℕ) → drop n sent ≡ drop n out → drop n (after (checked t) out sent) ≡ drop n out
+    by-rest true n e = e
+    by-rest false n e = refl
 
     by-answer : (t : Bool) (b : Answered) (l : List ℕ) (e : Refusal) → b ≡ Refused e → l ≡ out →
         (after (checked t) xs (answeredOut b xs) ≡ xs) × (after (checked t) out l ≡ out)

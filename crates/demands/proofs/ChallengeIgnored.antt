@@ -16,6 +16,7 @@ use Rattle.wire.specs.Check.{onClear}
 use Rattle.negotiate_flags.specs.Flags.{unicode, requestTarget, targetInfo}
 use Rattle.head.specs.Head.{flagsAt, readHead, onFlags}
 use Rattle.av_pairs.specs.AvPairs.{checkPairs}
+use Rattle.challenge.specs.declared.Challenge.{Challenge as Message}
 use Rattle.challenge.specs.declared.Reading.{Reading}
 use Rattle.challenge.specs.declared.Reading.the-variants.{Taken, Refused}
 use Rattle.challenge.specs.declared.ServerNamesReading.the-variants.{Taken as NamesTaken, Refused as NamesRefused}
@@ -101,13 +102,13 @@ module _ (a b : List ℕ) (d : DifferInIgnored challenge a b) where
     go (Taken c) j = rw (j .1) (ap (λ (l : List ℕ). onClear Refused (checkPairs l) (Taken (record { flags = flagsAt a 20; fields = fieldsAt a (flagsAt a 20) }))) (bytes-same (j .0) .1))
     go (Refused e) j = refl
 
-  -- what is made of a taken message's TargetInfo
-  info-same : {A : Type 0} (refuse : Refusal → A) (x : List ℕ → A) →
-      onTaken refuse (readingOf a) (λ c. x (infoOf a c)) ≡ onTaken refuse (readingOf b) (λ c. x (infoOf b c))
+  -- what is made of a taken message and its TargetInfo
+  pub made-same : {A : Type 0} (refuse : Refusal → A) (x : Message → List ℕ → A) →
+      onTaken refuse (readingOf a) (λ c. x c (infoOf a c)) ≡ onTaken refuse (readingOf b) (λ c. x c (infoOf b c))
   unfolding readChallenge
-  info-same refuse x = rw (← reading-same) (go (readingOf a) refl) where
-    go : (r : Reading) → readingOf a ≡ r → onTaken refuse r (λ c. x (infoOf a c)) ≡ onTaken refuse r (λ c. x (infoOf b c))
-    go (Taken c) e = let t = taken-as a c e in rw (t .answer) (ap x (bytes-same (t .none) .1))
+  made-same refuse x = rw (← reading-same) (go (readingOf a) refl) where
+    go : (r : Reading) → readingOf a ≡ r → onTaken refuse r (λ c. x c (infoOf a c)) ≡ onTaken refuse r (λ c. x c (infoOf b c))
+    go (Taken c) e = let t = taken-as a c e in rw (t .answer) (ap (x (record { flags = flagsAt a 20; fields = fieldsAt a (flagsAt a 20) })) (bytes-same (t .none) .1))
     go (Refused f) e = refl
 
   server-same : serverChallenge (readingOf a) a ≡ serverChallenge (readingOf b) b
@@ -121,8 +122,8 @@ unfolding readChallenge timestampOf serverNamesOf
 challenge-ignored a b d =
     record {
       answer = rw (server-same a b d, reading-same a b d);
-      timestamp = info-same a b d TimeRefused (λ l. TimeTaken (timestampIn l));
-      server-names = info-same a b d NamesRefused (λ l. NamesTaken (serverNamesIn l));
+      timestamp = made-same a b d TimeRefused (λ c l. TimeTaken (timestampIn l));
+      server-names = made-same a b d NamesRefused (λ c l. NamesTaken (serverNamesIn l));
       target-name = λ c h. let t = taken-as a c h in rw (t .answer) (bytes-same a b d (t .none) .0);
       target-info = λ c h. let t = taken-as a c h in rw (t .answer) (bytes-same a b d (t .none) .1);
     }

@@ -25,10 +25,10 @@ use Rattle.demands.proofs.Bools.{after-held}
 
 -- what is written at the front of an output that has room for it
 module _ (bytes out : List ℕ) (room : length bytes ≤ length out) where
-  front-length : length (atFront bytes out) ≡ length out
+  pub front-length : length (atFront bytes out) ≡ length out
   front-length = simp (length-append, length-drop) (omega arith)
 
-  front-rest : drop (length bytes) (atFront bytes out) ≡ drop (length bytes) out
+  pub front-rest : drop (length bytes) (atFront bytes out) ≡ drop (length bytes) out
   front-rest = drop-append-seam bytes (drop (length bytes) out)
 
 never : {A : Type 0} (e : Refusal) (n : ℕ) → Length n ≡ Refused e → A

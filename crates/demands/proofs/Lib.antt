@@ -46,3 +46,10 @@ pub mod DomainSent
 pub mod ToSend
 pub mod Answering
 pub mod FieldCopied
+pub mod RespondIgnored
+pub mod SecretPrinted
+pub mod CallFront
+pub mod Told
+pub mod SmallFields
+pub mod LineShort
+pub mod Answers

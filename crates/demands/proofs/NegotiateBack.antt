@@ -276,12 +276,12 @@ module _ (w : NegotiateFlags) (v dom wks : List ℕ) (v8 : length v ≡ 8) where
     go (Refused d) e t = absurd t
 
 -- what a message that is written went through
-record Writable (room : ℕ) (w : NegotiateFlags) (dom wks : List ℕ) : Type 0 where
-  charset : charsetHolds w ≡ Held
-  size : sizeToWrite dom wks ≤ 65535
-  room-there : sizeToWrite dom wks ≤ room
+pub record Writable (room : ℕ) (w : NegotiateFlags) (dom wks : List ℕ) : Type 0 where
+  pub charset : charsetHolds w ≡ Held
+  pub size : sizeToWrite dom wks ≤ 65535
+  pub room-there : sizeToWrite dom wks ≤ room
 
-writable : (room : ℕ) (w : NegotiateFlags) (dom wks : List ℕ) → checkToWrite room w dom wks ≡ Clear → Writable room w dom wks
+pub writable : (room : ℕ) (w : NegotiateFlags) (dom wks : List ℕ) → checkToWrite room w dom wks ≡ Clear → Writable room w dom wks
 unfolding checkToWrite
 writable room w dom wks h =
     let c = after-held (charsetHolds w) NoCharset _ h in

@@ -13,7 +13,7 @@ use Rattle.field.specs.declared.Field.{Field}
 use Rattle.negotiate_flags.specs.declared.NegotiateFlags.{NegotiateFlags}
 use Rattle.field.specs.Field.{isEmpty, noField, fieldAt}
 use Rattle.negotiate_flags.specs.Flags.{keyExch}
-use Rattle.head.specs.Head.{flagsAt, signatureHolds, readHead}
+use Rattle.head.specs.Head.{flagsAt, signatureHolds, readHead, kindOf}
 use Rattle.field.proofs.Fields.{own-bytes}
 use Rattle.authenticate.specs.declared.Authenticate.{Authenticate}
 use Rattle.authenticate.specs.declared.Reading.{Reading}
@@ -114,12 +114,14 @@ nt-byte =
     (omega arith, omega arith)
 
 pub secret-example : SecretExample
+unfolding kindOf
 secret-example = (
   record {
     length-same = refl;
     first-64 = λ p l. sym (getD-set-other p1 96 p 0xBB 0 (λ e. omega arith));
     elsewhere = λ p. go p (eqb p 96) refl;
   },
+  refl,
   λ e. two (ap (λ (l : List ℕ). getD l 96 0) e),
 )
   where

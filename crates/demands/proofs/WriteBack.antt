@@ -499,7 +499,7 @@ module _ (w : NegotiateFlags) (v dom usr wks mic lm nt key mic′ lm′ nt′ ke
 
   alike : keyHolds w key ≡ Held → AlikeOutside S T
   unfolding S
-  alike held = record { length-same = lengths-same; elsewhere = λ p. go p (ltb p 72) (ltb p 88) (ltb p a) (ltb p b) (ltb p c) (ltb p (length S)) refl refl refl refl refl refl }
+  alike held = record { length-same = lengths-same; outside = λ p. go p (ltb p 72) (ltb p 88) (ltb p a) (ltb p b) (ltb p c) (ltb p (length S)) refl refl refl refl refl refl }
     where
       a : ℕ
       a = 88 + length named

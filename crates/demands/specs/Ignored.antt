@@ -23,6 +23,10 @@ use Rattle.nl_auth.specs.declared.NlAuth.{NlAuth}
 use Rattle.nl_auth.specs.declared.Reading.the-variants.{Taken as NlTaken}
 use Rattle.nl_auth.specs.NlAuth.{readNlAuth}
 use Rattle.line.specs.Line.{negotiateLine, authenticateLine, challengeLine, ntlmLine, nlAuthLine}
+use Rattle.respond.specs.declared.decision.Settings.{Settings}
+use Rattle.respond.specs.Answer.{respondAnswer, respondOut}
+use Rattle.respond.specs.Decision.{defaults, decisionOn}
+use Rattle.respond.specs.Domain.{domainPart}
 use Rattle.demands.specs.Message.{negotiate, authenticate, challenge, DifferInIgnored}
 use Rattle.demands.specs.NlAuth.{typeOf}
 
@@ -106,3 +110,29 @@ NtlmLineIgnored = (s t : List ℕ) → DifferAsRead s t → ntlmLine s ≡ ntlmL
 
 abbrev pub NlAuthLineIgnored : Type 0
 NlAuthLineIgnored = (s t : List ℕ) → NlDifferInIgnored s t → nlAuthLine s ≡ nlAuthLine t
+
+-- ---- what a box does with a challenge
+
+-- the same decision, with every settings
+abbrev pub DecisionIgnored : Type 0
+DecisionIgnored = (settings : Settings) (s t : List ℕ) → DifferInIgnored challenge s t → decisionOn settings s ≡ decisionOn settings t
+
+-- the same domain to send: its bytes, which of the two it is a part of, and where it starts there
+abbrev pub DomainIgnored : Type 0
+DomainIgnored = (own s t : List ℕ) → DifferInIgnored challenge s t → domainPart own s ≡ domainPart own t
+
+-- answered with the same settings, clock, output and bytes of the caller's, they get the same answer and the same output
+pub record SameAnswering (settings : Settings) (s t : List ℕ) : Type 0 where
+  pub answer : (room clock : ℕ) (version mic lm nt domain user workstation key : List ℕ) →
+      respondAnswer room s settings clock version mic lm nt domain user workstation key
+      ≡ respondAnswer room t settings clock version mic lm nt domain user workstation key
+  pub output : (out version mic lm nt domain user workstation key : List ℕ) →
+      respondOut out s settings version mic lm nt domain user workstation key
+      ≡ respondOut out t settings version mic lm nt domain user workstation key
+
+abbrev pub RespondIgnored : Type 0
+RespondIgnored = (settings : Settings) (s t : List ℕ) → DifferInIgnored challenge s t → SameAnswering settings s t
+
+-- the three thin calls go by the defaults
+abbrev pub ThinCallsIgnored : Type 0
+ThinCallsIgnored = (s t : List ℕ) → DifferInIgnored challenge s t → SameAnswering defaults s t

@@ -1,10 +1,10 @@
 -- Demand 1: "A refusal gives its number and field and changes no lent byte; a success changes only the bytes of what it
 -- writes."
-use Prim.Native.Nat.{ℕ, _<_}
+use Prim.Native.Nat.{ℕ, _≤_, _<_}
 use mathlib.Core.Path.{_≡_}
 use mathlib.Core.Logic.{_⊎_}
-use mathlib.Core.List.{List}
-use lib.ListN.{length, drop}
+use mathlib.Core.List.{List, [], _∷_}
+use lib.ListN.{length, take, drop}
 use Rattle.wire.specs.declared.refusal.Refusal.{Refusal}
 use Rattle.place.specs.declared.written.Written.{Written}
 use Rattle.place.specs.declared.written.Written.the-variants.{Length, Refused}
@@ -17,11 +17,13 @@ use Rattle.respond.specs.declared.answer.Answered.the-variants.{Sent, Refused a
 use Rattle.respond.specs.declared.decision.Settings.{Settings}
 use Rattle.respond.specs.Answer.{respondAnswer, respondOut}
 use Rattle.place.specs.Written.{bytesAnswer, bytesAfter}
+use Rattle.c_number.specs.Number.{bit}
 use Rattle.c_number.specs.Outcome.{Outcome, numbers, callNumber, callOut, twoArrayNumber, twoArrayOut, twoArrayBytes}
-use Rattle.c_respond.specs.Respond.{respondedNumbers, respondedOut}
+use Rattle.c_respond.specs.Respond.{respondedNumber, respondedNumbers, respondedOut}
 use Rattle.nl_auth_flags.specs.declared.NlAuthFlags.{NlAuthFlags}
 use Rattle.nl_auth_flags.specs.Flags.{known}
 use Rattle.nl_auth_writing.specs.Writing.{requestAnswer, requestOut, responseAnswer, responseOut}
+use Rattle.demands.specs.FromC.{Call, count, outcome, TwoArrayCall, numberCount, byteCount, twoArrayOutcome, bytesBeside}
 
 -- a call's answer, and the lent output before and after it
 pub record Kept (answer : Written) (before after : List ℕ) : Type 0 where
@@ -74,14 +76,44 @@ TwoArraysKept =
     (twoArrayNumber n m h (length out) (length beside) ≡ 0)
     ⊎ ((twoArrayOut n m h out (length beside) ≡ out) × (twoArrayBytes n m h bytes (length out) beside ≡ beside))
 
--- what it hands out stands at the front, and nothing after that changes
-abbrev pub CallFront : Type 0
-CallFront = (n : ℕ) (xs out : List ℕ) → drop (length xs) (callOut n (numbers xs) out) ≡ drop (length xs) out
+-- what a call hands out stands at the front of an array, which is as long as it was and the same after that
+pub record Front (xs before after : List ℕ) : Type 0 where
+  pub same-length : length after ≡ length before
+  pub front : take (length xs) after ≡ xs
+  pub rest : drop (length xs) after ≡ drop (length xs) before
 
--- an answer from C: where its array is too short, or where it is refused, array and output are as they were
+-- a call that is answered 0 hands out as many numbers as it asks room for
+pub record Handed (h : Outcome) (n : ℕ) (before after : List ℕ) : Type 0 where
+  pub given : List ℕ
+  pub outcome-is : h ≡ numbers given
+  pub count-is : length given ≡ n
+  pub array : Front given before after
+
+abbrev pub CallFront : Type 0
+CallFront =
+    (c : Call) (out : List ℕ) → callNumber (count c) (outcome c) (length out) ≡ 0 →
+    Handed (outcome c) (count c) out (callOut (count c) (outcome c) out)
+
+-- and one with two arrays as many numbers and bytes
+pub record HandedBoth (c : TwoArrayCall) (out beside : List ℕ) : Type 0 where
+  pub numbers-given : Handed (twoArrayOutcome c) (numberCount c) out (twoArrayOut (numberCount c) (byteCount c) (twoArrayOutcome c) out (length beside))
+  pub byte-count : length (bytesBeside c) ≡ byteCount c
+  pub bytes-given : Front (bytesBeside c) beside (twoArrayBytes (numberCount c) (byteCount c) (twoArrayOutcome c) (bytesBeside c) (length out) beside)
+
+abbrev pub TwoArraysFront : Type 0
+TwoArraysFront =
+    (c : TwoArrayCall) (out beside : List ℕ) → twoArrayNumber (numberCount c) (byteCount c) (twoArrayOutcome c) (length out) (length beside) ≡ 0 →
+    HandedBoth c out beside
+
+-- an answer from C: where its array is too short, or where it is refused, array and output are as they were; an answer that
+-- is sent hands out Time and whether a MIC is due, and nothing after its message changes in the output
 pub record KeptFromC (answer : Answered) (sent xs out : List ℕ) : Type 0 where
   pub short : length xs < 2 → (respondedNumbers answer xs ≡ xs) × (respondedOut sent (length xs) out ≡ out)
   pub refused : (e : Refusal) → answer ≡ Unanswered e → (respondedNumbers answer xs ≡ xs) × (respondedOut sent (length xs) out ≡ out)
+  pub number : (x : Answer) → answer ≡ Sent x → 2 ≤ length xs → respondedNumber answer (length xs) ≡ x .len
+  pub front : (x : Answer) → answer ≡ Sent x → 2 ≤ length xs → Front (x .time ∷ bit (x .«mic_due») ∷ []) xs (respondedNumbers answer xs)
+  pub same-length : (x : Answer) → answer ≡ Sent x → length (respondedOut sent (length xs) out) ≡ length out
+  pub rest : (x : Answer) → answer ≡ Sent x → drop (x .len) (respondedOut sent (length xs) out) ≡ drop (x .len) out
 
 abbrev pub RespondedKept : Type 0
 RespondedKept =

@@ -20,3 +20,5 @@ pub mod WrittenExactly
 pub mod SearchedExactly
 pub mod Answering
 pub mod FieldCopied
+pub mod FromC
+pub mod Answers

@@ -9,7 +9,9 @@ use lib.ListN.{length, getD, set, take}
 use Rattle.authenticate.specs.declared.Authenticate.{Authenticate}
 use Rattle.authenticate.specs.declared.Reading.the-variants.{Taken}
 use Rattle.authenticate.specs.Authenticate.{readAuthenticate}
-use Rattle.line.specs.Line.{authenticateLine}
+use Rattle.head.specs.declared.Kind.the-variants.{Authenticate as AsAuthenticate}
+use Rattle.head.specs.Head.{kindOf}
+use Rattle.line.specs.Line.{authenticateLine, ntlmLine, shownLine}
 use Rattle.place.specs.Written.{bytesAnswer, bytesAfter}
 use Rattle.respond.specs.declared.answer.Answer.{Answer}
 use Rattle.respond.specs.declared.answer.Answered.the-variants.{Sent}
@@ -46,19 +48,33 @@ pub record SamePublic (s t : List ℕ) : Type 0 where
 abbrev pub SecretRead : Type 0
 SecretRead = (s t : List ℕ) → DifferInSecrets s t → SamePublic s t
 
--- the theorem speaks of something: P1, and P1 with another first byte of its NT response
+-- the NTLM program, where it reads the first as AUTHENTICATE: it reads the second so too, both have the same line, and the
+-- line's call and what the program prints are the same at every output
+pub record SamePrinted (s t : List ℕ) : Type 0 where
+  pub kind : kindOf t ≡ AsAuthenticate
+  pub line : ntlmLine s ≡ ntlmLine t
+  pub line-answer : (out : List ℕ) → bytesAnswer (ntlmLine s) out ≡ bytesAnswer (ntlmLine t) out
+  pub line-out : (out : List ℕ) → bytesAfter (ntlmLine s) out ≡ bytesAfter (ntlmLine t) out
+  pub printed : (out : List ℕ) → shownLine (ntlmLine s) out ≡ shownLine (ntlmLine t) out
+  pub printed-answer : (out : List ℕ) → bytesAnswer (shownLine (ntlmLine s) out) out ≡ bytesAnswer (shownLine (ntlmLine t) out) out
+  pub printed-out : (out : List ℕ) → bytesAfter (shownLine (ntlmLine s) out) out ≡ bytesAfter (shownLine (ntlmLine t) out) out
+
+abbrev pub SecretPrinted : Type 0
+SecretPrinted = (s t : List ℕ) → DifferInSecrets s t → kindOf s ≡ AsAuthenticate → SamePrinted s t
+
+-- the theorems speak of something: P1, which is read as AUTHENTICATE, and P1 with another first byte of its NT response
 abbrev pub p1Other : List ℕ
 p1Other = set p1 96 0xBB
 
 abbrev pub SecretExample : Type 0
-SecretExample = DifferInSecrets p1 p1Other × (p1 ≡ p1Other → ⊥)
+SecretExample = DifferInSecrets p1 p1Other × (kindOf p1 ≡ AsAuthenticate) × (p1 ≡ p1Other → ⊥)
 
 -- "Now let a box answer one challenge twice by the same call, with the same settings, clock reading and length of output,
 -- but with any other LM response, NT response, key and MIC bytes, each as long as before. Both times it gets the same answer
 -- or the same refusal. Where messages are written, the two are of one length and alike outside those four places."
 pub record AlikeOutside (s t : List ℕ) : Type 0 where
   pub length-same : length s ≡ length t
-  pub elsewhere : (p : ℕ) → (getD s p 0 ≡ getD t p 0) ⊎ Secret s p
+  pub outside : (p : ℕ) → (getD s p 0 ≡ getD t p 0) ⊎ Secret s p
 
 -- what the two callings have of their own, each as long as before; Version and MIC are of 8 and 16 bytes, as the call takes them
 pub record AsLong (mic lm nt key mic′ lm′ nt′ key′ : List ℕ) : Type 0 where

@@ -1,0 +1,186 @@
+-- What a caller in C takes out of each call's answer.
+use Prim.Native.Nat.{ℕ, _≤_, _<_}
+use mathlib.Core.Path.{_≡_, refl, sym, subst}
+use mathlib.Core.Logic.{_⊎_, ⊎-elim}
+use mathlib.Core.Bool.{Bool, true, false, _&&_}
+use mathlib.Core.List.{List}
+use native.Mathlib.Omega.{arith}
+use lib.Dec.{leb}
+use lib.ListN.{length}
+use borrow.Author.Tests.{leb-true, le-leb, lt-leb}
+use Rattle.wire.specs.declared.check.Checked.{Checked}
+use Rattle.wire.specs.declared.check.Checked.the-variants.{Held, Failed}
+use Rattle.wire.specs.declared.check.Verdict.{Verdict}
+use Rattle.wire.specs.declared.check.Verdict.the-variants.{Clear, Refused as Not}
+use Rattle.wire.specs.declared.refusal.Refusal.the-variants.{NoRoom}
+use Rattle.wire.specs.Check.{checked, after}
+use Rattle.wire.proofs.Bools.{and-both}
+use Rattle.place.specs.declared.written.Written.{Written}
+use Rattle.place.specs.declared.written.Written.the-variants.{Length, Refused}
+use Rattle.place.specs.Place.{le16, le32}
+use Rattle.place.specs.Written.{roomHolds, answered, bytesHold, bytesAnswer}
+use Rattle.av_pairs.specs.AvPairs.{checkPairs}
+use Rattle.authenticate_writing.specs.Writing.{authenticateBytes, checkToWrite, writeAnswer}
+use Rattle.authenticate_writing.proofs.Sent.{length-message}
+use Rattle.negotiate_writing.specs.Writing.{negotiateBytes, checkToWrite as negotiateChecks, writeAnswer as negotiateAnswer}
+use Rattle.negotiate_writing.proofs.Sent.{length-message as negotiate-length}
+use Rattle.nl_auth_flags.specs.Flags.{known}
+use Rattle.nl_auth_writing.specs.Writing.{headBytes, requestBytes, responseBytes, checkRequest, requestAnswer, responseAnswer}
+use Rattle.respond.specs.declared.answer.Answer.{Answer}
+use Rattle.respond.specs.declared.answer.Answered.{Answered}
+use Rattle.respond.specs.declared.answer.Answered.the-variants.{Sent, Refused as Unanswered}
+use Rattle.respond.specs.declared.decision.Decision.{Decision}
+use Rattle.respond.specs.declared.decision.Decided.{Decided}
+use Rattle.respond.specs.declared.decision.Decided.the-variants.{Taken as Decides, Refused as Declines}
+use Rattle.respond.specs.declared.decision.Settings.{Settings}
+use Rattle.respond.specs.Answer.{micDue, timeToSend, lmToSend, micToSend, keyToSend, answerWith, sendAnswer, respondAnswer}
+use Rattle.respond.specs.Decision.{decisionOn, onDecided}
+use Rattle.respond.specs.Domain.{domainToSend}
+use Rattle.c_number.specs.Number.{refusalNumber, verdictNumber, writtenNumber}
+use Rattle.c_number.specs.Outcome.{Outcome, numbers, refused, outcomeNumber, callNumber, twoArrayNumber}
+use Rattle.c_respond.specs.Respond.{answeredNumber, respondedNumber}
+use Rattle.demands.specs.Answers.{TellsRefusal, TellsOutcome, CallTells, TwoArraysTell, TellsVerdict, CheckPairsTells, TellsWritten, Writing, write-negotiate, write-authenticate, write-nl-auth-request, write-nl-auth-response, writingAnswer, WritingShort, WritingTells, lineOf, LineTells, CopyFits, CopyTells, RespondShort, TellsAnswered, RespondTells}
+use Rattle.demands.specs.FromC.{count, outcome, numberCount, byteCount, twoArrayOutcome}
+use Rattle.demands.proofs.AnswerKept.{message-fits, mic-long}
+use Rattle.demands.proofs.Answered.{sent-written}
+use Rattle.demands.proofs.Bools.{after-held, true-not-false}
+use Rattle.demands.proofs.Kept.{request-holds}
+use Rattle.demands.proofs.LineShort.{line-short}
+use Rattle.demands.proofs.NegotiateBack.{writable}
+use Rattle.demands.proofs.SmallFields.{SmallV, pairs-small, SmallD, decision-small, SmallW, writing-small, bytes-small, SmallO, outcome-small, two-array-outcome-small}
+use Rattle.demands.proofs.Told.{tells-refusal, tells-length}
+use Rattle.wire.proofs.Laws.{held-true}
+
+-- ---- numbers handed out
+
+outcome-told : (h : Outcome) → SmallO h → TellsOutcome (outcomeNumber h) h
+outcome-told (numbers xs) w = tells-length 0 (omega arith)
+outcome-told (refused e) w = tells-refusal e w
+
+-- where check 33 is made first
+with-room : (t : Bool) (h : Outcome) → SmallO h →
+    (t ≡ false → TellsRefusal (after (checked t) (refusalNumber NoRoom) (outcomeNumber h)) NoRoom)
+    × (t ≡ true → TellsOutcome (after (checked t) (refusalNumber NoRoom) (outcomeNumber h)) h)
+with-room true h w = (λ p. absurd (true-not-false p), λ p. outcome-told h w)
+with-room false h w = (λ p. tells-refusal NoRoom (omega arith), λ p. absurd (true-not-false (sym p)))
+
+pub call-tells : CallTells
+unfolding callNumber
+call-tells c room =
+    let w = with-room (leb (count c) room) (outcome c) (outcome-small c) in
+    (λ l. w .0 (lt-leb (count c) room l), λ l. w .1 (le-leb (count c) room l))
+
+pub two-arrays-tell : TwoArraysTell
+unfolding twoArrayNumber
+two-arrays-tell c room room′ =
+    let w = with-room (leb (numberCount c) room && leb (byteCount c) room′) (twoArrayOutcome c) (two-array-outcome-small c) in (
+      λ l. w .0 (⊎-elim (λ a. rw (lt-leb (numberCount c) room a)) (λ b. rw (lt-leb (byteCount c) room′ b) (and-false (leb (numberCount c) room))) l),
+      λ a b. w .1 (and-both (leb (numberCount c) room) (leb (byteCount c) room′) (le-leb (numberCount c) room a) (le-leb (byteCount c) room′ b)),
+    )
+  where
+    and-false : (t : Bool) → (t && false) ≡ false
+    and-false true = refl
+    and-false false = refl
+
+pub check-pairs-tells : CheckPairsTells
+check-pairs-tells s = go (checkPairs s) (pairs-small s) where
+  go : (v : Verdict) → SmallV v → TellsVerdict (verdictNumber v) v
+  go Clear w = tells-length 0 (omega arith)
+  go (Not e) w = tells-refusal e w
+
+-- ---- lengths written
+
+-- what is written where a verdict is clear
+by-size : (v : Verdict) (bytes : List ℕ) (n most : ℕ) → (v ≡ Clear → length bytes ≤ most) → answered v bytes ≡ Length n → n ≤ most
+by-size Clear bytes n most size h = subst (λ (k : ℕ). k ≤ most) (same h) (size refl) where
+  same : Length (length bytes) ≡ Length n → length bytes ≡ n
+  same p = cc
+by-size (Not e) bytes n most size h = absurd (let z : _≡_ {A = ℕ} 0 1 = cc in omega arith)
+
+pub writing-short : WritingShort
+unfolding negotiateAnswer writeAnswer requestAnswer responseAnswer responseBytes headBytes le32 le16
+writing-short (write-negotiate room w v domain workstation v8) n h =
+    by-size (negotiateChecks room w domain workstation) (negotiateBytes w v domain workstation) n 65535
+    (λ c. omega (arith, writable room w domain workstation c .size, negotiate-length domain workstation w v v8)) h
+writing-short (write-authenticate room w v mic lm nt domain user workstation key v8 m16) n h =
+    by-size (checkToWrite room w lm nt domain user workstation key) (authenticateBytes w v mic lm nt domain user workstation key) n 65535
+    (λ c. omega (arith, message-fits room w lm nt domain user workstation key c .0, length-message lm nt domain user workstation key w v mic v8 m16)) h
+writing-short (write-nl-auth-request room flags a b c d e) n h =
+    by-size (checkRequest room (known flags) a b c d e) (requestBytes (known flags) a b c d e) n 65535
+    (λ k. request-holds room (known flags) a b c d e k .size) h
+writing-short (write-nl-auth-response room) n h = go (roomHolds (length responseBytes) room) h where
+  same : (m : ℕ) → Length m ≡ Length n → m ≡ n
+  same m p = cc
+
+  go : (k : Checked) → after k (Refused NoRoom) (Length (length responseBytes)) ≡ Length n → n ≤ 65535
+  go Held p = omega (arith, same (length responseBytes) p)
+  go Failed p = absurd (let z : _≡_ {A = ℕ} 0 1 = cc in omega arith)
+
+written-told : (r : Written) → SmallW r → ((n : ℕ) → r ≡ Length n → n < 0x8000000000000000) → TellsWritten (writtenNumber r) r
+written-told (Length n) w l = tells-length n (l n refl)
+written-told (Refused e) w l = tells-refusal e w
+
+pub writing-tells : WritingTells
+writing-tells w = written-told (writingAnswer w) (writing-small w) (λ n h. omega (arith, writing-short w n h))
+
+pub copy-fits : CopyFits
+unfolding bytesAnswer
+copy-fits bytes out n h =
+    by-size (bytesHold bytes out) bytes n (length out)
+    (λ c. leb-true (length bytes) (length out) (held-true _ (after-held (roomHolds (length bytes) (length out)) NoRoom Clear c .0))) h
+
+pub copy-tells : CopyTells
+copy-tells bytes out l = written-told (bytesAnswer bytes out) (bytes-small bytes out) (λ n h. omega (arith, copy-fits bytes out n h))
+
+pub line-tells : LineTells
+unfolding bytesAnswer
+line-tells l out =
+    written-told (bytesAnswer (lineOf l) out) (bytes-small (lineOf l) out)
+    (λ n h. omega (arith, by-size (bytesHold (lineOf l) out) (lineOf l) n 0x100000 (λ c. omega (arith, line-short l)) h))
+
+-- ---- answering a challenge
+
+-- the answer with what was written
+answer-told : (r : Written) (time : ℕ) (due : Bool) → SmallW r → ((n : ℕ) → r ≡ Length n → n ≤ 65535) →
+    TellsAnswered (answeredNumber (answerWith r time due)) (answerWith r time due)
+answer-told (Length n) time due w l = tells-length n (omega (arith, l n refl))
+answer-told (Refused e) time due w l = tells-refusal e w
+
+module _ (room : ℕ) (s v mic lm nt domain user workstation key : List ℕ) (settings : Settings) (clock : ℕ) (v8 : length v ≡ 8) (m16 : length mic ≡ 16) where
+  -- what is written for a decision, and the answer with it
+  sent : Decision → Writing
+  sent d =
+      write-authenticate room (d .flags) v (micToSend (d .timestamp) mic) (lmToSend settings (d .timestamp) lm) nt (domainToSend domain s) user workstation
+      (keyToSend (d .flags) key) v8 (mic-long (d .timestamp) mic m16)
+
+  send : Decision → Answered
+  send d = sendAnswer room settings d clock v mic lm nt (domainToSend domain s) user workstation key
+
+  sent-short : (x : Answer) → onDecided Unanswered (decisionOn settings s) send ≡ Sent x → x .len ≤ 65535
+  unfolding send sendAnswer sent
+  sent-short x h = go (decisionOn settings s) h where
+    go : (d : Decided) → onDecided Unanswered d send ≡ Sent x → x .len ≤ 65535
+    go (Decides d) p =
+        writing-short (sent d) (x .len) (sent-written (writingAnswer (sent d)) (timeToSend settings (d .timestamp) clock) (micDue (d .timestamp)) x p)
+    go (Declines e) p = absurd (let z : _≡_ {A = ℕ} 0 1 = cc in omega arith)
+
+  sent-told : TellsAnswered (answeredNumber (onDecided Unanswered (decisionOn settings s) send)) (onDecided Unanswered (decisionOn settings s) send)
+  unfolding send sendAnswer sent
+  sent-told = go (decisionOn settings s) (decision-small settings s) where
+    go : (d : Decided) → SmallD d → TellsAnswered (answeredNumber (onDecided Unanswered d send)) (onDecided Unanswered d send)
+    go (Decides d) w =
+        answer-told (writingAnswer (sent d)) (timeToSend settings (d .timestamp) clock) (micDue (d .timestamp)) (writing-small (sent d)) (writing-short (sent d))
+    go (Declines e) w = tells-refusal e w
+
+pub respond-short : RespondShort
+unfolding respondAnswer send
+respond-short room s v mic lm nt domain user workstation key settings clock x v8 m16 h =
+    sent-short room s v mic lm nt domain user workstation key settings clock v8 m16 x h
+
+pub respond-tells : RespondTells
+unfolding respondedNumber respondAnswer send
+respond-tells room nums s v mic lm nt domain user workstation key settings clock v8 m16 =
+    record {
+      short = λ l. rw (lt-leb 2 nums l) (tells-refusal NoRoom (omega arith));
+      told = λ l. rw (le-leb 2 nums l) (sent-told room s v mic lm nt domain user workstation key settings clock v8 m16);
+    }

@@ -1,0 +1,292 @@
+-- A line has under 2^20 bytes.
+use Prim.Native.Nat.{ℕ, zero, suc, _+_, _*_, _≤_, _<_}
+use mathlib.Core.Path.{_≡_, refl, sym, subst}
+use mathlib.Core.Bool.{Bool, true, false, cond}
+use mathlib.Core.List.{List, [], _∷_}
+use native.Mathlib.Omega.{arith}
+use lib.Dec.{leb, eqb}
+use lib.ListN.{length, drop, length-append}
+use borrow.Author.Tests.{leb-true, leb-false, eqb-true}
+use Rattle.text.specs.Text.{ascii}
+use Rattle.wire.specs.declared.check.Checked.{Checked}
+use Rattle.wire.specs.declared.check.Checked.the-variants.{Held, Failed}
+use Rattle.wire.specs.declared.refusal.Refusal.{Refusal}
+use Rattle.wire.specs.declared.refusal.Refusal.the-variants.{TooLong, TooShort, WrongType, NoStrings, Unterminated, BytesLeft, WrongResponse, NoRoom}
+use Rattle.wire.specs.Check.{checked, after, onClear}
+use Rattle.wire.specs.Refusal.{numberOf, fieldOf}
+use Rattle.wire.proofs.Laws.{held-true}
+use Rattle.place.specs.Written.{roomHolds}
+use Rattle.field.specs.declared.Field.{Field}
+use Rattle.field.specs.Field.{noField}
+use Rattle.negotiate_flags.specs.Flags.{unicode}
+use Rattle.authenticate.specs.declared.Authenticate.{Authenticate}
+use Rattle.authenticate.specs.declared.Reading.{Reading}
+use Rattle.authenticate.specs.declared.Reading.the-variants.{Taken, Refused}
+use Rattle.authenticate.specs.Authenticate.{readAuthenticate}
+use Rattle.av_pairs.specs.declared.Step.{Step}
+use Rattle.av_pairs.specs.declared.Step.the-variants.{Pair, End, Refused as Faulty}
+use Rattle.av_pairs.specs.AvPairs.{stepAt, onStep, endOf, pairsFrom, pairsOf, checkPairs}
+use Rattle.challenge.specs.declared.Challenge.{Challenge}
+use Rattle.challenge.specs.declared.Reading.{Reading as ChallengeReading}
+use Rattle.challenge.specs.declared.Reading.the-variants.{Taken as ChallengeTaken, Refused as ChallengeRefused}
+use Rattle.challenge.specs.Challenge.{infoOf, readChallenge}
+use Rattle.head.specs.declared.Kind.{Kind}
+use Rattle.head.specs.declared.Kind.the-variants.{Negotiate as AsNegotiate, Challenge as AsChallenge, Authenticate as AsAuthenticate}
+use Rattle.head.specs.Head.{lengthHolds, fixedPartHolds, kindOf}
+use Rattle.negotiate.specs.declared.Negotiate.{Negotiate}
+use Rattle.negotiate.specs.declared.Reading.{Reading as NegotiateReading}
+use Rattle.negotiate.specs.declared.Reading.the-variants.{Taken as NegotiateTaken, Refused as NegotiateRefused}
+use Rattle.negotiate.specs.Negotiate.{readNegotiate}
+use Rattle.nl_auth_flags.specs.declared.NlAuthFlags.{NlAuthFlags}
+use Rattle.nl_auth_flags.specs.Flags.{nbDomain, nbComputer, dnsDomain, dnsHost, utf8Computer, stringsHold}
+use Rattle.nl_auth.specs.declared.NlAuth.{NlAuth}
+use Rattle.nl_auth.specs.declared.Reading.{Reading as NlReading}
+use Rattle.nl_auth.specs.declared.Reading.the-variants.{Taken as NlTaken, Refused as NlRefused}
+use Rattle.nl_auth.specs.declared.string.Scan.the-variants.{Found, Missing}
+use Rattle.nl_auth.specs.NlAuth.{beforeZero, holdsZero, stringAt, stringUnder, onFound, endHolds, readUtf8, readRequest, responseHolds, readResponse, messageType, isRequest, flagsAt, typeHolds, readNlAuth}
+use Rattle.word.specs.Digits.{decimal}
+use Rattle.word.specs.Words.{numberWord}
+use Rattle.word.proofs.Names.{field-small}
+use Rattle.word.proofs.Numbers.{decimal-small}
+use Rattle.line_auth.specs.Auth.{authLengths}
+use Rattle.line_auth.proofs.Laws.{auth-fits}
+use Rattle.line_chal.proofs.Laws.{chal-fits}
+use Rattle.line_nego.proofs.Laws.{nego-fits}
+use Rattle.line_nl.specs.Nl.{givenBy}
+use Rattle.line_nl.proofs.Laws.{nl-fits}
+use Rattle.line_refused.specs.Refused.{refusedText, refusedLine}
+use Rattle.line.specs.Line.{negoLine, negotiateLine, authLine, authenticateLine, chalLine, challengeLine, nlLine, nlAuthLine, lineAs, ntlmLine, shownLine}
+use Rattle.target_info.specs.TargetInfo.{timestampIn}
+use Rattle.line_chal.specs.Chal.{chalWords, chalText}
+use Rattle.wire.specs.declared.check.Verdict.{Verdict}
+use Rattle.wire.specs.declared.check.Verdict.the-variants.{Clear, Refused as Not}
+use Rattle.demands.proofs.Challenge.{JudgedP, pairs-judged}
+use Rattle.demands.specs.Answers.{negotiate-line, authenticate-line, challenge-line, nl-auth-line, ntlm-line, ntlm-program-line, nl-auth-program-line, LineShort}
+use Rattle.demands.specs.Message.{Format, negotiate, authenticate, challenge}
+use Rattle.demands.specs.OwnBytes.{OwnField}
+use Rattle.demands.specs.TakenExactly.{IsTakenNegotiate, IsTakenNl}
+use Rattle.demands.proofs.ChallengeOwn.{taken-as, challenge-own}
+use Rattle.demands.proofs.Negotiate.{negotiate-taken, negotiate-own}
+use Rattle.demands.proofs.NlAuth.{nl-auth-taken}
+use Rattle.demands.proofs.OwnBytes.{none-fails, authenticate-own}
+use Rattle.demands.proofs.SmallFields.{authenticate-small, negotiate-small, nl-auth-small, challenge-small, SmallC}
+use Rattle.demands.proofs.Told.{Small, number-small}
+
+-- ---- what a taken message's line is made of
+
+-- a message that check 1 lets pass
+not-long : (n : ℕ) → (65535 < n → ⊥) → n ≤ 65535
+not-long n h = omega (arith, h)
+
+-- a field is no longer than its message
+own-len : (k : Format) (s : List ℕ) (i : ℕ) (f : Field) → OwnField k s i f → f .len ≤ length s
+own-len k s i f o = go (leb (f .len) (length s)) refl where
+  go : (t : Bool) → leb (f .len) (length s) ≡ t → f .len ≤ length s
+  go true p = leb-true (f .len) (length s) p
+  go false p =
+      let l = leb-false (f .len) (length s) p in
+      let none = o .none (λ ne. omega (arith, l, o .place ne .1, o .whole ne)) in
+      omega (arith, l, none .1)
+
+-- a line that fits a room
+fits-short : (n room : ℕ) → Held ≡ roomHolds n room → n ≤ room
+fits-short n room h = leb-true n room (held-true (leb n room) (sym h))
+
+-- a number of 64 bits has at most 20 digits
+number-bound : (label : List ℕ) (n : ℕ) → n < 0x10000000000000000 → length (numberWord label n) ≤ length label + 20
+unfolding numberWord
+number-bound label n l = omega (arith, length-append label (decimal n), decimal-small n (length (decimal n)) refl (omega arith))
+
+refused-short : (e : Refusal) → Small e → length (refusedLine e) < 0x100000
+unfolding refusedLine refusedText
+refused-short e small =
+    simp length-append
+    (omega (arith, number-bound (ascii "refused ") (numberOf e) (omega (arith, number-small e)), number-bound (ascii " field=") (fieldOf e) (omega (arith, small))))
+
+-- ---- AUTHENTICATE
+
+auth-short : (s : List ℕ) (a : Authenticate) → readAuthenticate s .reading ≡ Taken a → length (authLine s (Taken a)) < 0x100000
+unfolding authLengths
+auth-short s a h =
+    let n = not-long (length s) (λ l. none-fails s a h 1 0 (refl, l)) in
+    let o = authenticate-own s a h in
+    let lm = own-len authenticate s 1 (a .fields .lm) (o .lm) in
+    let nt = own-len authenticate s 2 (a .fields .nt) (o .nt) in
+    let domain = own-len authenticate s 3 (a .fields .domain) (o .domain) in
+    let user = own-len authenticate s 4 (a .fields .user) (o .user) in
+    let workstation = own-len authenticate s 5 (a .fields .workstation) (o .workstation) in
+    let key = own-len authenticate s 6 (a .fields .key) (o .key) in
+    let lengths : length (authLengths (a .fields .lm .len) (a .fields .nt .len) (a .fields .key .len)) ≤ 73 =
+    simp length-append (omega (arith, number-bound (ascii " lm=") (a .fields .lm .len) (omega (arith, n, lm)), number-bound (ascii " nt=") (a .fields .nt .len) (omega (arith, n, nt)), number-bound (ascii " key=") (a .fields .key .len) (omega (arith, n, key)))) in
+    let fits = fits-short (length (authLine s (Taken a))) 1000000 (auth-fits (unicode (a .flags)) s a (length (authLengths (a .fields .lm .len) (a .fields .nt .len) (a .fields .key .len))) 1000000 refl (omega (arith, n, lengths, domain, user, workstation))) in
+    omega (arith, fits)
+
+authenticate-short : (s : List ℕ) → length (authenticateLine s) < 0x100000
+unfolding authenticateLine
+authenticate-short s = go (readAuthenticate s .reading) refl where
+  go : (r : Reading) → readAuthenticate s .reading ≡ r → length (authLine s r) < 0x100000
+  go (Taken a) p = auth-short s a p
+  go (Refused e) p = refused-short e (authenticate-small s e p)
+
+-- ---- NEGOTIATE
+
+nego-short : (s : List ℕ) (m : Negotiate) → readNegotiate s ≡ NegotiateTaken m → length (negoLine s (NegotiateTaken m)) < 0x100000
+nego-short s m h =
+    let n = not-long (length s) (λ l. negotiate-taken s .0 (subst IsTakenNegotiate (sym h) tt) 1 0 (refl, l)) in
+    let o = negotiate-own s m h in
+    let domain = own-len negotiate s 1 (m .fields .domain) (o .domain) in
+    let workstation = own-len negotiate s 2 (m .fields .workstation) (o .workstation) in
+    let fits = fits-short (length (negoLine s (NegotiateTaken m))) 1000000 (nego-fits s m 1000000 (omega (arith, n, domain, workstation))) in
+    omega (arith, fits)
+
+negotiate-short : (s : List ℕ) → length (negotiateLine s) < 0x100000
+unfolding negotiateLine
+negotiate-short s = go (readNegotiate s) refl where
+  go : (r : NegotiateReading) → readNegotiate s ≡ r → length (negoLine s r) < 0x100000
+  go (NegotiateTaken m) p = nego-short s m p
+  go (NegotiateRefused e) p = refused-short e (negotiate-small s e p)
+
+-- ---- CHALLENGE
+
+-- so many steps find at most so many pairs
+few-pairs : (k : ℕ) (s : List ℕ) (at : ℕ) → length (pairsFrom k s at) ≤ k
+few-pairs zero s at = omega arith
+few-pairs (suc k) s at = go (stepAt s at) (λ next. few-pairs k s next) where
+  go : (r : Step) → ((next : ℕ) → length (pairsFrom k s next) ≤ k) → length (onStep r (λ p. p ∷ pairsFrom k s (endOf p)) (λ v. [])) ≤ suc k
+  go (Pair p) few = omega (arith, few (endOf p))
+  go End few = omega arith
+  go (Faulty e) few = omega arith
+
+pairs-few : (s : List ℕ) → length (pairsOf s) ≤ length s + 1
+unfolding pairsOf
+pairs-few s = omega (arith, few-pairs (suc (length s)) s 0)
+
+chal-short : (s : List ℕ) (c : Challenge) → readChallenge s .reading ≡ ChallengeTaken c → length (chalLine s (ChallengeTaken c)) < 0x100000
+unfolding chalText
+chal-short s c h = go (checkPairs (infoOf s c)) (pairs-judged (infoOf s c)) where
+  n : length s ≤ 65535
+  n = not-long (length s) (λ l. taken-as s c h .none 1 0 (refl, l))
+
+  words : List ℕ
+  words = chalWords (unicode (c .flags)) s c (length (pairsOf (infoOf s c))) (timestampIn (infoOf s c))
+
+  words-short : length words < 0x100000
+  words-short =
+      let o = challenge-own s c h in
+      let name = own-len challenge s 1 (c .fields .«target_name») (o .target-name) in
+      let info = own-len challenge s 2 (c .fields .«target_info») (o .target-info) in
+      let bytes = field-small s (infoOf s c) (c .fields .«target_info») refl in
+      let pairs = pairs-few (infoOf s c) in
+      let word = number-bound (ascii " pairs=") (length (pairsOf (infoOf s c))) (omega (arith, n, info, bytes, pairs)) in
+      let fits = fits-short (length words) 1000000
+      (chal-fits (unicode (c .flags)) s c (length (pairsOf (infoOf s c))) (timestampIn (infoOf s c)) (length (numberWord (ascii " pairs=") (length (pairsOf (infoOf s c))))) 1000000 refl (omega (arith, n, name, word))) in
+      omega (arith, fits)
+
+  go : (v : Verdict) → JudgedP (infoOf s c) v → length (onClear refusedLine v words) < 0x100000
+  go Clear j = words-short
+  go (Not e) j = refused-short e (omega (arith, j .1))
+
+challenge-short : (s : List ℕ) → length (challengeLine s) < 0x100000
+unfolding challengeLine readChallenge
+challenge-short s = go (readChallenge s .reading) refl (challenge-small s) where
+  go : (r : ChallengeReading) → readChallenge s .reading ≡ r → SmallC r → length (chalLine s r) < 0x100000
+  go (ChallengeTaken c) p w = chal-short s c p
+  go (ChallengeRefused e) p w = refused-short e w
+
+-- ---- NL_AUTH: the strings stand one after the other
+
+total : NlAuth → ℕ
+total m = m .strings .«nb_domain» .len + m .strings .«nb_computer» .len + m .strings .«dns_domain» .len + m .strings .«dns_host» .len + m .strings .«utf8_computer» .len
+
+abbrev Inside : List ℕ → NlReading → Type 0
+Inside s (NlTaken m) = (total m ≤ length s) × (m .«message_type» ≤ 1)
+Inside s (NlRefused e) = Unit
+
+-- a string ends before the place of the next one
+found-inside : (s : List ℕ) (b : Bool) (at : ℕ) (e : Refusal) (x : Field → ℕ → NlReading) →
+    ((f : Field) (next : ℕ) → at + f .len ≤ next → Inside s (x f next)) → Inside s (onFound (stringUnder b s at) (NlRefused e) x)
+unfolding stringUnder stringAt
+found-inside s true at e x h = go (holdsZero (drop at s)) where
+  go : (t : Bool) → Inside s (onFound (cond t (Found (record { offset = at; len = beforeZero (drop at s) }) (at + beforeZero (drop at s) + 1)) Missing) (NlRefused e) x)
+  go true = h (record { offset = at; len = beforeZero (drop at s) }) (at + beforeZero (drop at s) + 1) (omega arith)
+  go false = tt
+found-inside s false at e x h = h noField at (omega arith)
+
+utf8-inside : (w : NlAuthFlags) (s : List ℕ) (a b : Field) (at : ℕ) → a .len + b .len ≤ at → Inside s (readUtf8 w s a b at)
+unfolding readUtf8 total
+utf8-inside w s a b at l =
+    found-inside s (dnsDomain w) at (Unterminated 3) _ (λ c c′ lc.
+    found-inside s (dnsHost w) c′ (Unterminated 4) _ (λ d d′ ld.
+    found-inside s (utf8Computer w) d′ (Unterminated 5) _ (λ e e′ le.
+    last e′ (record { «message_type» = 0; flags = w; strings = record { «nb_domain» = a; «nb_computer» = b; «dns_domain» = c; «dns_host» = d; «utf8_computer» = e } }) (omega arith) (omega arith))))
+  where
+    last : (at : ℕ) (m : NlAuth) → total m ≤ at → m .«message_type» ≤ 1 → Inside s (after (endHolds at s) (NlRefused BytesLeft) (NlTaken m))
+    last at m l t = go (eqb at (length s)) refl where
+      go : (b : Bool) → eqb at (length s) ≡ b → Inside s (after (checked b) (NlRefused BytesLeft) (NlTaken m))
+      go true p = (omega (arith, eqb-true at (length s) p, l), t)
+      go false p = tt
+
+after-inside : (s : List ℕ) (c : Checked) (e : Refusal) (x : NlReading) → Inside s x → Inside s (after c (NlRefused e) x)
+after-inside s Held e x h = h
+after-inside s Failed e x h = tt
+
+nl-inside : (s : List ℕ) → Inside s (readNlAuth s)
+unfolding readNlAuth readRequest readResponse total
+nl-inside s =
+    after-inside s (lengthHolds s) TooLong _
+    (after-inside s (fixedPartHolds 8 s) TooShort _
+    (after-inside s (typeHolds (messageType s)) WrongType _
+    (go (isRequest (messageType s)))))
+  where
+    go : (t : Bool) → Inside s (cond t (readRequest (flagsAt s) s) (readResponse s))
+    go true =
+        after-inside s (stringsHold (flagsAt s)) NoStrings _
+        (found-inside s (nbDomain (flagsAt s)) 8 (Unterminated 1) _ (λ a a′ la.
+        found-inside s (nbComputer (flagsAt s)) a′ (Unterminated 2) _ (λ b b′ lb.
+        utf8-inside (flagsAt s) s a b b′ (omega arith))))
+    go false = after-inside s (responseHolds s) WrongResponse _ (omega arith, omega arith)
+
+nl-short : (s : List ℕ) (m : NlAuth) → readNlAuth s ≡ NlTaken m → length (nlLine s (NlTaken m)) < 0x100000
+unfolding total
+nl-short s m h =
+    let n = not-long (length s) (λ l. nl-auth-taken s .0 (subst IsTakenNl (sym h) tt) 1 0 (refl, l)) in
+    let inside = subst (Inside s) h (nl-inside s) in
+    let word = number-bound (ascii "nl type=") (m .«message_type») (omega (arith, inside .1)) in
+    let fits = fits-short (length (nlLine s (NlTaken m))) 1000000
+    (nl-fits (givenBy (m .flags)) s m (length (numberWord (ascii "nl type=") (m .«message_type»)))
+    (4 * (m .strings .«nb_domain» .len + m .strings .«nb_computer» .len + m .strings .«dns_domain» .len + m .strings .«dns_host» .len + m .strings .«utf8_computer» .len))
+    1000000 refl refl (omega (arith, n, inside .0, word))) in
+    omega (arith, fits)
+
+nl-auth-short : (s : List ℕ) → length (nlAuthLine s) < 0x100000
+unfolding nlAuthLine
+nl-auth-short s = go (readNlAuth s) refl where
+  go : (r : NlReading) → readNlAuth s ≡ r → length (nlLine s r) < 0x100000
+  go (NlTaken m) p = nl-short s m p
+  go (NlRefused e) p = refused-short e (nl-auth-small s e p)
+
+-- ---- all of them
+
+ntlm-short : (s : List ℕ) → length (ntlmLine s) < 0x100000
+unfolding ntlmLine
+ntlm-short s = go (kindOf s) where
+  go : (k : Kind) → length (lineAs k s) < 0x100000
+  go AsNegotiate = negotiate-short s
+  go AsChallenge = challenge-short s
+  go AsAuthenticate = authenticate-short s
+
+shown-short : (line out : List ℕ) → length line < 0x100000 → length (shownLine line out) < 0x100000
+unfolding shownLine
+shown-short line out l = go (roomHolds (length line) (length out)) where
+  go : (c : Checked) → length (after c (refusedLine NoRoom) line) < 0x100000
+  go Held = l
+  go Failed = refused-short NoRoom (omega arith)
+
+pub line-short : LineShort
+line-short (negotiate-line s) = negotiate-short s
+line-short (authenticate-line s) = authenticate-short s
+line-short (challenge-line s) = challenge-short s
+line-short (nl-auth-line s) = nl-auth-short s
+line-short (ntlm-line s) = ntlm-short s
+line-short (ntlm-program-line s out) = shown-short (ntlmLine s) out (ntlm-short s)
+line-short (nl-auth-program-line s out) = shown-short (nlAuthLine s) out (nl-auth-short s)

@@ -1,0 +1,71 @@
+-- MaxLen and ignored bytes of a challenge change no decision, no domain to send and no answer.
+use Prim.Native.Nat.{ℕ, _+_}
+use mathlib.Core.Path.{ap, _∙_}
+use mathlib.Core.Bool.{true, cond}
+use mathlib.Core.List.{List}
+use lib.Dec.{eqb, leb}
+use lib.ListN.{length, take, drop}
+use Rattle.wire.specs.declared.refusal.Refusal.the-variants.{No128Bit, NoServerNames}
+use Rattle.wire.specs.Check.{after}
+use Rattle.negotiate_flags.specs.Flags.{unicode}
+use Rattle.av_id.specs.AvId.{isNbDomainName}
+use Rattle.av_pairs.specs.AvPairs.{pairsOf}
+use Rattle.field.specs.Field.{fieldStart}
+use Rattle.challenge.specs.declared.Challenge.{Challenge}
+use Rattle.challenge.specs.Challenge.{readingOf, onTaken, infoOf}
+use Rattle.respond.specs.declared.answer.Answered.the-variants.{Refused as Unanswered}
+use Rattle.respond.specs.declared.decision.Decided.{Decided}
+use Rattle.respond.specs.declared.decision.Decided.the-variants.{Taken, Refused}
+use Rattle.respond.specs.Answer.{sendAnswer, sendOut, respondAnswer, respondOut}
+use Rattle.respond.specs.Decision.{defaults, decisionOn, onDecided, strengthHolds, serverNamesHold}
+use Rattle.respond.specs.Domain.{Part, ownPart, onFound, domainPart, domainToSend}
+use Rattle.target_info.specs.TargetInfo.{firstBy, timestampIn, serverNamesIn}
+use Rattle.demands.specs.Ignored.{DecisionIgnored, DomainIgnored, RespondIgnored, ThinCallsIgnored}
+use Rattle.demands.proofs.ChallengeIgnored.{made-same}
+
+pub decision-ignored : DecisionIgnored
+unfolding decisionOn
+decision-ignored settings s t d =
+    made-same s t d Refused (λ c l.
+    after (strengthHolds settings (c .flags)) (Refused No128Bit) (
+    after (serverNamesHold settings (serverNamesIn l)) (Refused NoServerNames)
+    (Taken (record { flags = c .flags; timestamp = timestampIn l }))))
+
+-- the domain of a taken challenge of n bytes, by TargetInfo's bytes
+part-of : List ℕ → ℕ → Challenge → List ℕ → Part
+part-of own n c info =
+    cond (unicode (c .flags))
+    (onFound (firstBy isNbDomainName (pairsOf info))
+    (λ p. record {
+      ofChallenge = true;
+      start = cond (leb (c .fields .«target_info» .offset + c .fields .«target_info» .len) n) (c .fields .«target_info» .offset) 0 + p .at;
+      bytes = take (p .len) (drop (p .at) info);
+    })
+    (ownPart own))
+    (ownPart own)
+
+pub domain-ignored : DomainIgnored
+unfolding domainPart fieldStart part-of
+domain-ignored own s t d =
+    ap (λ (x : Part). cond (eqb (length own) 0) x (ownPart own))
+    (made-same s t d (λ e. ownPart own) (part-of own (length s))
+    ∙ ap (λ (n : ℕ). onTaken (λ e. ownPart own) (readingOf t) (λ c. part-of own n c (infoOf t c))) (d .length-same))
+
+pub respond-ignored : RespondIgnored
+unfolding respondAnswer respondOut
+respond-ignored settings s t d =
+    record {
+      answer = λ room clock v mic lm nt domain user workstation key.
+          ap (λ (x : Decided). onDecided Unanswered x (λ y. sendAnswer room settings y clock v mic lm nt (domainToSend domain s) user workstation key))
+          (decision-ignored settings s t d)
+          ∙ ap (λ (p : Part). onDecided Unanswered (decisionOn settings t) (λ y. sendAnswer room settings y clock v mic lm nt (p .bytes) user workstation key))
+          (domain-ignored domain s t d);
+      output = λ out v mic lm nt domain user workstation key.
+          ap (λ (x : Decided). onDecided (λ e. out) x (λ y. sendOut out settings y v mic lm nt (domainToSend domain s) user workstation key))
+          (decision-ignored settings s t d)
+          ∙ ap (λ (p : Part). onDecided (λ e. out) (decisionOn settings t) (λ y. sendOut out settings y v mic lm nt (p .bytes) user workstation key))
+          (domain-ignored domain s t d);
+    }
+
+pub thin-calls-ignored : ThinCallsIgnored
+thin-calls-ignored s t d = respond-ignored defaults s t d

@@ -1,0 +1,322 @@
+-- Every refusal that a call gives has a field of at most 6.
+use Prim.Native.Nat.{ℕ, _+_, _≤_}
+use mathlib.Core.Path.{_≡_, refl, sym, subst}
+use mathlib.Core.Bool.{Bool, true, false, cond}
+use mathlib.Core.List.{List}
+use native.Mathlib.Omega.{arith}
+use lib.Dec.{leb, eqb}
+use lib.ListN.{length}
+use borrow.Author.Tests.{leb-true, leb-false}
+use Rattle.wire.specs.declared.check.Checked.{Checked}
+use Rattle.wire.specs.declared.check.Checked.the-variants.{Held, Failed}
+use Rattle.wire.specs.declared.check.Verdict.{Verdict}
+use Rattle.wire.specs.declared.check.Verdict.the-variants.{Clear, Refused as Not}
+use Rattle.wire.specs.declared.refusal.Refusal.{Refusal}
+use Rattle.wire.specs.declared.refusal.Refusal.the-variants.{PairMissing, No128Bit, NoServerNames, OddNameToWrite, NoRoom, ZeroInString}
+use Rattle.wire.specs.Check.{after, onClear}
+use Rattle.wire.specs.Number.{u16At}
+use Rattle.wire.specs.Refusal.{numberOf, fieldOf}
+use Rattle.place.specs.declared.written.Written.{Written}
+use Rattle.place.specs.declared.written.Written.the-variants.{Length, Refused as Unwritten}
+use Rattle.place.specs.Written.{sizeHolds as sizeToHold, roomHolds, answered, bytesHold, bytesAnswer}
+use Rattle.negotiate_flags.specs.declared.NegotiateFlags.{NegotiateFlags}
+use Rattle.negotiate_flags.specs.Flags.{unicode, charsetHolds}
+use Rattle.authenticate.specs.declared.Reading.{Reading}
+use Rattle.authenticate.specs.declared.Reading.the-variants.{Taken, Refused}
+use Rattle.authenticate.specs.Authenticate.{readAuthenticate}
+use Rattle.authenticate_writing.specs.Writing.{authenticateBytes, evenToWrite, checkNamesToWrite, keyHolds, sizeToWrite, checkToWrite, writeAnswer}
+use Rattle.av_id.specs.declared.AvId.{AvId}
+use Rattle.av_id.specs.AvId.{isEnd}
+use Rattle.av_pairs.specs.declared.Count.the-variants.{Pairs, Refused as Uncounted}
+use Rattle.target_info.specs.declared.Search.the-variants.{Done, Refused as Unsearched}
+use Rattle.av_pairs.specs.declared.Step.{Step}
+use Rattle.av_pairs.specs.declared.Step.the-variants.{Pair, End, Refused as Faulty}
+use Rattle.av_pairs.specs.AvPairs.{left, pairThere, endPairHolds, valueInside, sizeHolds, pairOf, idAt, stepAt, pairsOf, checkPairs, countPairs, askAt}
+use Rattle.challenge.specs.declared.Reading.{Reading as ChallengeReading}
+use Rattle.challenge.specs.declared.Reading.the-variants.{Taken as ChallengeTaken, Refused as ChallengeRefused}
+use Rattle.challenge.specs.declared.ServerNamesReading.the-variants.{Taken as NamesTaken, Refused as NamesRefused}
+use Rattle.challenge.specs.declared.TimestampReading.the-variants.{Taken as TimeTaken, Refused as TimeRefused}
+use Rattle.challenge.specs.Challenge.{fieldsOf, onTaken, infoOf, readingOf, readChallenge, timestampOf, serverNamesOf}
+use Rattle.negotiate.specs.declared.Reading.{Reading as NegotiateReading}
+use Rattle.negotiate.specs.declared.Reading.the-variants.{Taken as NegotiateTaken, Refused as NegotiateRefused}
+use Rattle.negotiate.specs.Negotiate.{readNegotiate}
+use Rattle.negotiate_writing.specs.Writing.{negotiateBytes, sizeToWrite as negotiateSize, checkToWrite as negotiateChecks, writeAnswer as negotiateAnswer}
+use Rattle.nl_auth.specs.declared.Reading.{Reading as NlReading}
+use Rattle.nl_auth.specs.declared.Reading.the-variants.{Taken as NlTaken, Refused as NlRefused}
+use Rattle.nl_auth.specs.NlAuth.{readNlAuth}
+use Rattle.nl_auth_flags.specs.declared.NlAuthFlags.{NlAuthFlags}
+use Rattle.nl_auth_flags.specs.Flags.{nbDomain, nbComputer, dnsDomain, dnsHost, utf8Computer, known, stringsHold}
+use Rattle.nl_auth_writing.specs.Writing.{requestBytes, responseBytes, noZero, checkZeros, checkRequest, requestAnswer, responseAnswer}
+use Rattle.respond.specs.declared.decision.Decided.{Decided}
+use Rattle.respond.specs.declared.decision.Decided.the-variants.{Taken as Decides, Refused as Declines}
+use Rattle.respond.specs.declared.decision.Settings.{Settings}
+use Rattle.respond.specs.Decision.{decisionOn, strengthHolds, serverNamesHold}
+use Rattle.c_number.specs.Outcome.{Outcome, numbers, refused}
+use Rattle.c_reading.specs.Numbers.{negotiateOutcome, authenticateOutcome, challengeOutcome, timestampOutcome, serverNamesOutcome, nlAuthOutcome}
+use Rattle.c_pairs.specs.Pairs.{countOutcome, searchOutcome, stepOutcome}
+use Rattle.c_respond.specs.Settings.{settingsOf}
+use Rattle.c_respond.specs.Respond.{decidedOutcome}
+use Rattle.target_info.specs.TargetInfo.{firstPair, findPair, timestampIn, serverNamesIn}
+use Rattle.demands.specs.Answers.{Writing, write-negotiate, write-authenticate, write-nl-auth-request, write-nl-auth-response, writingAnswer}
+use Rattle.demands.specs.FromC.{Call, read-negotiate, read-timestamp, read-server-names, read-nl-auth, count-pairs, find-pair, next-pair, decide, outcome, TwoArrayCall, read-authenticate, read-challenge, twoArrayOutcome}
+use Rattle.demands.specs.Message.{Format, negotiate, authenticate, challenge, Fails}
+use Rattle.demands.specs.NlAuth.{NlFails}
+use Rattle.demands.specs.Order.{row}
+use Rattle.demands.specs.TakenExactly.{AuthenticateRefusedWith, NegotiateRefusedWith, NlRefusedWith}
+use Rattle.demands.proofs.Chain.{by-row}
+use Rattle.demands.proofs.Challenge.{JudgedF, fields-of-judged, JudgedP, pairs-judged}
+use Rattle.demands.proofs.Negotiate.{negotiate-refused}
+use Rattle.demands.proofs.NlAuth.{nl-auth-refused}
+use Rattle.demands.proofs.TakenExactly.{authenticate-refused}
+use Rattle.demands.proofs.Told.{Small}
+
+-- ---- reading: by the tables of checks
+
+fails-field : (k : Format) (s : List ℕ) (n i : ℕ) → Fails k s n i → i ≤ k .last
+fails-field k s n i w = go (leb i (k .last)) refl where
+  go : (t : Bool) → leb i (k .last) ≡ t → i ≤ k .last
+  go true p = leb-true i (k .last) p
+  go false p =
+      let l = leb-false i (k .last) p in
+      absurd (by-row k s n i (λ x. omega (arith, l, x .0)) (λ x. omega (arith, l, x .0)) (λ x. omega (arith, l, x .0)) (λ x. omega (arith, l, x .0)) (λ x. omega (arith, l, x .0)) (λ x. omega (arith, l, x .0 .last)) (λ x. omega (arith, l, x .0 .last)) (λ x. omega (arith, l, x .0 .last)) (λ x. omega (arith, l, x .0 .last)) w)
+
+pub authenticate-small : (s : List ℕ) (e : Refusal) → readAuthenticate s .reading ≡ Refused e → Small e
+authenticate-small s e h =
+    fails-field authenticate s (numberOf e) (fieldOf e)
+    (authenticate-refused s (numberOf e) (fieldOf e) .0 (subst (λ (r : Reading). AuthenticateRefusedWith r (numberOf e) (fieldOf e)) (sym h) (refl, refl)) .fails)
+
+pub negotiate-small : (s : List ℕ) (e : Refusal) → readNegotiate s ≡ NegotiateRefused e → Small e
+negotiate-small s e h =
+    omega (
+      arith,
+      fails-field negotiate s (numberOf e) (fieldOf e)
+          (negotiate-refused s (numberOf e) (fieldOf e) .0 (subst (λ (r : NegotiateReading). NegotiateRefusedWith r (numberOf e) (fieldOf e)) (sym h) (refl, refl)) .fails),
+    )
+
+in-row : (b : Bool) (P rest Q : Type 0) → (P → Q) → (rest → Q) → row b P rest → Q
+in-row true P rest Q f g h = f h
+in-row false P rest Q f g h = g h
+
+nl-fails-field : (s : List ℕ) (n i : ℕ) → NlFails s n i → i ≤ 5
+nl-fails-field s n i w =
+    in-row (eqb n 1) _ _ (i ≤ 5) (λ x. omega (arith, x .0)) (
+    in-row (eqb n 2) _ _ (i ≤ 5) (λ x. omega (arith, x .0)) (
+    in-row (eqb n 4) _ _ (i ≤ 5) (λ x. omega (arith, x .0)) (
+    in-row (eqb n 14) _ _ (i ≤ 5) (λ x. omega (arith, x .0)) (
+    in-row (eqb n 15) _ _ (i ≤ 5) (λ x. x .1) (
+    in-row (eqb n 16) _ _ (i ≤ 5) (λ x. omega (arith, x .0)) (
+    in-row (eqb n 17) _ _ (i ≤ 5) (λ x. omega (arith, x .0)) (λ x. absurd x))))))) w
+
+pub nl-auth-small : (s : List ℕ) (e : Refusal) → readNlAuth s ≡ NlRefused e → Small e
+nl-auth-small s e h =
+    omega (
+      arith,
+      nl-fails-field s (numberOf e) (fieldOf e)
+          (nl-auth-refused s (numberOf e) (fieldOf e) .0 (subst (λ (r : NlReading). NlRefusedWith r (numberOf e) (fieldOf e)) (sym h) (refl, refl)) .fails),
+    )
+
+-- ---- pair lists
+
+abbrev pub SmallV : Verdict → Type 0
+SmallV Clear = Unit
+SmallV (Not e) = Small e
+
+pub pairs-small : (s : List ℕ) → SmallV (checkPairs s)
+pairs-small s = go (checkPairs s) (pairs-judged s) where
+  go : (v : Verdict) → JudgedP s v → SmallV v
+  go Clear j = tt
+  go (Not e) j = omega (arith, j .1)
+
+abbrev pub SmallS : Step → Type 0
+SmallS (Pair p) = Unit
+SmallS End = Unit
+SmallS (Faulty e) = Small e
+
+-- either answer of a check, and either branch, is small
+small-after : {A : Type 0} (P : A → Type 0) (c : Checked) (e x : A) → P e → P x → P (after c e x)
+small-after P Held e x f g = g
+small-after P Failed e x f g = f
+
+small-cond : {A : Type 0} (P : A → Type 0) (b : Bool) (x y : A) → P x → P y → P (cond b x y)
+small-cond P true x y f g = f
+small-cond P false x y f g = g
+
+-- ---- CHALLENGE
+
+abbrev pub SmallC : ChallengeReading → Type 0
+SmallC (ChallengeTaken c) = Unit
+SmallC (ChallengeRefused e) = Small e
+
+pub challenge-small : (s : List ℕ) → SmallC (readingOf s)
+unfolding readingOf
+challenge-small s = go (fieldsOf s) (fields-of-judged s) where
+  by : (c : _) (v : Verdict) → SmallV v → SmallC (onClear ChallengeRefused v (ChallengeTaken c))
+  by c Clear w = tt
+  by c (Not e) w = w
+
+  go : (r : ChallengeReading) → JudgedF s r → SmallC (onTaken ChallengeRefused r (λ c. onClear ChallengeRefused (checkPairs (infoOf s c)) (ChallengeTaken c)))
+  go (ChallengeTaken c) j = by c (checkPairs (infoOf s c)) (pairs-small (infoOf s c))
+  go (ChallengeRefused e) j = omega (arith, fails-field challenge s (numberOf e) (fieldOf e) (j .fails))
+
+-- ---- one step of a list
+
+small-pair : (id : AvId) (len at left : ℕ) → SmallS (pairOf id len at left)
+unfolding pairOf
+small-pair id len at left =
+    small-after SmallS (endPairHolds id len left) _ _ (omega arith)
+    (small-after SmallS (valueInside len left) _ _ (omega arith)
+    (small-after SmallS (sizeHolds id len) _ _ (omega arith)
+    (small-cond SmallS (isEnd id) End (Pair (record { id = id; at = at + 4; len = len })) tt tt)))
+
+pub step-small : (s : List ℕ) (at : ℕ) → SmallS (stepAt s at)
+unfolding stepAt
+step-small s at =
+    small-cond SmallS (eqb (length s) 0) End _ tt
+    (small-after SmallS (pairThere (left s at)) (Faulty PairMissing) _ (omega arith) (small-pair (idAt s at) (u16At s (at + 2)) at (left s at)))
+
+-- ---- the decision
+
+abbrev pub SmallD : Decided → Type 0
+SmallD (Decides d) = Unit
+SmallD (Declines e) = Small e
+
+pub decision-small : (settings : Settings) (s : List ℕ) → SmallD (decisionOn settings s)
+unfolding decisionOn
+decision-small settings s = go (readingOf s) (challenge-small s) where
+  go : (r : ChallengeReading) → SmallC r →
+      SmallD (onTaken Declines r (λ c.
+      after (strengthHolds settings (c .flags)) (Declines No128Bit) (
+      after (serverNamesHold settings (serverNamesIn (infoOf s c))) (Declines NoServerNames)
+      (Decides (record { flags = c .flags; timestamp = timestampIn (infoOf s c) })))))
+  go (ChallengeTaken c) w =
+      small-after SmallD (strengthHolds settings (c .flags)) (Declines No128Bit) _ (omega arith)
+      (small-after SmallD (serverNamesHold settings (serverNamesIn (infoOf s c))) (Declines NoServerNames) (Decides (record { flags = c .flags; timestamp = timestampIn (infoOf s c) })) (omega arith) tt)
+  go (ChallengeRefused e) w = w
+
+-- ---- writing
+
+small-clear : (v x : Verdict) → SmallV v → SmallV x → SmallV (onClear Not v x)
+small-clear Clear x f g = g
+small-clear (Not e) x f g = f
+
+negotiate-checks : (room : ℕ) (flags : NegotiateFlags) (domain workstation : List ℕ) → SmallV (negotiateChecks room flags domain workstation)
+unfolding negotiateChecks
+negotiate-checks room flags domain workstation =
+    small-after SmallV (charsetHolds flags) _ _ (omega arith)
+    (small-after SmallV (sizeToHold (negotiateSize domain workstation)) _ _ (omega arith)
+    (small-after SmallV (roomHolds (negotiateSize domain workstation) room) (Not NoRoom) Clear (omega arith) tt))
+
+names-small : (unicode : Bool) (domain user workstation : List ℕ) → SmallV (checkNamesToWrite unicode domain user workstation)
+unfolding checkNamesToWrite
+names-small unicode domain user workstation =
+    small-after SmallV (evenToWrite unicode domain) _ _ (omega arith)
+    (small-after SmallV (evenToWrite unicode user) _ _ (omega arith)
+    (small-after SmallV (evenToWrite unicode workstation) (Not (OddNameToWrite 5)) Clear (omega arith) tt))
+
+authenticate-checks : (room : ℕ) (flags : NegotiateFlags) (lm nt domain user workstation key : List ℕ) → SmallV (checkToWrite room flags lm nt domain user workstation key)
+unfolding checkToWrite
+authenticate-checks room flags lm nt domain user workstation key =
+    small-after SmallV (charsetHolds flags) _ _ (omega arith)
+    (small-clear (checkNamesToWrite (unicode flags) domain user workstation) _ (names-small (unicode flags) domain user workstation)
+    (small-after SmallV (keyHolds flags key) _ _ (omega arith)
+    (small-after SmallV (sizeToHold (sizeToWrite lm nt domain user workstation key)) _ _ (omega arith)
+    (small-after SmallV (roomHolds (sizeToWrite lm nt domain user workstation key) room) (Not NoRoom) Clear (omega arith) tt))))
+
+zeros-small : (flags : NlAuthFlags) (a b c d e : List ℕ) → SmallV (checkZeros flags a b c d e)
+unfolding checkZeros
+zeros-small flags a b c d e =
+    small-after SmallV (noZero (nbDomain flags, a)) _ _ (omega arith)
+    (small-after SmallV (noZero (nbComputer flags, b)) _ _ (omega arith)
+    (small-after SmallV (noZero (dnsDomain flags, c)) _ _ (omega arith)
+    (small-after SmallV (noZero (dnsHost flags, d)) _ _ (omega arith)
+    (small-after SmallV (noZero (utf8Computer flags, e)) (Not (ZeroInString 5)) Clear (omega arith) tt))))
+
+request-checks : (room : ℕ) (flags : NlAuthFlags) (a b c d e : List ℕ) → SmallV (checkRequest room flags a b c d e)
+unfolding checkRequest
+request-checks room flags a b c d e =
+    small-after SmallV (stringsHold flags) _ _ (omega arith)
+    (small-clear (checkZeros flags a b c d e) _ (zeros-small flags a b c d e)
+    (small-after SmallV (sizeToHold (length (requestBytes flags a b c d e))) _ _ (omega arith)
+    (small-after SmallV (roomHolds (length (requestBytes flags a b c d e)) room) (Not NoRoom) Clear (omega arith) tt)))
+
+abbrev pub SmallW : Written → Type 0
+SmallW (Length n) = Unit
+SmallW (Unwritten e) = Small e
+
+answered-small : (v : Verdict) (bytes : List ℕ) → SmallV v → SmallW (answered v bytes)
+answered-small Clear bytes w = tt
+answered-small (Not e) bytes w = w
+
+pub authenticate-written-small : (room : ℕ) (flags : NegotiateFlags) (v mic lm nt domain user workstation key : List ℕ) → SmallW (writeAnswer room flags v mic lm nt domain user workstation key)
+unfolding writeAnswer
+authenticate-written-small room flags v mic lm nt domain user workstation key =
+    answered-small (checkToWrite room flags lm nt domain user workstation key) (authenticateBytes flags v mic lm nt domain user workstation key) (authenticate-checks room flags lm nt domain user workstation key)
+
+pub writing-small : (w : Writing) → SmallW (writingAnswer w)
+unfolding negotiateAnswer requestAnswer responseAnswer
+writing-small (write-negotiate room flags v domain workstation v8) =
+    answered-small (negotiateChecks room flags domain workstation) (negotiateBytes flags v domain workstation) (negotiate-checks room flags domain workstation)
+writing-small (write-authenticate room flags v mic lm nt domain user workstation key v8 m16) =
+    authenticate-written-small room flags v mic lm nt domain user workstation key
+writing-small (write-nl-auth-request room flags a b c d e) =
+    answered-small (checkRequest room (known flags) a b c d e) (requestBytes (known flags) a b c d e) (request-checks room (known flags) a b c d e)
+writing-small (write-nl-auth-response room) =
+    small-after SmallW (roomHolds (length responseBytes) room) (Unwritten NoRoom) (Length (length responseBytes)) (omega arith) tt
+
+pub bytes-small : (bytes out : List ℕ) → SmallW (bytesAnswer bytes out)
+unfolding bytesAnswer
+bytes-small bytes out =
+    answered-small (bytesHold bytes out) bytes (small-after SmallV (roomHolds (length bytes) (length out)) (Not NoRoom) Clear (omega arith) tt)
+
+-- ---- the calls from C that hand out numbers
+
+abbrev pub SmallO : Outcome → Type 0
+SmallO (numbers xs) = Unit
+SmallO (refused e) = Small e
+
+pub outcome-small : (c : Call) → SmallO (outcome c)
+unfolding timestampOf serverNamesOf countPairs findPair askAt
+outcome-small (read-negotiate s) = go (readNegotiate s) refl where
+  go : (r : NegotiateReading) → readNegotiate s ≡ r → SmallO (negotiateOutcome r)
+  go (NegotiateTaken m) p = tt
+  go (NegotiateRefused e) p = negotiate-small s e p
+outcome-small (read-timestamp s) = go (readingOf s) (challenge-small s) where
+  go : (r : ChallengeReading) → SmallC r → SmallO (timestampOutcome (onTaken TimeRefused r (λ c. TimeTaken (timestampIn (infoOf s c)))))
+  go (ChallengeTaken c) w = tt
+  go (ChallengeRefused e) w = w
+outcome-small (read-server-names s) = go (readingOf s) (challenge-small s) where
+  go : (r : ChallengeReading) → SmallC r → SmallO (serverNamesOutcome (onTaken NamesRefused r (λ c. NamesTaken (serverNamesIn (infoOf s c)))))
+  go (ChallengeTaken c) w = tt
+  go (ChallengeRefused e) w = w
+outcome-small (read-nl-auth s) = go (readNlAuth s) refl where
+  go : (r : NlReading) → readNlAuth s ≡ r → SmallO (nlAuthOutcome r)
+  go (NlTaken m) p = tt
+  go (NlRefused e) p = nl-auth-small s e p
+outcome-small (count-pairs s) = go (checkPairs s) (pairs-small s) where
+  go : (v : Verdict) → SmallV v → SmallO (countOutcome (onClear Uncounted v (Pairs (length (pairsOf s)))))
+  go Clear w = tt
+  go (Not e) w = w
+outcome-small (find-pair s id) = go (checkPairs s) (pairs-small s) where
+  go : (v : Verdict) → SmallV v → SmallO (searchOutcome (onClear Unsearched v (Done (firstPair (record { id = id }) s))))
+  go Clear w = tt
+  go (Not e) w = w
+outcome-small (next-pair s at) = go (stepAt s at) (step-small s at) (askAt s at .next) where
+  go : (r : Step) → SmallS r → (next : ℕ) → SmallO (stepOutcome r next)
+  go (Pair p) w next = tt
+  go End w next = tt
+  go (Faulty e) w next = w
+outcome-small (decide settings s) = go (decisionOn (settingsOf settings) s) (decision-small (settingsOf settings) s) where
+  go : (r : Decided) → SmallD r → SmallO (decidedOutcome r)
+  go (Decides d) w = tt
+  go (Declines e) w = w
+
+pub two-array-outcome-small : (c : TwoArrayCall) → SmallO (twoArrayOutcome c)
+unfolding readChallenge
+two-array-outcome-small (read-authenticate s) = go (readAuthenticate s .reading) refl where
+  go : (r : Reading) → readAuthenticate s .reading ≡ r → SmallO (authenticateOutcome r)
+  go (Taken a) p = tt
+  go (Refused e) p = authenticate-small s e p
+two-array-outcome-small (read-challenge s) = go (readingOf s) (challenge-small s) where
+  go : (r : ChallengeReading) → SmallC r → SmallO (challengeOutcome r)
+  go (ChallengeTaken c) w = tt
+  go (ChallengeRefused e) w = w

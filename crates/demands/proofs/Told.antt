@@ -1,0 +1,50 @@
+-- What the macros of the C header take out of a refusal and out of a length.
+use Prim.Native.Nat.{ℕ, _≤_, _<_}
+use mathlib.Core.Path.{refl}
+use native.Mathlib.Omega.{arith}
+use Rattle.wire.specs.declared.refusal.Refusal.{Refusal}
+use Rattle.wire.specs.declared.refusal.Refusal.the-variants.{TooLong, TooShort, WrongSignature, WrongType, NoCharset, PastEnd, InFixedPart, OddName, NameOverSecret, PairPastEnd, PairMissing, WrongEndPair, WrongPairSize, NoStrings, Unterminated, BytesLeft, WrongResponse, No128Bit, NoServerNames, TooLongToWrite, OddNameToWrite, WrongKey, NoRoom, ZeroInString}
+use Rattle.wire.specs.Refusal.{numberOf, fieldOf}
+use Rattle.c_number.specs.Number.{refusalNumber}
+use Rattle.demands.specs.Answers.{TellsLength, TellsRefusal}
+
+pub number-small : (e : Refusal) → numberOf e ≤ 34
+number-small TooLong = omega arith
+number-small TooShort = omega arith
+number-small WrongSignature = omega arith
+number-small WrongType = omega arith
+number-small NoCharset = omega arith
+number-small (PastEnd f) = omega arith
+number-small (InFixedPart f) = omega arith
+number-small (OddName f) = omega arith
+number-small (NameOverSecret f) = omega arith
+number-small PairPastEnd = omega arith
+number-small PairMissing = omega arith
+number-small WrongEndPair = omega arith
+number-small WrongPairSize = omega arith
+number-small NoStrings = omega arith
+number-small (Unterminated f) = omega arith
+number-small BytesLeft = omega arith
+number-small WrongResponse = omega arith
+number-small No128Bit = omega arith
+number-small NoServerNames = omega arith
+number-small TooLongToWrite = omega arith
+number-small (OddNameToWrite f) = omega arith
+number-small WrongKey = omega arith
+number-small NoRoom = omega arith
+number-small (ZeroInString f) = omega arith
+
+-- a field is at most 6
+abbrev pub Small : Refusal → Type 0
+Small e = fieldOf e ≤ 6
+
+pub tells-refusal : (e : Refusal) → Small e → TellsRefusal (refusalNumber e) e
+tells-refusal e small =
+    record {
+      top-bit = omega (arith, number-small e);
+      number = omega (arith, number-small e);
+      field = omega (arith, number-small e);
+    }
+
+pub tells-length : (n : ℕ) → n < 0x8000000000000000 → TellsLength n n
+tells-length n l = record { top-bit = omega arith; is-length = refl }

@@ -1,0 +1,162 @@
+-- Demand 1: "A refusal gives its number and field". From C it gives them by the macros of include/dialtable.h, whose `>>` and
+-- `&` are `/` and `%` here, and no length is taken for a refusal.
+use Prim.Native.Nat.{ℕ, _/_, _%_, _≤_, _<_}
+use mathlib.Core.Path.{_≡_}
+use mathlib.Core.Logic.{_⊎_}
+use mathlib.Core.List.{List}
+use lib.ListN.{length}
+use Rattle.wire.specs.declared.check.Verdict.{Verdict}
+use Rattle.wire.specs.declared.check.Verdict.the-variants.{Clear, Refused as Not}
+use Rattle.wire.specs.declared.refusal.Refusal.{Refusal}
+use Rattle.wire.specs.declared.refusal.Refusal.the-variants.{NoRoom}
+use Rattle.wire.specs.Refusal.{numberOf, fieldOf}
+use Rattle.place.specs.declared.written.Written.{Written}
+use Rattle.place.specs.declared.written.Written.the-variants.{Length, Refused}
+use Rattle.place.specs.Written.{bytesAnswer}
+use Rattle.av_pairs.specs.AvPairs.{checkPairs}
+use Rattle.authenticate_writing.specs.Writing.{writeAnswer}
+use Rattle.line.specs.Line.{negotiateLine, authenticateLine, challengeLine, nlAuthLine, ntlmLine, shownLine}
+use Rattle.negotiate_flags.specs.declared.NegotiateFlags.{NegotiateFlags}
+use Rattle.negotiate_writing.specs.Writing.{writeAnswer as negotiateAnswer}
+use Rattle.nl_auth_flags.specs.declared.NlAuthFlags.{NlAuthFlags}
+use Rattle.nl_auth_flags.specs.Flags.{known}
+use Rattle.nl_auth_writing.specs.Writing.{requestAnswer, responseAnswer}
+use Rattle.respond.specs.declared.answer.Answer.{Answer}
+use Rattle.respond.specs.declared.answer.Answered.{Answered}
+use Rattle.respond.specs.declared.answer.Answered.the-variants.{Sent, Refused as Unanswered}
+use Rattle.respond.specs.declared.decision.Settings.{Settings}
+use Rattle.respond.specs.Answer.{respondAnswer}
+use Rattle.c_number.specs.Number.{verdictNumber, writtenNumber}
+use Rattle.c_number.specs.Outcome.{Outcome, numbers, refused, callNumber, twoArrayNumber}
+use Rattle.c_respond.specs.Respond.{respondedNumber}
+use Rattle.demands.specs.FromC.{Call, count, outcome, TwoArrayCall, numberCount, byteCount, twoArrayOutcome}
+
+-- DIALTABLE_IS_REFUSED, DIALTABLE_NUMBER and DIALTABLE_FIELD
+abbrev pub isRefused : ℕ → ℕ
+isRefused answer = answer / 0x8000000000000000
+
+abbrev pub numberIn : ℕ → ℕ
+numberIn answer = answer / 0x100 % 0x100
+
+abbrev pub fieldIn : ℕ → ℕ
+fieldIn answer = answer % 0x100
+
+-- a success: the top bit is clear, and the answer is the length of what was written, or 0
+pub record TellsLength (answer n : ℕ) : Type 0 where
+  pub top-bit : isRefused answer ≡ 0
+  pub is-length : answer ≡ n
+
+-- a refusal: the top bit is set, and the macros give document 01's number and field
+pub record TellsRefusal (answer : ℕ) (e : Refusal) : Type 0 where
+  pub top-bit : isRefused answer ≡ 1
+  pub number : numberIn answer ≡ numberOf e
+  pub field : fieldIn answer ≡ fieldOf e
+
+-- ---- the calls that hand out numbers: 33 where an array is too short, and else what the outcome is
+
+abbrev pub TellsOutcome : ℕ → Outcome → Type 0
+TellsOutcome answer (numbers xs) = TellsLength answer 0
+TellsOutcome answer (refused e) = TellsRefusal answer e
+
+abbrev pub CallTells : Type 0
+CallTells =
+    (c : Call) (room : ℕ) →
+    (room < count c → TellsRefusal (callNumber (count c) (outcome c) room) NoRoom)
+    × (count c ≤ room → TellsOutcome (callNumber (count c) (outcome c) room) (outcome c))
+
+abbrev pub TwoArraysTell : Type 0
+TwoArraysTell =
+    (c : TwoArrayCall) (room room′ : ℕ) →
+    ((room < numberCount c) ⊎ (room′ < byteCount c) → TellsRefusal (twoArrayNumber (numberCount c) (byteCount c) (twoArrayOutcome c) room room′) NoRoom)
+    × (numberCount c ≤ room → byteCount c ≤ room′ → TellsOutcome (twoArrayNumber (numberCount c) (byteCount c) (twoArrayOutcome c) room room′) (twoArrayOutcome c))
+
+abbrev pub TellsVerdict : ℕ → Verdict → Type 0
+TellsVerdict answer Clear = TellsLength answer 0
+TellsVerdict answer (Not e) = TellsRefusal answer e
+
+abbrev pub CheckPairsTells : Type 0
+CheckPairsTells = (list : List ℕ) → TellsVerdict (verdictNumber (checkPairs list)) (checkPairs list)
+
+-- ---- the calls that write
+
+abbrev pub TellsWritten : ℕ → Written → Type 0
+TellsWritten answer (Length n) = TellsLength answer n
+TellsWritten answer (Refused e) = TellsRefusal answer e
+
+-- a message; Version and MIC are of 8 and 16 bytes, as the calls take them
+pub data Writing : Type 0 where
+  write-negotiate : (room : ℕ) (flags : NegotiateFlags) (version domain workstation : List ℕ) → length version ≡ 8 → Writing
+  write-authenticate : (room : ℕ) (flags : NegotiateFlags) (version mic lm nt domain user workstation key : List ℕ) →
+      length version ≡ 8 → length mic ≡ 16 → Writing
+  write-nl-auth-request : (room : ℕ) (flags : NlAuthFlags) (a b c d e : List ℕ) → Writing
+  write-nl-auth-response : (room : ℕ) → Writing
+
+abbrev pub writingAnswer : Writing → Written
+writingAnswer (write-negotiate room flags version domain workstation v8) = negotiateAnswer room flags version domain workstation
+writingAnswer (write-authenticate room flags version mic lm nt domain user workstation key v8 m16) =
+    writeAnswer room flags version mic lm nt domain user workstation key
+writingAnswer (write-nl-auth-request room flags a b c d e) = requestAnswer room (known flags) a b c d e
+writingAnswer (write-nl-auth-response room) = responseAnswer room
+
+-- a message that is written has at most 65,535 bytes
+abbrev pub WritingShort : Type 0
+WritingShort = (w : Writing) (n : ℕ) → writingAnswer w ≡ Length n → n ≤ 65535
+
+abbrev pub WritingTells : Type 0
+WritingTells = (w : Writing) → TellsWritten (writtenNumber (writingAnswer w)) (writingAnswer w)
+
+-- a line; `out` is the output of a program's call
+pub data LineCall : Type 0 where
+  negotiate-line : (msg : List ℕ) → LineCall
+  authenticate-line : (msg : List ℕ) → LineCall
+  challenge-line : (msg : List ℕ) → LineCall
+  nl-auth-line : (msg : List ℕ) → LineCall
+  ntlm-line : (msg : List ℕ) → LineCall
+  ntlm-program-line : (msg out : List ℕ) → LineCall
+  nl-auth-program-line : (msg out : List ℕ) → LineCall
+
+abbrev pub lineOf : LineCall → List ℕ
+lineOf (negotiate-line msg) = negotiateLine msg
+lineOf (authenticate-line msg) = authenticateLine msg
+lineOf (challenge-line msg) = challengeLine msg
+lineOf (nl-auth-line msg) = nlAuthLine msg
+lineOf (ntlm-line msg) = ntlmLine msg
+lineOf (ntlm-program-line msg out) = shownLine (ntlmLine msg) out
+lineOf (nl-auth-program-line msg out) = shownLine (nlAuthLine msg) out
+
+-- a line has under 2^20 bytes
+abbrev pub LineShort : Type 0
+LineShort = (l : LineCall) → length (lineOf l) < 0x100000
+
+abbrev pub LineTells : Type 0
+LineTells = (l : LineCall) (out : List ℕ) → TellsWritten (writtenNumber (bytesAnswer (lineOf l) out)) (bytesAnswer (lineOf l) out)
+
+-- a copy, of a field's bytes or of the domain to send: no longer than the output that the caller lends
+abbrev pub CopyFits : Type 0
+CopyFits = (bytes out : List ℕ) (n : ℕ) → bytesAnswer bytes out ≡ Length n → n ≤ length out
+
+-- so that its top bit is clear where the output has under 2^63 bytes
+abbrev pub CopyTells : Type 0
+CopyTells = (bytes out : List ℕ) → length out < 0x8000000000000000 → TellsWritten (writtenNumber (bytesAnswer bytes out)) (bytesAnswer bytes out)
+
+-- ---- answering a challenge, with every settings
+
+abbrev pub RespondShort : Type 0
+RespondShort =
+    (room : ℕ) (s version mic lm nt domain user workstation key : List ℕ) (settings : Settings) (clock : ℕ) (x : Answer) →
+    length version ≡ 8 → length mic ≡ 16 →
+    respondAnswer room s settings clock version mic lm nt domain user workstation key ≡ Sent x → x .len ≤ 65535
+
+abbrev pub TellsAnswered : ℕ → Answered → Type 0
+TellsAnswered answer (Sent x) = TellsLength answer (x .len)
+TellsAnswered answer (Unanswered e) = TellsRefusal answer e
+
+pub record AnswerTells (answer : Answered) (room : ℕ) : Type 0 where
+  pub short : room < 2 → TellsRefusal (respondedNumber answer room) NoRoom
+  pub told : 2 ≤ room → TellsAnswered (respondedNumber answer room) answer
+
+abbrev pub RespondTells : Type 0
+RespondTells =
+    (room numbers-room : ℕ) (s version mic lm nt domain user workstation key : List ℕ) (settings : Settings) (clock : ℕ) →
+    length version ≡ 8 → length mic ≡ 16 →
+    AnswerTells (respondAnswer room s settings clock version mic lm nt domain user workstation key) numbers-room
