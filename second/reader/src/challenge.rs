@@ -26,7 +26,7 @@ impl<'a> Challenge<'a> {
     /// The number of the TargetName field.
     pub const TARGET_NAME: u8 = 1;
     /// The number of the TargetInfo field.
-    pub const TARGET_INFO: u8 = 2;
+    pub const TARGET_INFO: u8 = TargetInfo::FIELD;
 
     pub(crate) const TYPE: u32 = 2;
     /// "House fixed part: 48 bytes."
