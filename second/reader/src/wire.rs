@@ -67,6 +67,23 @@ pub struct Field<'a> {
     pub bytes: &'a [u8],
 }
 
+/// Checks 6 and 7, each over all heads in field order, the first being that of
+/// field 1; otherwise the fields.
+pub(crate) fn locate<const N: usize>(
+    message: &[u8],
+    fixed: usize,
+    heads: [Head; N],
+) -> Result<[Field<'_>; N], Refusal> {
+    let mut fields = [Field::default(); N];
+    for ((field, head), number) in fields.iter_mut().zip(heads).zip(1..) {
+        *field = head.locate(message, number)?;
+    }
+    for (field, number) in fields.iter().zip(1..) {
+        field.check_begin(fixed, number)?;
+    }
+    Ok(fields)
+}
+
 /// "Each field's place and bytes": the `len` bytes of `message` from `offset`
 /// on, and none where the message doesn't reach so far.
 pub fn field_bytes(message: &[u8], offset: u32, len: u16) -> &[u8] {
@@ -96,7 +113,7 @@ impl Field<'_> {
     }
 
     /// Check 7, "a nonempty field begins in the fixed part".
-    pub(crate) const fn check_begin(&self, fixed: usize, field: u8) -> Result<(), Refusal> {
+    const fn check_begin(&self, fixed: usize, field: u8) -> Result<(), Refusal> {
         if !self.is_empty() && self.place < fixed {
             return Err(Reason::FieldInFixedPart.of_field(field));
         }
@@ -139,7 +156,7 @@ impl Head {
     }
 
     /// Check 6, "a nonempty field ends past the message"; otherwise the field.
-    pub(crate) fn locate(self, message: &[u8], field: u8) -> Result<Field<'_>, Refusal> {
+    fn locate(self, message: &[u8], field: u8) -> Result<Field<'_>, Refusal> {
         if self.len == 0 {
             return Ok(Field::default());
         }

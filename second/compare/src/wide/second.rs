@@ -30,22 +30,14 @@ fn call_of(call: &Call<'_>, out: &mut [u8], numbers: &mut [u64]) -> Result<usize
             put_bytes(out, &read.mic_bytes());
             let head = [u64::from(read.flags.0), u64::from(read.mic.is_some())];
             put(numbers, &head);
-            let fields = [
-                read.lm,
-                read.nt,
-                read.domain,
-                read.user,
-                read.workstation,
-                read.key,
-            ];
-            put_fields(&mut numbers[2..], &fields);
+            put_fields(&mut numbers[2..], &read.fields());
             Ok(0)
         }
         Call::ReadChallenge { message } => {
             let read = Challenge::read(message)?;
             put_bytes(out, &read.server_challenge);
             put(numbers, &[u64::from(read.flags.0)]);
-            put_fields(&mut numbers[1..], &[read.target_name, read.target_info]);
+            put_fields(&mut numbers[1..], &read.fields());
             Ok(0)
         }
         Call::ReadTimestamp { message } => {
@@ -64,7 +56,7 @@ fn call_of(call: &Call<'_>, out: &mut [u8], numbers: &mut [u64]) -> Result<usize
         Call::ReadNegotiate { message } => {
             let read = Negotiate::read(message)?;
             put(numbers, &[u64::from(read.flags.0)]);
-            put_fields(&mut numbers[1..], &[read.domain, read.workstation]);
+            put_fields(&mut numbers[1..], &read.fields());
             Ok(0)
         }
         Call::ReadNlAuth { message } => {
