@@ -12,6 +12,7 @@ pub mod command;
 mod names;
 mod negotiate;
 mod nl_auth;
+mod ntlm;
 mod random;
 pub mod tally;
 pub mod wide;
@@ -47,9 +48,9 @@ pub fn cases(seed: u64, drawn: usize) -> Vec<Case> {
                 .map(|message| Case { program, message }),
         );
     };
-    add(Program::Ntlm, authenticate::boundaries(random));
-    add(Program::Ntlm, challenge::boundaries(random));
-    add(Program::Ntlm, negotiate::boundaries(random));
+    add(Program::Ntlm, authenticate::KIND.boundaries(random));
+    add(Program::Ntlm, challenge::KIND.boundaries(random));
+    add(Program::Ntlm, negotiate::KIND.boundaries(random));
     add(Program::Ntlm, wire::short_of_each_type());
     add(Program::NlAuth, nl_auth::boundaries(random));
     for _ in 0..drawn {
