@@ -45,7 +45,8 @@ pub static KIND: Kind<6> = Kind {
     with_head,
     own: &[
         |random, messages| KIND.max_lens(random, messages),
-        shared_bytes,
+        names_beside_others,
+        names_on_secrets,
         two_faults,
         mics,
         lengths,
@@ -100,7 +101,7 @@ fn with_head(random: &mut Random, usual: &Message<6>, field: usize, head: Head) 
 }
 
 /// Each name beside, against and over each other field.
-fn shared_bytes(random: &mut Random, messages: &mut Vec<Vec<u8>>) {
+fn names_beside_others(random: &mut Random, messages: &mut Vec<Vec<u8>>) {
     // The other field stands at 120 to 139.
     const PLACES: [(usize, usize); 13] = [
         (8, 110),
@@ -129,7 +130,10 @@ fn shared_bytes(random: &mut Random, messages: &mut Vec<Vec<u8>>) {
             }
         }
     }
-    // Secrets on secrets and names on names; and every name on a secret.
+}
+
+/// Secrets on secrets and names on names; and every name on a secret.
+fn names_on_secrets(random: &mut Random, messages: &mut Vec<Vec<u8>>) {
     for flags in [UNICODE | KEY_EXCH, OEM] {
         let mut message = KIND.empty(random, flags, 180);
         for (names_at, secrets_at) in [(100, 140), (140, 100), (120, 140), (138, 120)] {

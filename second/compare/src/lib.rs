@@ -13,6 +13,7 @@ mod names;
 mod negotiate;
 mod nl_auth;
 mod ntlm;
+mod pairs;
 mod random;
 pub mod tally;
 pub mod wide;

@@ -4,7 +4,7 @@ use crate::names::{name, string, Set};
 use crate::random::Random;
 use crate::wire::{damage, offsets, set_of, FIELD_LENGTHS, LONG, MAX_MESSAGE};
 use crate::wire::{KEY_EXCH, OEM, UNICODE};
-use crate::{authenticate, challenge, negotiate, nl_auth};
+use crate::{authenticate, challenge, negotiate, nl_auth, pairs};
 
 use super::call::Parts;
 
@@ -280,8 +280,8 @@ pub fn list(random: &mut Random, message: &[u8]) -> Vec<u8> {
     match random.below(16) {
         0 => message.to_vec(),
         1..=4 => target_info(message).unwrap_or_default().to_vec(),
-        5 if random.one_in(40) => challenge::long_list(random),
-        _ => challenge::drawn_list(random),
+        5 if random.one_in(40) => pairs::long_list(random),
+        _ => pairs::drawn_list(random),
     }
 }
 

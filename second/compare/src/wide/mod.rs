@@ -12,7 +12,7 @@ use std::hint::black_box;
 use std::io::{self, Write};
 use std::time::{Duration, Instant};
 
-use crate::challenge::IDS;
+use crate::pairs::IDS;
 use crate::random::Random;
 use crate::wire::KEY_EXCH;
 
