@@ -2,7 +2,7 @@
 
 use std::fmt::{self, Write};
 
-use crate::Hex;
+use crate::hex::Hex;
 
 /// What an AUTHENTICATE message is written from, beside its flags.
 #[derive(Clone, Copy, Debug, Default)]

@@ -12,8 +12,10 @@ use std::hint::black_box;
 use std::io::{self, Write};
 use std::time::{Duration, Instant};
 
+use crate::cases::cases;
 use crate::pairs::IDS;
 use crate::random::Random;
+use crate::report::{print_counts, print_differences};
 use crate::wire::KEY_EXCH;
 
 use call::{Call, Line, Opening, Respond};
@@ -26,9 +28,6 @@ pub use tally::Tally;
 
 /// How often a long run says how far it is.
 const PROGRESS: Duration = Duration::from_secs(5);
-
-/// How many differences are printed whole.
-const SHOWN: usize = 20;
 
 /// What a run found.
 pub struct Report {
@@ -50,7 +49,7 @@ pub fn run(
     captured: &[Vec<u8>],
     progress: &mut impl Write,
 ) -> Report {
-    let boundaries = crate::cases(seed, 0).into_iter();
+    let boundaries = cases(seed, 0).into_iter();
     let mut given: Vec<Vec<u8>> = boundaries.map(|case| case.message).collect();
     given.extend_from_slice(captured);
     run_on(library, seed, given, drawn, captured, progress)
@@ -379,9 +378,8 @@ fn challenge_flags(challenge: &[u8]) -> u32 {
 }
 
 impl Report {
-    /// Prints the counts, the shortest differences and last 'N passed, M
-    /// failed', and gives M: each case is one test, and each kind of answer
-    /// that was missed is one that failed.
+    /// Prints the counts, the differences and last 'N passed, M failed', and
+    /// gives M: each kind of answer that was missed is one that failed.
     pub fn print(&self, out: &mut impl Write) -> io::Result<usize> {
         let calls = self.tally.calls();
         writeln!(
@@ -390,21 +388,14 @@ impl Report {
             self.cases, self.seed
         )?;
         write!(out, "{}", self.tally)?;
-        let mut differences: Vec<_> = self.differences.iter().collect();
-        differences.sort_by_key(|difference| difference.size);
-        for difference in differences.iter().take(SHOWN) {
-            writeln!(out, "{}", difference.text)?;
-        }
-        if self.different > SHOWN {
-            writeln!(out, "and {} more that differ", self.different - SHOWN)?;
-        }
-        let not_reached = self.tally.not_reached();
-        for kind in &not_reached {
-            writeln!(out, "NOT REACHED: {kind}")?;
-        }
-        let failed = self.failed + not_reached.len();
-        writeln!(out, "{} passed, {failed} failed", self.cases - self.failed)?;
-        Ok(failed)
+        let shown = self.differences.iter();
+        let shown = shown.map(|difference| (difference.size, &difference.text));
+        print_differences(shown.collect(), self.different, out)?;
+        let not_reached = self.tally.not_reached().into_iter();
+        let missed: Vec<String> = not_reached
+            .map(|kind| format!("NOT REACHED: {kind}"))
+            .collect();
+        print_counts(self.cases, self.failed, &missed, out)
     }
 }
 
