@@ -67,23 +67,6 @@ pub struct Field<'a> {
     pub bytes: &'a [u8],
 }
 
-/// Checks 6 and 7, each over all heads in field order, the first being that of
-/// field 1; otherwise the fields.
-pub(crate) fn locate<const N: usize>(
-    message: &[u8],
-    fixed: usize,
-    heads: [Head; N],
-) -> Result<[Field<'_>; N], Refusal> {
-    let mut fields = [Field::default(); N];
-    for ((field, head), number) in fields.iter_mut().zip(heads).zip(1..) {
-        *field = head.locate(message, number)?;
-    }
-    for (field, number) in fields.iter().zip(1..) {
-        field.check_begin(fixed, number)?;
-    }
-    Ok(fields)
-}
-
 /// "Each field's place and bytes": the `len` bytes of `message` from `offset`
 /// on, and none where the message doesn't reach so far.
 pub fn field_bytes(message: &[u8], offset: u32, len: u16) -> &[u8] {
@@ -171,4 +154,21 @@ impl Head {
         let bytes = message.get(place..end)?;
         Some(Field { place, bytes })
     }
+}
+
+/// Checks 6 and 7, each over all heads in field order, the first being that of
+/// field 1; otherwise the fields.
+pub(crate) fn locate<const N: usize>(
+    message: &[u8],
+    fixed: usize,
+    heads: [Head; N],
+) -> Result<[Field<'_>; N], Refusal> {
+    let mut fields = [Field::default(); N];
+    for ((field, head), number) in fields.iter_mut().zip(heads).zip(1..) {
+        *field = head.locate(message, number)?;
+    }
+    for (field, number) in fields.iter().zip(1..) {
+        field.check_begin(fixed, number)?;
+    }
+    Ok(fields)
 }
