@@ -1,5 +1,7 @@
 //! What the calls are given: messages drawn and mutated, and what is written.
 
+use reader::{Account, Secrets};
+
 use crate::names::{name, string, Set};
 use crate::random::Random;
 use crate::wire::{damage, offsets, set_of, FIELD_LENGTHS, LONG, MAX_MESSAGE};
@@ -183,7 +185,7 @@ impl Drawn {
 
     /// Makes the message around 65,535 bytes long, or far longer.
     fn lengthen(&mut self, random: &mut Random) {
-        let others: usize = self.parts().lengths().iter().sum();
+        let others: usize = self.fields().iter().map(|field| field.len()).sum();
         let total = random.pick(&LONG).max(88 + others);
         let more = random.pick(&[total - 88 - others, MAX_MESSAGE, 0x1_0000]);
         let field = match random.below(5) {
@@ -197,34 +199,37 @@ impl Drawn {
     }
 
     pub fn parts(&self) -> Parts<'_> {
-        Parts {
+        let account = Account {
             version: self.version,
-            mic: self.mic,
-            lm: &self.lm,
-            nt: &self.nt,
             domain: &self.domain,
             user: &self.user,
             workstation: &self.workstation,
+        };
+        let secrets = Secrets {
+            lm: &self.lm,
+            nt: &self.nt,
             key: &self.key,
-        }
+            mic: self.mic,
+        };
+        Parts { account, secrets }
+    }
+
+    fn fields(&self) -> [&[u8]; 6] {
+        let Self {
+            lm,
+            nt,
+            domain,
+            user,
+            workstation,
+            key,
+            ..
+        } = self;
+        [lm, nt, domain, user, workstation, key]
     }
 
     /// LM response, NT response and key of the same lengths, with other bytes.
     pub fn other_secrets(&self, random: &mut Random) -> [Vec<u8>; 3] {
         [&self.lm, &self.nt, &self.key].map(|secret| random.bytes(secret.len()))
-    }
-}
-
-impl Parts<'_> {
-    const fn lengths(&self) -> [usize; 6] {
-        [
-            self.lm.len(),
-            self.nt.len(),
-            self.domain.len(),
-            self.user.len(),
-            self.workstation.len(),
-            self.key.len(),
-        ]
     }
 }
 

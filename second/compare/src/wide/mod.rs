@@ -12,13 +12,15 @@ use std::hint::black_box;
 use std::io::{self, Write};
 use std::time::{Duration, Instant};
 
+use reader::{NegotiateFlags, NegotiateParts};
+
 use crate::cases::cases;
 use crate::pairs::IDS;
 use crate::random::Random;
 use crate::report::{print_counts, print_differences};
 use crate::wire::KEY_EXCH;
 
-use call::{Call, Line, Opening, Respond};
+use call::{Call, Line, Respond};
 use hold::{Holder, Lent, Library, MOST_NUMBERS};
 use inputs::Drawn;
 use secret::{changeable_places, secret_places};
@@ -250,12 +252,13 @@ impl<L: Library> Run<L> {
         });
         let flags = inputs::flags(&mut self.random);
         let [domain, workstation] = inputs::opening_names(&mut self.random);
-        let opening = Opening {
+        let parts = NegotiateParts {
+            flags: NegotiateFlags(flags),
             version: self.random.array(),
             domain: &domain,
             workstation: &workstation,
         };
-        self.hold_rooms(&Call::WriteNegotiate { flags, opening });
+        self.hold_rooms(&Call::WriteNegotiate { parts });
         let flags = inputs::nl_auth_flags(&mut self.random);
         let strings = inputs::strings(&mut self.random);
         self.hold_rooms(&Call::WriteNlAuthRequest {
@@ -280,7 +283,7 @@ impl<L: Library> Run<L> {
             self.hold_respond(how, challenge, &drawn);
         }
         let parts = drawn.parts();
-        for own in [&[], parts.domain] {
+        for own in [&[], parts.account.domain] {
             self.hold_rooms(&Call::DomainToSend { own, challenge });
         }
     }
