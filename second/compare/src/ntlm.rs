@@ -276,3 +276,119 @@ pub fn long_names(
         }
     }
 }
+
+#[cfg(test)]
+mod tests {
+    use std::collections::BTreeSet;
+
+    use reader::{Program, LINE_LIMIT};
+
+    use crate::random::Random;
+    use crate::tally::{each_refusal, Refusals};
+    use crate::{authenticate, challenge, negotiate};
+
+    /// What the messages of a type get: the first word of a line, and of a
+    /// refusal the whole line.
+    fn answers(messages: &[Vec<u8>], number: u32) -> BTreeSet<String> {
+        let mut room = Box::new([0; LINE_LIMIT]);
+        let of_type =
+            |message: &&Vec<u8>| message.get(8..12) == Some(number.to_le_bytes().as_slice());
+        let mut answer = |message| {
+            let line = Program::Ntlm.line(message, &mut room).trim_ascii_end();
+            let words = if line.starts_with(b"refused") {
+                line
+            } else {
+                &line[..4]
+            };
+            words.escape_ascii().to_string()
+        };
+        let messages = messages.iter().filter(of_type);
+        messages.map(|message| answer(message)).collect()
+    }
+
+    /// A line that starts with this word, and these refusals.
+    fn expected(word: &str, refusals: &[Refusals]) -> BTreeSet<String> {
+        let refused =
+            each_refusal(refusals).map(|(number, field)| format!("refused {number} field={field}"));
+        refused.chain([word.to_string()]).collect()
+    }
+
+    /// All that a message of a type can get but check 4, which the type decides.
+    const AUTHENTICATE: [Refusals; 9] = [
+        (1, &[0]),
+        (2, &[0]),
+        (3, &[0]),
+        (5, &[0]),
+        (6, &[1, 2, 3, 4, 5, 6]),
+        (7, &[1, 2, 3, 4, 5, 6]),
+        (8, &[3, 4, 5]),
+        (9, &[3, 4, 5]),
+        (33, &[0]),
+    ];
+    const CHALLENGE: [Refusals; 12] = [
+        (1, &[0]),
+        (2, &[0]),
+        (3, &[0]),
+        (5, &[0]),
+        (6, &[1, 2]),
+        (7, &[1, 2]),
+        (8, &[1]),
+        (10, &[2]),
+        (11, &[2]),
+        (12, &[2]),
+        (13, &[2]),
+        (33, &[0]),
+    ];
+    const NEGOTIATE: [Refusals; 7] = [
+        (1, &[0]),
+        (2, &[0]),
+        (3, &[0]),
+        (5, &[0]),
+        (6, &[1, 2]),
+        (7, &[1, 2]),
+        (33, &[0]),
+    ];
+
+    #[test]
+    fn the_boundaries_of_each_kind_reach_every_answer_of_its_own() {
+        for seed in [0, 1, 5] {
+            let random = &mut Random::new(seed);
+            let messages = authenticate::KIND.boundaries(random);
+            assert_eq!(answers(&messages, 3), expected("auth", &AUTHENTICATE));
+            let messages = challenge::KIND.boundaries(random);
+            assert_eq!(answers(&messages, 2), expected("chal", &CHALLENGE));
+            let messages = negotiate::KIND.boundaries(random);
+            assert_eq!(answers(&messages, 1), expected("nego", &NEGOTIATE));
+        }
+    }
+
+    #[test]
+    fn drawn_messages_are_sound_or_damaged() {
+        type Drawn = fn(&mut Random) -> Vec<u8>;
+        let kinds: [(Drawn, u32, [&str; 3]); 3] = [
+            (
+                authenticate::drawn,
+                3,
+                ["auth", "refused 6 field=4", "refused 9 field=3"],
+            ),
+            (
+                challenge::drawn,
+                2,
+                ["chal", "refused 6 field=2", "refused 13 field=2"],
+            ),
+            (
+                negotiate::drawn,
+                1,
+                ["nego", "refused 6 field=1", "refused 7 field=2"],
+            ),
+        ];
+        for (drawn, number, some) in kinds {
+            let random = &mut Random::new(1);
+            let messages: Vec<_> = (0..2_000).map(|_| drawn(random)).collect();
+            let found = answers(&messages, number);
+            for answer in some {
+                assert!(found.contains(answer), "{answer}");
+            }
+        }
+    }
+}

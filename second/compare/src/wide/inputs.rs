@@ -10,12 +10,27 @@ use crate::{authenticate, challenge, negotiate, nl_auth, pairs};
 
 use super::call::Parts;
 
-/// Where heads stand: the six of an AUTHENTICATE, one of them a CHALLENGE's
-/// too, its TargetInfo, and the two of a NEGOTIATE.
-const HEADS: [usize; 9] = [12, 20, 28, 36, 44, 52, 40, 16, 24];
+/// Where heads stand in some kind of message.
+fn head_places() -> Vec<usize> {
+    // The first of a CHALLENGE stands where an AUTHENTICATE has one too.
+    let [_, target_info] = challenge::KIND.heads_at;
+    [
+        &authenticate::KIND.heads_at[..],
+        &[target_info],
+        &negotiate::KIND.heads_at,
+    ]
+    .concat()
+}
 
-/// Where flags stand in each kind of message.
-const FLAGS: [usize; 4] = [4, 12, 20, 60];
+/// Where flags stand in each kind of message, NL_AUTH first.
+fn flag_places() -> [usize; 4] {
+    [
+        4,
+        negotiate::KIND.flags_at,
+        challenge::KIND.flags_at,
+        authenticate::KIND.flags_at,
+    ]
+}
 
 /// A message of any kind, sound or damaged, of 0 to 66,000 bytes. `captured`
 /// are sound ones to mutate.
@@ -53,7 +68,7 @@ fn mutated(random: &mut Random, mut message: Vec<u8>) -> Vec<u8> {
         match random.below(4) {
             0 | 1 => boundary_head(random, &mut message),
             2 => {
-                let at = random.pick(&FLAGS) + random.below(4);
+                let at = random.pick(&flag_places()) + random.below(4);
                 if let Some(byte) = message.get_mut(at) {
                     *byte ^= 1 << random.below(8);
                 }
@@ -67,7 +82,7 @@ fn mutated(random: &mut Random, mut message: Vec<u8>) -> Vec<u8> {
 /// A head's length or offset, or both, at a boundary.
 fn boundary_head(random: &mut Random, message: &mut [u8]) {
     let total = message.len();
-    let head = random.pick(&HEADS);
+    let head = random.pick(&head_places());
     let Some(bytes) = message.get_mut(head..head + 8) else {
         return;
     };

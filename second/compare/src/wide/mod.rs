@@ -78,28 +78,20 @@ fn run_on(
         let message = given
             .next()
             .unwrap_or_else(|| inputs::message(&mut run.random, captured));
-        let before = run.holder.different;
-        run.case(message);
-        failed += usize::from(run.holder.different > before);
+        failed += usize::from(!run.held(message));
         if said.elapsed() >= PROGRESS {
             said = Instant::now();
             // Where it can't be printed, the run goes on.
             let _ = writeln!(progress, "{} of {cases} cases", done + 1);
         }
     }
-    let Holder {
-        tally,
-        differences,
-        different,
-        ..
-    } = run.holder;
     Report {
         seed,
         cases,
         failed,
-        tally,
-        differences,
-        different,
+        tally: run.holder.tally,
+        differences: run.holder.differences,
+        different: run.holder.different,
     }
 }
 
@@ -112,6 +104,13 @@ struct Run<L> {
 }
 
 impl<L: Library> Run<L> {
+    /// Whether a case found no difference.
+    fn held(&mut self, message: Vec<u8>) -> bool {
+        let before = self.holder.different;
+        self.case(message);
+        self.holder.different == before
+    }
+
     /// Every call on one message, and on what is drawn beside it.
     fn case(&mut self, mut message: Vec<u8>) {
         self.holder.stir(&mut self.random);
