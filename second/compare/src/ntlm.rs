@@ -21,7 +21,7 @@ pub struct Kind<const N: usize> {
     pub flags_at: usize,
     /// Where the heads stand, in field order.
     pub heads_at: [usize; N],
-    /// The part of the fixed part that has neither heads nor flags.
+    /// What the fixed part has beside signature, type, heads and flags.
     pub others_at: Range<usize>,
     /// The length of the fixed part.
     pub fixed: usize,
@@ -40,9 +40,9 @@ pub struct Kind<const N: usize> {
     pub other_types: &'static [u32],
     /// What is added to each of [`FLAG_SETS`].
     pub added_flags: &'static [u32],
-    /// A field, and an offset that is refused only where the field counts. One
-    /// bit of the flags is turned at a time: the first stands for bits 0, 4, 8
-    /// and so on, the second for 1, 5, 9.
+    /// A field, and an offset that is refused only where the field counts. The
+    /// first is for messages with bit 0, 4, 8 and so on of the flags turned, the
+    /// second for bit 1, 5, 9.
     pub misplaced: [Option<(usize, u32)>; 4],
     /// The messages in which a field of a usual one has this head.
     pub with_head: fn(&mut Random, &Message<N>, usize, Head) -> Vec<Message<N>>,
