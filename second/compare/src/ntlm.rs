@@ -306,30 +306,24 @@ mod tests {
         messages.map(|message| answer(message)).collect()
     }
 
-    /// A line that starts with this word, and these refusals.
-    fn expected(word: &str, refusals: &[Refusals]) -> BTreeSet<String> {
-        let refused =
-            each_refusal(refusals).map(|(number, field)| format!("refused {number} field={field}"));
+    /// What a message of any type can be refused by, but for check 4, which the
+    /// type decides.
+    const OF_EVERY_KIND: [Refusals; 5] = [(1, &[0]), (2, &[0]), (3, &[0]), (5, &[0]), (33, &[0])];
+
+    /// A line that starts with this word, the refusals of every kind, and these.
+    fn expected(word: &str, own: &[Refusals]) -> BTreeSet<String> {
+        let refused = each_refusal(&OF_EVERY_KIND).chain(each_refusal(own));
+        let refused = refused.map(|(number, field)| format!("refused {number} field={field}"));
         refused.chain([word.to_string()]).collect()
     }
 
-    /// All that a message of a type can get but check 4, which the type decides.
-    const AUTHENTICATE: [Refusals; 9] = [
-        (1, &[0]),
-        (2, &[0]),
-        (3, &[0]),
-        (5, &[0]),
+    const OF_AUTHENTICATE: [Refusals; 4] = [
         (6, &[1, 2, 3, 4, 5, 6]),
         (7, &[1, 2, 3, 4, 5, 6]),
         (8, &[3, 4, 5]),
         (9, &[3, 4, 5]),
-        (33, &[0]),
     ];
-    const CHALLENGE: [Refusals; 12] = [
-        (1, &[0]),
-        (2, &[0]),
-        (3, &[0]),
-        (5, &[0]),
+    const OF_CHALLENGE: [Refusals; 7] = [
         (6, &[1, 2]),
         (7, &[1, 2]),
         (8, &[1]),
@@ -337,28 +331,19 @@ mod tests {
         (11, &[2]),
         (12, &[2]),
         (13, &[2]),
-        (33, &[0]),
     ];
-    const NEGOTIATE: [Refusals; 7] = [
-        (1, &[0]),
-        (2, &[0]),
-        (3, &[0]),
-        (5, &[0]),
-        (6, &[1, 2]),
-        (7, &[1, 2]),
-        (33, &[0]),
-    ];
+    const OF_NEGOTIATE: [Refusals; 2] = [(6, &[1, 2]), (7, &[1, 2])];
 
     #[test]
     fn the_boundaries_of_each_kind_reach_every_answer_of_its_own() {
         for seed in [0, 1, 5] {
             let random = &mut Random::new(seed);
             let messages = authenticate::KIND.boundaries(random);
-            assert_eq!(answers(&messages, 3), expected("auth", &AUTHENTICATE));
+            assert_eq!(answers(&messages, 3), expected("auth", &OF_AUTHENTICATE));
             let messages = challenge::KIND.boundaries(random);
-            assert_eq!(answers(&messages, 2), expected("chal", &CHALLENGE));
+            assert_eq!(answers(&messages, 2), expected("chal", &OF_CHALLENGE));
             let messages = negotiate::KIND.boundaries(random);
-            assert_eq!(answers(&messages, 1), expected("nego", &NEGOTIATE));
+            assert_eq!(answers(&messages, 1), expected("nego", &OF_NEGOTIATE));
         }
     }
 
