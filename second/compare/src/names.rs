@@ -57,6 +57,12 @@ fn letter(random: &mut Random) -> u8 {
     random.pick(b"ABCDEFGHIJKLMNOPQRSTUVWXYZabcdefghijklmnopqrstuvwxyz0123456789.-@$")
 }
 
+/// A name of single bytes that makes a line of `line` characters beside `words`.
+pub fn bytes_of_line(random: &mut Random, line: usize, words: &str) -> Vec<u8> {
+    let escapes = random.between(3_000, 12_000);
+    name_of_width(random, Set::Oem, line - words.len(), escapes)
+}
+
 /// A name that a line shows in exactly `width` characters, which are enough for
 /// `escapes` escaped units.
 pub fn name_of_width(random: &mut Random, set: Set, width: usize, escapes: usize) -> Vec<u8> {

@@ -1,8 +1,8 @@
 //! NL_AUTH messages.
 
-use crate::names::{name_of_width, string, Set, EDGES};
+use crate::names::{bytes_of_line, string, EDGES};
 use crate::random::Random;
-use crate::wire::{cut_or_changed, damage, LONG, LONG_LINES};
+use crate::wire::{cut_or_changed, maybe_damaged, LONG, LONG_LINES};
 
 /// Type, flags and buffer.
 fn message(number: u32, flags: u32, buffer: &[u8]) -> Vec<u8> {
@@ -152,9 +152,7 @@ fn long_lines(random: &mut Random, messages: &mut Vec<Vec<u8>>) {
     let words = "nl type=0 flags=00000000 a=\n";
     for line in LONG_LINES {
         for bit in 0..5 {
-            let width = line - words.len();
-            let escapes = random.between(3_000, 12_000);
-            let mut text = name_of_width(random, Set::Oem, width, escapes);
+            let mut text = bytes_of_line(random, line, words);
             text.push(0);
             messages.push(message(0, 1 << bit, &text));
         }
@@ -167,7 +165,7 @@ fn long_lines(random: &mut Random, messages: &mut Vec<Vec<u8>>) {
 /// A message of any flags and strings, sound or damaged.
 pub fn drawn(random: &mut Random) -> Vec<u8> {
     let flags = u32::from_le_bytes(random.array());
-    let mut message = match random.below(8) {
+    let message = match random.below(8) {
         0 => message(1, flags, b"\0"),
         1 => {
             let len = random.below(12);
@@ -175,8 +173,5 @@ pub fn drawn(random: &mut Random) -> Vec<u8> {
         }
         _ => request(random, flags),
     };
-    while random.one_in(3) {
-        damage(random, &mut message);
-    }
-    message
+    maybe_damaged(random, message)
 }

@@ -20,19 +20,22 @@ pub enum Kind {
     Other,
 }
 
-/// The lines other than refusals.
-const TAKEN: [Kind; 6] = [
-    Kind::Authenticate,
-    Kind::ChallengeWithTime,
-    Kind::ChallengeWithoutTime,
-    Kind::Negotiate,
-    Kind::NlAuthRequest,
-    Kind::NlAuthResponse,
+/// The lines other than refusals, and what they are called.
+const TAKEN: [(Kind, &str); 6] = [
+    (Kind::Authenticate, "auth"),
+    (Kind::ChallengeWithTime, "chal with time"),
+    (Kind::ChallengeWithoutTime, "chal without time"),
+    (Kind::Negotiate, "nego"),
+    (Kind::NlAuthRequest, "nl type=0"),
+    (Kind::NlAuthResponse, "nl type=1"),
 ];
+
+/// The number of a refusal, and each field that it can have.
+pub type Refusals = (u8, &'static [u8]);
 
 /// Each refusal that a reading or a line can give, with every field that it
 /// can have.
-pub const REFUSALS: [(u8, &[u8]); 18] = [
+pub const REFUSALS: [Refusals; 18] = [
     (1, &[0]),
     (2, &[0]),
     (3, &[0]),
@@ -83,22 +86,63 @@ impl Kind {
 
 impl fmt::Display for Kind {
     fn fmt(&self, f: &mut fmt::Formatter<'_>) -> fmt::Result {
-        match self {
-            Self::Authenticate => f.write_str("auth"),
-            Self::ChallengeWithTime => f.write_str("chal with time"),
-            Self::ChallengeWithoutTime => f.write_str("chal without time"),
-            Self::Negotiate => f.write_str("nego"),
-            Self::NlAuthRequest => f.write_str("nl type=0"),
-            Self::NlAuthResponse => f.write_str("nl type=1"),
-            Self::Refused { number, field } => write!(f, "refused {number} field={field}"),
-            Self::Other => f.write_str("no line of any form"),
+        if let Self::Refused { number, field } = self {
+            return write!(f, "refused {number} field={field}");
         }
+        let taken = TAKEN.iter().find(|(kind, _)| kind == self);
+        f.write_str(taken.map_or("no line of any form", |(_, name)| name))
+    }
+}
+
+/// Each number of a table with each of its fields.
+pub fn each_refusal(table: &[Refusals]) -> impl Iterator<Item = (u8, u8)> + '_ {
+    table
+        .iter()
+        .flat_map(|&(number, fields)| fields.iter().map(move |&field| (number, field)))
+}
+
+/// The widths of a printed tally: what is counted, and how often it was.
+pub struct Columns {
+    pub name: usize,
+    pub count: usize,
+}
+
+impl Columns {
+    /// The start of a row.
+    pub fn row(&self, f: &mut fmt::Formatter<'_>, name: &str, count: u64) -> fmt::Result {
+        let Self {
+            name: left,
+            count: right,
+        } = *self;
+        write!(f, "  {name:<left$}{count:>right$}")
+    }
+
+    /// A row for each number of a table, its fields beside it.
+    pub fn refusals(
+        &self,
+        f: &mut fmt::Formatter<'_>,
+        table: &[Refusals],
+        count: impl Fn(u8, u8) -> u64,
+    ) -> fmt::Result {
+        for &(number, fields) in table {
+            let counts = fields.iter().map(|&field| (field, count(number, field)));
+            let all = counts.clone().map(|(_, count)| count).sum();
+            self.row(f, &format!("refused {number}"), all)?;
+            if fields.len() > 1 {
+                let each: Vec<String> = counts
+                    .map(|(field, count)| format!("field {field}: {count}"))
+                    .collect();
+                write!(f, "   {}", each.join(", "))?;
+            }
+            writeln!(f)?;
+        }
+        Ok(())
     }
 }
 
 /// How many messages got each kind of answer.
 #[derive(Clone, Debug, Default)]
-pub struct Tally(BTreeMap<Kind, usize>);
+pub struct Tally(BTreeMap<Kind, u64>);
 
 impl Tally {
     /// Counts the answer to one message.
@@ -106,20 +150,17 @@ impl Tally {
         *self.0.entry(Kind::of(line)).or_default() += 1;
     }
 
-    fn count(&self, kind: Kind) -> usize {
+    fn count(&self, kind: Kind) -> u64 {
         self.0.get(&kind).copied().unwrap_or_default()
     }
 
     /// The kinds that no message got.
     pub fn not_reached(&self) -> Vec<Kind> {
-        let refusals = REFUSALS.iter().flat_map(|&(number, fields)| {
-            fields
-                .iter()
-                .map(move |&field| Kind::Refused { number, field })
-        });
-        TAKEN
-            .into_iter()
-            .chain(refusals)
+        let taken = TAKEN.map(|(kind, _)| kind).into_iter();
+        let refused =
+            each_refusal(&REFUSALS).map(|(number, field)| Kind::Refused { number, field });
+        taken
+            .chain(refused)
             .filter(|&kind| self.count(kind) == 0)
             .collect()
     }
@@ -127,10 +168,10 @@ impl Tally {
     /// The kinds that were got, though document 01 has no such answer to a
     /// reading.
     pub fn not_expected(&self) -> Vec<Kind> {
-        let expected = |kind: &Kind| match kind {
-            Kind::Refused { number, field } => REFUSALS
-                .iter()
-                .any(|(known, fields)| known == number && fields.contains(field)),
+        let expected = |kind: &Kind| match *kind {
+            Kind::Refused { number, field } => {
+                each_refusal(&REFUSALS).any(|refusal| refusal == (number, field))
+            }
             Kind::Other => false,
             _ => true,
         };
@@ -142,29 +183,18 @@ impl Tally {
     }
 }
 
-/// A row for each kind of line and for each number, its fields beside it.
+const COLUMNS: Columns = Columns { name: 18, count: 6 };
+
+/// A row for each kind of line and for each number.
 impl fmt::Display for Tally {
     fn fmt(&self, f: &mut fmt::Formatter<'_>) -> fmt::Result {
-        for kind in TAKEN {
-            writeln!(f, "  {:<18}{:>6}", kind.to_string(), self.count(kind))?;
-        }
-        for (number, fields) in REFUSALS {
-            let counts = fields.iter().map(|&field| {
-                let count = self.count(Kind::Refused { number, field });
-                (field, count)
-            });
-            let all: usize = counts.clone().map(|(_, count)| count).sum();
-            let row = format!("refused {number}");
-            write!(f, "  {row:<18}{all:>6}")?;
-            if fields.len() > 1 {
-                let each: Vec<String> = counts
-                    .map(|(field, count)| format!("field {field}: {count}"))
-                    .collect();
-                write!(f, "   {}", each.join(", "))?;
-            }
+        for (kind, name) in TAKEN {
+            COLUMNS.row(f, name, self.count(kind))?;
             writeln!(f)?;
         }
-        Ok(())
+        COLUMNS.refusals(f, &REFUSALS, |number, field| {
+            self.count(Kind::Refused { number, field })
+        })
     }
 }
 

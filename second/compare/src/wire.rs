@@ -64,10 +64,11 @@ impl Head {
         }
     }
 
-    pub fn put(self, message: &mut Vec<u8>) {
-        message.extend(self.len.to_le_bytes());
-        message.extend(self.max_len.to_le_bytes());
-        message.extend(self.offset.to_le_bytes());
+    pub fn bytes(self) -> [u8; 8] {
+        let [len_low, len_high] = self.len.to_le_bytes();
+        let [max_low, max_high] = self.max_len.to_le_bytes();
+        let [a, b, c, d] = self.offset.to_le_bytes();
+        [len_low, len_high, max_low, max_high, a, b, c, d]
     }
 }
 
@@ -164,6 +165,24 @@ pub fn cut_or_changed(random: &mut Random, message: &[u8], end: usize) -> Vec<Ve
 /// Gives a message another type.
 pub fn set_type(message: &mut [u8], number: u32) {
     message[8..12].copy_from_slice(&number.to_le_bytes());
+}
+
+/// Any flags, mostly with a character set.
+pub fn drawn_flags(random: &mut Random) -> u32 {
+    let flags = u32::from_le_bytes(random.array());
+    if random.one_in(20) {
+        flags
+    } else {
+        flags | random.pick(&[UNICODE, OEM])
+    }
+}
+
+/// A message as it is, or with some damage.
+pub fn maybe_damaged(random: &mut Random, mut message: Vec<u8>) -> Vec<u8> {
+    while random.one_in(3) {
+        damage(random, &mut message);
+    }
+    message
 }
 
 /// Damages a message somewhere, in one of the ways that captures and boxes do.

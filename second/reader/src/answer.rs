@@ -1,7 +1,7 @@
 //! Answering a challenge: document 01, "Answering a challenge (004)".
 
 use crate::challenge::Challenge;
-use crate::flags::CharacterSet;
+use crate::flags::{CharacterSet, NegotiateFlags};
 use crate::refusal::{Reason, Refusal};
 use crate::write_authenticate::{write_authenticate, AuthenticateParts};
 
@@ -53,6 +53,16 @@ pub struct Settings<'a> {
     pub account: Account<'a>,
 }
 
+impl<'a> Account<'a> {
+    /// This account with the default policy.
+    fn by_default(&self) -> Settings<'a> {
+        Settings {
+            policy: Policy::default(),
+            account: *self,
+        }
+    }
+}
+
 /// What the caller has worked out from the password.
 #[derive(Clone, Copy, Debug, Default)]
 pub struct Secrets<'a> {
@@ -64,6 +74,23 @@ pub struct Secrets<'a> {
     pub key: &'a [u8],
     /// MIC
     pub mic: [u8; 16],
+}
+
+impl<'a> AuthenticateParts<'a> {
+    /// The parts as they are given.
+    pub const fn new(flags: NegotiateFlags, account: &Account<'a>, secrets: &Secrets<'a>) -> Self {
+        Self {
+            flags,
+            version: account.version,
+            mic: secrets.mic,
+            lm: secrets.lm,
+            nt: secrets.nt,
+            domain: account.domain,
+            user: account.user,
+            workstation: account.workstation,
+            key: secrets.key,
+        }
+    }
 }
 
 /// "The answer is the length written, Time and whether a MIC is due."
@@ -119,20 +146,16 @@ pub fn answer(
     let mic_due = timestamp.is_some();
     let account = &settings.account;
     let parts = AuthenticateParts {
-        flags: challenge.flags,
-        version: account.version,
         mic: if mic_due { secrets.mic } else { [0; 16] },
         lm,
-        nt: secrets.nt,
         domain: choose_domain(account.domain, Some(&challenge)).bytes(),
-        user: account.user,
-        workstation: account.workstation,
         // "Otherwise the key given is passed over and field 6 is empty."
         key: if challenge.flags.key_is_answered() {
             secrets.key
         } else {
             &[]
         },
+        ..AuthenticateParts::new(challenge.flags, account, secrets)
     };
     let len = write_authenticate(&parts, out)?;
     Ok(Answer { len, time, mic_due })
@@ -182,7 +205,7 @@ fn choose_domain<'a>(setting: &'a [u8], challenge: Option<&Challenge<'a>>) -> Do
     }
 }
 
-/// Answers with the default policy, for the bench.
+/// "Three thin calls use the defaults": for the bench.
 pub fn answer_for_bench(
     challenge: &[u8],
     account: &Account<'_>,
@@ -190,10 +213,10 @@ pub fn answer_for_bench(
     secrets: &Secrets<'_>,
     out: &mut [u8],
 ) -> Result<Answer, Refusal> {
-    answer_with_defaults(challenge, account, clock, secrets, out)
+    answer(challenge, &account.by_default(), clock, secrets, out)
 }
 
-/// Answers with the default policy, for old servers.
+/// For old servers; see [`answer_for_bench`].
 pub fn answer_for_old_servers(
     challenge: &[u8],
     account: &Account<'_>,
@@ -201,10 +224,10 @@ pub fn answer_for_old_servers(
     secrets: &Secrets<'_>,
     out: &mut [u8],
 ) -> Result<Answer, Refusal> {
-    answer_with_defaults(challenge, account, clock, secrets, out)
+    answer(challenge, &account.by_default(), clock, secrets, out)
 }
 
-/// Answers with the default policy, for the relay.
+/// For the relay; see [`answer_for_bench`].
 pub fn answer_for_relay(
     challenge: &[u8],
     account: &Account<'_>,
@@ -212,20 +235,5 @@ pub fn answer_for_relay(
     secrets: &Secrets<'_>,
     out: &mut [u8],
 ) -> Result<Answer, Refusal> {
-    answer_with_defaults(challenge, account, clock, secrets, out)
-}
-
-/// "Three thin calls use the defaults."
-fn answer_with_defaults(
-    challenge: &[u8],
-    account: &Account<'_>,
-    clock: u64,
-    secrets: &Secrets<'_>,
-    out: &mut [u8],
-) -> Result<Answer, Refusal> {
-    let settings = Settings {
-        policy: Policy::default(),
-        account: *account,
-    };
-    answer(challenge, &settings, clock, secrets, out)
+    answer(challenge, &account.by_default(), clock, secrets, out)
 }

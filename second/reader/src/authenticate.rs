@@ -2,7 +2,7 @@
 
 use crate::flags::{CharacterSet, NegotiateFlags};
 use crate::refusal::{Reason, Refusal};
-use crate::wire::{number_at, open, part, Field, Head};
+use crate::wire::{locate, number_at, open, part, Field, Head};
 
 /// An AUTHENTICATE message that every check holds for.
 #[derive(Clone, Copy, Debug, PartialEq, Eq)]
@@ -28,10 +28,6 @@ pub struct Authenticate<'a> {
 }
 
 impl<'a> Authenticate<'a> {
-    /// The number of the LM response.
-    pub const LM: u8 = 1;
-    /// The number of the NT response.
-    pub const NT: u8 = 2;
     /// The number of DomainName.
     pub const DOMAIN: u8 = 3;
     /// The number of UserName.
@@ -53,18 +49,15 @@ impl<'a> Authenticate<'a> {
         let flags = NegotiateFlags(number_at::<60, { Authenticate::FIXED }>(fixed));
         let set = flags.character_set()?;
 
-        // Check 6, in field order.
-        let lm = Head::read::<12, { Authenticate::FIXED }>(fixed).locate(message, Self::LM)?;
-        let nt = Head::read::<20, { Authenticate::FIXED }>(fixed).locate(message, Self::NT)?;
-        let domain =
-            Head::read::<28, { Authenticate::FIXED }>(fixed).locate(message, Self::DOMAIN)?;
-        let user = Head::read::<36, { Authenticate::FIXED }>(fixed).locate(message, Self::USER)?;
-        let workstation =
-            Head::read::<44, { Authenticate::FIXED }>(fixed).locate(message, Self::WORKSTATION)?;
-        let key = Head::read::<52, { Authenticate::FIXED }>(fixed)
-            .counted(flags.key_counts())
-            .locate(message, Self::KEY)?;
-
+        let heads = [
+            Head::read::<12, { Authenticate::FIXED }>(fixed),
+            Head::read::<20, { Authenticate::FIXED }>(fixed),
+            Head::read::<28, { Authenticate::FIXED }>(fixed),
+            Head::read::<36, { Authenticate::FIXED }>(fixed),
+            Head::read::<44, { Authenticate::FIXED }>(fixed),
+            Head::read::<52, { Authenticate::FIXED }>(fixed).counted(flags.key_counts()),
+        ];
+        let [lm, nt, domain, user, workstation, key] = locate(message, Self::FIXED, heads)?;
         let mut reading = Self {
             flags,
             set,
@@ -76,7 +69,6 @@ impl<'a> Authenticate<'a> {
             workstation,
             key,
         };
-        reading.check_begins()?;
         reading.check_even_names()?;
         reading.check_names_apart()?;
         reading.mic = reading.find_mic(message);
@@ -88,15 +80,15 @@ impl<'a> Authenticate<'a> {
         self.mic.unwrap_or_default()
     }
 
-    /// The six fields in field order.
-    const fn fields(&self) -> [(&Field<'a>, u8); 6] {
+    /// The fields in field order.
+    pub const fn fields(&self) -> [Field<'a>; 6] {
         [
-            (&self.lm, Self::LM),
-            (&self.nt, Self::NT),
-            (&self.domain, Self::DOMAIN),
-            (&self.user, Self::USER),
-            (&self.workstation, Self::WORKSTATION),
-            (&self.key, Self::KEY),
+            self.lm,
+            self.nt,
+            self.domain,
+            self.user,
+            self.workstation,
+            self.key,
         ]
     }
 
@@ -112,14 +104,6 @@ impl<'a> Authenticate<'a> {
     /// "1, 2 and 6 are secrets."
     const fn secrets(&self) -> [&Field<'a>; 3] {
         [&self.lm, &self.nt, &self.key]
-    }
-
-    /// Check 7 over all fields in field order.
-    fn check_begins(&self) -> Result<(), Refusal> {
-        for (field, number) in self.fields() {
-            field.check_begin(Self::FIXED, number)?;
-        }
-        Ok(())
     }
 
     /// Check 8 over the names.
@@ -149,8 +133,8 @@ impl<'a> Authenticate<'a> {
         let lowest = self
             .fields()
             .iter()
-            .filter(|(field, _)| !field.is_empty())
-            .map(|(field, _)| field.place)
+            .filter(|field| !field.is_empty())
+            .map(|field| field.place)
             .min()
             .unwrap_or(message.len());
         if lowest < Self::FIXED_WITH_MIC {

@@ -3,7 +3,7 @@
 use crate::flags::{CharacterSet, NegotiateFlags};
 use crate::refusal::Refusal;
 use crate::target_info::{Summary, TargetInfo};
-use crate::wire::{number_at, open, part, Field, Head};
+use crate::wire::{locate, number_at, open, part, Field, Head};
 
 /// A CHALLENGE message that every check holds for.
 #[derive(Clone, Copy, Debug, PartialEq, Eq)]
@@ -25,8 +25,6 @@ pub struct Challenge<'a> {
 impl<'a> Challenge<'a> {
     /// The number of the TargetName field.
     pub const TARGET_NAME: u8 = 1;
-    /// The number of the TargetInfo field.
-    pub const TARGET_INFO: u8 = 2;
 
     pub(crate) const TYPE: u32 = 2;
     /// "House fixed part: 48 bytes."
@@ -38,14 +36,11 @@ impl<'a> Challenge<'a> {
         let flags = NegotiateFlags(number_at::<20, { Challenge::FIXED }>(fixed));
         let set = flags.character_set()?;
 
-        let target_name = Head::read::<12, { Challenge::FIXED }>(fixed)
-            .counted(flags.target_name_counts())
-            .locate(message, Self::TARGET_NAME)?;
-        let target_info = Head::read::<40, { Challenge::FIXED }>(fixed)
-            .counted(flags.target_info_counts())
-            .locate(message, Self::TARGET_INFO)?;
-        target_name.check_begin(Self::FIXED, Self::TARGET_NAME)?;
-        target_info.check_begin(Self::FIXED, Self::TARGET_INFO)?;
+        let heads = [
+            Head::read::<12, { Challenge::FIXED }>(fixed).counted(flags.target_name_counts()),
+            Head::read::<40, { Challenge::FIXED }>(fixed).counted(flags.target_info_counts()),
+        ];
+        let [target_name, target_info] = locate(message, Self::FIXED, heads)?;
         if set == CharacterSet::Unicode {
             target_name.check_even(Self::TARGET_NAME)?;
         }
@@ -59,5 +54,10 @@ impl<'a> Challenge<'a> {
             target_info,
             pairs,
         })
+    }
+
+    /// The fields in field order.
+    pub const fn fields(&self) -> [Field<'a>; 2] {
+        [self.target_name, self.target_info]
     }
 }

@@ -7,7 +7,7 @@ use crate::negotiate::Negotiate;
 use crate::nl_auth::NlAuth;
 use crate::output::{Count, Cursor, Sink};
 use crate::refusal::{Reason, Refusal};
-use crate::wire::type_of;
+use crate::wire::{type_of, Field};
 
 /// Writes the line of `message`, read as AUTHENTICATE, to the start of `out`
 /// and gives its length. "A refused message's line is the last form above,
@@ -82,10 +82,7 @@ const WORDS_LIMIT: usize = 128;
 /// `auth flags=H set=S domain=N user=N work=N lm=D nt=D key=D mic=B kind=K`
 impl Line for Authenticate<'_> {
     fn length_limit(&self) -> usize {
-        WORDS_LIMIT
-            .saturating_add(name_limit(self.domain.bytes))
-            .saturating_add(name_limit(self.user.bytes))
-            .saturating_add(name_limit(self.workstation.bytes))
+        limit_with([self.domain, self.user, self.workstation])
     }
 
     fn put<S: Sink>(&self, sink: &mut S) {
@@ -126,7 +123,7 @@ const fn kind(nt_len: usize) -> &'static [u8] {
 /// word and its space are left out".
 impl Line for Challenge<'_> {
     fn length_limit(&self) -> usize {
-        WORDS_LIMIT.saturating_add(name_limit(self.target_name.bytes))
+        limit_with([self.target_name])
     }
 
     fn put<S: Sink>(&self, sink: &mut S) {
@@ -148,9 +145,7 @@ impl Line for Challenge<'_> {
 /// `nego flags=H domain=N work=N`, the names as bytes also where UNICODE is set.
 impl Line for Negotiate<'_> {
     fn length_limit(&self) -> usize {
-        WORDS_LIMIT
-            .saturating_add(name_limit(self.domain.bytes))
-            .saturating_add(name_limit(self.workstation.bytes))
+        limit_with([self.domain, self.workstation])
     }
 
     fn put<S: Sink>(&self, sink: &mut S) {
@@ -168,9 +163,7 @@ impl Line for Negotiate<'_> {
 /// NL_AUTH bits".
 impl Line for NlAuth<'_> {
     fn length_limit(&self) -> usize {
-        self.strings.iter().fold(WORDS_LIMIT, |limit, string| {
-            limit.saturating_add(name_limit(string.bytes))
-        })
+        limit_with(self.strings)
     }
 
     fn put<S: Sink>(&self, sink: &mut S) {
@@ -213,10 +206,12 @@ fn put_set<S: Sink>(sink: &mut S, set: CharacterSet) {
     });
 }
 
-/// A length that a name in a line does not pass: an escaped byte has 4
+/// A length that a line with these names does not pass: an escaped byte has 4
 /// characters, an escaped unit of two bytes 6.
-const fn name_limit(name: &[u8]) -> usize {
-    name.len().saturating_mul(4)
+fn limit_with<const N: usize>(names: [Field<'_>; N]) -> usize {
+    names.iter().fold(WORDS_LIMIT, |limit, name| {
+        limit.saturating_add(name.bytes.len().saturating_mul(4))
+    })
 }
 
 /// "In N a unit 0x21 to 0x7E other than backslash stands for itself. Any other

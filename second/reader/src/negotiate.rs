@@ -2,7 +2,7 @@
 
 use crate::flags::NegotiateFlags;
 use crate::refusal::Refusal;
-use crate::wire::{number_at, open, Field, Head};
+use crate::wire::{locate, number_at, open, Field, Head};
 
 /// A NEGOTIATE message that every check holds for. "Both are OEM bytes even
 /// where UNICODE is set", so it has no character set.
@@ -17,11 +17,6 @@ pub struct Negotiate<'a> {
 }
 
 impl<'a> Negotiate<'a> {
-    /// The number of DomainName.
-    pub const DOMAIN: u8 = 1;
-    /// The number of Workstation.
-    pub const WORKSTATION: u8 = 2;
-
     pub(crate) const TYPE: u32 = 1;
     /// "House fixed part 32."
     const FIXED: usize = 32;
@@ -35,19 +30,21 @@ impl<'a> Negotiate<'a> {
         // Check 5. The set itself decides nothing here.
         flags.character_set()?;
 
-        let domain = Head::read::<16, { Negotiate::FIXED }>(fixed)
-            .counted(flags.domain_counts())
-            .locate(message, Self::DOMAIN)?;
-        let workstation = Head::read::<24, { Negotiate::FIXED }>(fixed)
-            .counted(flags.workstation_counts())
-            .locate(message, Self::WORKSTATION)?;
-        domain.check_begin(Self::FIXED, Self::DOMAIN)?;
-        workstation.check_begin(Self::FIXED, Self::WORKSTATION)?;
+        let heads = [
+            Head::read::<16, { Negotiate::FIXED }>(fixed).counted(flags.domain_counts()),
+            Head::read::<24, { Negotiate::FIXED }>(fixed).counted(flags.workstation_counts()),
+        ];
+        let [domain, workstation] = locate(message, Self::FIXED, heads)?;
 
         Ok(Self {
             flags,
             domain,
             workstation,
         })
+    }
+
+    /// The fields in field order.
+    pub const fn fields(&self) -> [Field<'a>; 2] {
+        [self.domain, self.workstation]
     }
 }

@@ -1,6 +1,5 @@
 //! TargetInfo: the AvPair list of a CHALLENGE.
 
-use crate::challenge::Challenge;
 use crate::refusal::{Reason, Refusal};
 
 /// The id of an AvPair.
@@ -91,6 +90,10 @@ pub struct Summary<'a> {
 }
 
 impl<'a> TargetInfo<'a> {
+    /// The number of this field in a CHALLENGE. Checks 10 to 13 return it also
+    /// where a list alone is lent.
+    pub const FIELD: u8 = 2;
+
     /// The walk from the first pair on.
     pub const fn walk(self) -> Walk<'a> {
         self.walk_from(0)
@@ -207,7 +210,7 @@ impl<'a> Walk<'a> {
     }
 }
 
-/// A fault of a pair list is one of field 2, TargetInfo.
+/// The refusal of a faulty pair.
 const fn refusal(reason: Reason) -> Refusal {
-    reason.of_field(Challenge::TARGET_INFO)
+    reason.of_field(TargetInfo::FIELD)
 }

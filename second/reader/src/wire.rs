@@ -97,7 +97,7 @@ impl Field<'_> {
     }
 
     /// Check 7, "a nonempty field begins in the fixed part".
-    pub(crate) const fn check_begin(&self, fixed: usize, field: u8) -> Result<(), Refusal> {
+    const fn check_begin(&self, fixed: usize, field: u8) -> Result<(), Refusal> {
         if !self.is_empty() && self.place < fixed {
             return Err(Reason::FieldInFixedPart.of_field(field));
         }
@@ -140,7 +140,7 @@ impl Head {
     }
 
     /// Check 6, "a nonempty field ends past the message"; otherwise the field.
-    pub(crate) fn locate(self, message: &[u8], field: u8) -> Result<Field<'_>, Refusal> {
+    fn locate(self, message: &[u8], field: u8) -> Result<Field<'_>, Refusal> {
         if self.len == 0 {
             return Ok(Field::default());
         }
@@ -155,4 +155,21 @@ impl Head {
         let bytes = message.get(place..end)?;
         Some(Field { place, bytes })
     }
+}
+
+/// Checks 6 and 7, each over all heads in field order, the first being that of
+/// field 1; otherwise the fields.
+pub(crate) fn locate<const N: usize>(
+    message: &[u8],
+    fixed: usize,
+    heads: [Head; N],
+) -> Result<[Field<'_>; N], Refusal> {
+    let mut fields = [Field::default(); N];
+    for ((field, head), number) in fields.iter_mut().zip(heads).zip(1..) {
+        *field = head.locate(message, number)?;
+    }
+    for (field, number) in fields.iter().zip(1..) {
+        field.check_begin(fixed, number)?;
+    }
+    Ok(fields)
 }

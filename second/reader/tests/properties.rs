@@ -314,14 +314,7 @@ struct Visible {
 
 fn all_but_secrets(message: &[u8]) -> Result<Visible, Refusal> {
     let read = Authenticate::read(message)?;
-    let fields = [
-        read.lm,
-        read.nt,
-        read.domain,
-        read.user,
-        read.workstation,
-        read.key,
-    ];
+    let fields = read.fields();
     let names = [read.domain, read.user, read.workstation];
     Ok(Visible {
         flags: read.flags.0,

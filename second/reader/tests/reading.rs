@@ -112,15 +112,7 @@ fn refusal_6_each_field_exactly_at_the_end_and_one_past() {
     for number in 1..=6 {
         let at_end = Auth::new(UNICODE | KEY_EXCH, 100).field(number, 4, 96).0;
         let read = Authenticate::read(&at_end).unwrap();
-        let fields = [
-            read.lm,
-            read.nt,
-            read.domain,
-            read.user,
-            read.workstation,
-            read.key,
-        ];
-        for (at, field) in fields.iter().enumerate() {
+        for (at, field) in read.fields().iter().enumerate() {
             let expected = if at + 1 == number { (96, 4) } else { (0, 0) };
             assert_eq!((field.place, field.bytes.len()), expected);
         }

@@ -6,10 +6,11 @@ use std::path::Path;
 use std::process::ExitCode;
 
 use compare::command::{fail, finish, seed_and_count, NOT_NUMBERS};
-use compare::wide::call::{Call, Line, Opening, Parts, Respond};
+use compare::wide::call::{Call, Line, Parts, Respond};
 use compare::wide::run;
 use depot::folder::Folder;
 use dialtable::raw;
+use reader::NegotiateParts;
 
 const USAGE: &str = "usage: wide MESSAGES SEED N";
 
@@ -69,13 +70,14 @@ fn library(call: &Call<'_>, out: &mut [u8], numbers: &mut [u64]) -> u64 {
         Call::WriteAuthenticate { flags, ref parts } => {
             raw::write_authenticate(out, flags, &lent(parts))
         }
-        Call::WriteNegotiate { flags, opening } => {
-            let Opening {
+        Call::WriteNegotiate { parts } => {
+            let NegotiateParts {
+                flags,
                 version,
                 domain,
                 workstation,
-            } = opening;
-            raw::write_negotiate(out, flags, &version, domain, workstation)
+            } = parts;
+            raw::write_negotiate(out, flags.0, &version, domain, workstation)
         }
         Call::WriteNlAuthRequest { flags, ref strings } => {
             raw::write_nl_auth_request(out, flags, strings)
@@ -108,14 +110,15 @@ fn library(call: &Call<'_>, out: &mut [u8], numbers: &mut [u64]) -> u64 {
 }
 
 const fn lent<'a>(parts: &Parts<'a>) -> raw::Parts<'a> {
+    let Parts { account, secrets } = parts;
     raw::Parts {
-        version: parts.version,
-        mic: parts.mic,
-        lm: parts.lm,
-        nt: parts.nt,
-        domain: parts.domain,
-        user: parts.user,
-        workstation: parts.workstation,
-        key: parts.key,
+        version: account.version,
+        mic: secrets.mic,
+        lm: secrets.lm,
+        nt: secrets.nt,
+        domain: account.domain,
+        user: account.user,
+        workstation: account.workstation,
+        key: secrets.key,
     }
 }

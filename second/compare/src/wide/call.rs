@@ -2,27 +2,15 @@
 
 use std::fmt::{self, Write};
 
-use crate::Hex;
+use reader::{Account, NegotiateParts, Secrets};
+
+use crate::hex::Hex;
 
 /// What an AUTHENTICATE message is written from, beside its flags.
 #[derive(Clone, Copy, Debug, Default)]
 pub struct Parts<'a> {
-    pub version: [u8; 8],
-    pub mic: [u8; 16],
-    pub lm: &'a [u8],
-    pub nt: &'a [u8],
-    pub domain: &'a [u8],
-    pub user: &'a [u8],
-    pub workstation: &'a [u8],
-    pub key: &'a [u8],
-}
-
-/// What a NEGOTIATE message is written from, beside its flags.
-#[derive(Clone, Copy, Debug, Default)]
-pub struct Opening<'a> {
-    pub version: [u8; 8],
-    pub domain: &'a [u8],
-    pub workstation: &'a [u8],
+    pub account: Account<'a>,
+    pub secrets: Secrets<'a>,
 }
 
 /// The calls that give a line.
@@ -47,6 +35,18 @@ impl Line {
         Self::NtlmProgram,
         Self::NlAuthProgram,
     ];
+
+    const fn index(self) -> usize {
+        match self {
+            Self::Authenticate => const { place_of("authenticate_line") },
+            Self::Challenge => const { place_of("challenge_line") },
+            Self::Negotiate => const { place_of("negotiate_line") },
+            Self::NlAuth => const { place_of("nl_auth_line") },
+            Self::Ntlm => const { place_of("ntlm_line") },
+            Self::NtlmProgram => const { place_of("ntlm_program_line") },
+            Self::NlAuthProgram => const { place_of("nl_auth_program_line") },
+        }
+    }
 }
 
 /// The calls that answer a challenge.
@@ -60,6 +60,15 @@ pub enum Respond {
 
 impl Respond {
     pub const THIN: [Self; 3] = [Self::ForBench, Self::ToOldServer, Self::ForRelay];
+
+    const fn index(self) -> usize {
+        match self {
+            Self::With { .. } => const { place_of("respond") },
+            Self::ForBench => const { place_of("respond_for_bench") },
+            Self::ToOldServer => const { place_of("respond_to_old_server") },
+            Self::ForRelay => const { place_of("respond_for_relay") },
+        }
+    }
 }
 
 /// A call and its inputs. Its outputs are lent beside it: bytes (a line, a
@@ -112,8 +121,7 @@ pub enum Call<'a> {
         parts: Parts<'a>,
     },
     WriteNegotiate {
-        flags: u32,
-        opening: Opening<'a>,
+        parts: NegotiateParts<'a>,
     },
     WriteNlAuthRequest {
         flags: u32,
@@ -168,34 +176,47 @@ pub const NAMES: [&str; 28] = [
     "respond_for_relay",
 ];
 
+/// Where a name stands among [`NAMES`]. One that isn't there doesn't compile.
+const fn place_of(name: &str) -> usize {
+    let mut at = 0;
+    while !same(NAMES[at].as_bytes(), name.as_bytes()) {
+        at += 1;
+    }
+    at
+}
+
+/// Whether two names are the same, worked out while compiling.
+const fn same(one: &[u8], two: &[u8]) -> bool {
+    match (one, two) {
+        ([], []) => true,
+        ([a, one @ ..], [b, two @ ..]) => *a == *b && same(one, two),
+        _ => false,
+    }
+}
+
 impl Call<'_> {
     /// Which of [`NAMES`] it is.
     pub const fn index(&self) -> usize {
         match self {
-            Self::ReadAuthenticate { .. } => 0,
-            Self::ReadChallenge { .. } => 1,
-            Self::ReadTimestamp { .. } => 2,
-            Self::ReadServerNames { .. } => 3,
-            Self::ReadNegotiate { .. } => 4,
-            Self::ReadNlAuth { .. } => 5,
-            Self::FieldBytes { .. } => 6,
-            Self::CheckPairs { .. } => 7,
-            Self::CountPairs { .. } => 8,
-            Self::FindPair { .. } => 9,
-            Self::NextPair { .. } => 10,
-            Self::Line { line, .. } => 11 + *line as usize,
-            Self::WriteAuthenticate { .. } => 18,
-            Self::WriteNegotiate { .. } => 19,
-            Self::WriteNlAuthRequest { .. } => 20,
-            Self::WriteNlAuthResponse => 21,
-            Self::Decide { .. } => 22,
-            Self::DomainToSend { .. } => 23,
-            Self::Respond { how, .. } => match how {
-                Respond::With { .. } => 24,
-                Respond::ForBench => 25,
-                Respond::ToOldServer => 26,
-                Respond::ForRelay => 27,
-            },
+            Self::ReadAuthenticate { .. } => const { place_of("read_authenticate") },
+            Self::ReadChallenge { .. } => const { place_of("read_challenge") },
+            Self::ReadTimestamp { .. } => const { place_of("read_timestamp") },
+            Self::ReadServerNames { .. } => const { place_of("read_server_names") },
+            Self::ReadNegotiate { .. } => const { place_of("read_negotiate") },
+            Self::ReadNlAuth { .. } => const { place_of("read_nl_auth") },
+            Self::FieldBytes { .. } => const { place_of("field_bytes") },
+            Self::CheckPairs { .. } => const { place_of("check_pairs") },
+            Self::CountPairs { .. } => const { place_of("count_pairs") },
+            Self::FindPair { .. } => const { place_of("find_pair") },
+            Self::NextPair { .. } => const { place_of("next_pair") },
+            Self::Line { line, .. } => line.index(),
+            Self::WriteAuthenticate { .. } => const { place_of("write_authenticate") },
+            Self::WriteNegotiate { .. } => const { place_of("write_negotiate") },
+            Self::WriteNlAuthRequest { .. } => const { place_of("write_nl_auth_request") },
+            Self::WriteNlAuthResponse => const { place_of("write_nl_auth_response") },
+            Self::Decide { .. } => const { place_of("decide") },
+            Self::DomainToSend { .. } => const { place_of("domain_to_send") },
+            Self::Respond { how, .. } => how.index(),
         }
     }
 
@@ -256,10 +277,10 @@ impl Call<'_> {
             | Self::FindPair { list, .. }
             | Self::NextPair { list, .. } => vec![("list", list)],
             Self::WriteAuthenticate { parts, .. } => parts.inputs(),
-            Self::WriteNegotiate { opening, .. } => vec![
-                ("version", &opening.version),
-                ("domain", opening.domain),
-                ("workstation", opening.workstation),
+            Self::WriteNegotiate { parts } => vec![
+                ("version", &parts.version),
+                ("domain", parts.domain),
+                ("workstation", parts.workstation),
             ],
             Self::WriteNlAuthRequest { strings, .. } => {
                 let names = ["a", "b", "c", "d", "e"].into_iter();
@@ -280,9 +301,10 @@ impl Call<'_> {
             Self::FieldBytes { offset, len, .. } => format!(" offset={offset} len={len}"),
             Self::FindPair { id, .. } => format!(" id={id}"),
             Self::NextPair { at, .. } => format!(" at={at}"),
-            Self::WriteAuthenticate { flags, .. }
-            | Self::WriteNegotiate { flags, .. }
-            | Self::WriteNlAuthRequest { flags, .. } => format!(" flags={flags:08X}"),
+            Self::WriteNegotiate { parts } => format!(" flags={:08X}", parts.flags.0),
+            Self::WriteAuthenticate { flags, .. } | Self::WriteNlAuthRequest { flags, .. } => {
+                format!(" flags={flags:08X}")
+            }
             Self::Decide { settings, .. } => format!(" settings={settings:X}"),
             Self::Respond { how, clock, .. } => match how {
                 Respond::With { settings } => format!(" settings={settings:X} clock={clock:016X}"),
@@ -295,28 +317,29 @@ impl Call<'_> {
 
 impl<'a> Parts<'a> {
     fn inputs(&self) -> Vec<(&'static str, &[u8])> {
+        let Self { account, secrets } = self;
         vec![
-            ("version", &self.version),
-            ("mic", &self.mic),
-            ("lm", self.lm),
-            ("nt", self.nt),
-            ("domain", self.domain),
-            ("user", self.user),
-            ("workstation", self.workstation),
-            ("key", self.key),
+            ("version", &account.version),
+            ("mic", &secrets.mic),
+            ("lm", secrets.lm),
+            ("nt", secrets.nt),
+            ("domain", account.domain),
+            ("user", account.user),
+            ("workstation", account.workstation),
+            ("key", secrets.key),
         ]
     }
 
-    /// These parts with other secrets.
+    /// These parts with other secrets: LM response, NT response and key.
     pub const fn with_secrets(self, secrets: &'a [Vec<u8>; 3], mic: [u8; 16]) -> Self {
         let [lm, nt, key] = secrets;
-        Self {
-            mic,
+        let secrets = Secrets {
             lm: lm.as_slice(),
             nt: nt.as_slice(),
             key: key.as_slice(),
-            ..self
-        }
+            mic,
+        };
+        Self { secrets, ..self }
     }
 }
 

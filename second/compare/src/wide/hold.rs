@@ -4,8 +4,8 @@
 use super::call::{refusal, Call};
 use super::second::second;
 use super::tally::Tally;
+use crate::hex::Hex;
 use crate::random::Random;
-use crate::Hex;
 
 /// The library: a call, the bytes and the numbers that are lent for it.
 pub trait Library: Fn(&Call<'_>, &mut [u8], &mut [u64]) -> u64 {}

@@ -1,19 +1,36 @@
 //! What the calls are given: messages drawn and mutated, and what is written.
 
+use reader::{Account, Secrets};
+
 use crate::names::{name, string, Set};
 use crate::random::Random;
 use crate::wire::{damage, offsets, set_of, FIELD_LENGTHS, LONG, MAX_MESSAGE};
 use crate::wire::{KEY_EXCH, OEM, UNICODE};
-use crate::{authenticate, challenge, negotiate, nl_auth};
+use crate::{authenticate, challenge, negotiate, nl_auth, pairs};
 
 use super::call::Parts;
 
-/// Where heads stand: the six of an AUTHENTICATE, one of them a CHALLENGE's
-/// too, its TargetInfo, and the two of a NEGOTIATE.
-const HEADS: [usize; 9] = [12, 20, 28, 36, 44, 52, 40, 16, 24];
+/// Where heads stand in some kind of message.
+fn head_places() -> Vec<usize> {
+    // The first of a CHALLENGE stands where an AUTHENTICATE has one too.
+    let [_, target_info] = challenge::KIND.heads_at;
+    [
+        &authenticate::KIND.heads_at[..],
+        &[target_info],
+        &negotiate::KIND.heads_at,
+    ]
+    .concat()
+}
 
-/// Where flags stand in each kind of message.
-const FLAGS: [usize; 4] = [4, 12, 20, 60];
+/// Where flags stand in each kind of message, NL_AUTH first.
+fn flag_places() -> [usize; 4] {
+    [
+        4,
+        negotiate::KIND.flags_at,
+        challenge::KIND.flags_at,
+        authenticate::KIND.flags_at,
+    ]
+}
 
 /// A message of any kind, sound or damaged, of 0 to 66,000 bytes. `captured`
 /// are sound ones to mutate.
@@ -51,7 +68,7 @@ fn mutated(random: &mut Random, mut message: Vec<u8>) -> Vec<u8> {
         match random.below(4) {
             0 | 1 => boundary_head(random, &mut message),
             2 => {
-                let at = random.pick(&FLAGS) + random.below(4);
+                let at = random.pick(&flag_places()) + random.below(4);
                 if let Some(byte) = message.get_mut(at) {
                     *byte ^= 1 << random.below(8);
                 }
@@ -65,7 +82,7 @@ fn mutated(random: &mut Random, mut message: Vec<u8>) -> Vec<u8> {
 /// A head's length or offset, or both, at a boundary.
 fn boundary_head(random: &mut Random, message: &mut [u8]) {
     let total = message.len();
-    let head = random.pick(&HEADS);
+    let head = random.pick(&head_places());
     let Some(bytes) = message.get_mut(head..head + 8) else {
         return;
     };
@@ -183,7 +200,7 @@ impl Drawn {
 
     /// Makes the message around 65,535 bytes long, or far longer.
     fn lengthen(&mut self, random: &mut Random) {
-        let others: usize = self.parts().lengths().iter().sum();
+        let others: usize = self.fields().iter().map(|field| field.len()).sum();
         let total = random.pick(&LONG).max(88 + others);
         let more = random.pick(&[total - 88 - others, MAX_MESSAGE, 0x1_0000]);
         let field = match random.below(5) {
@@ -197,34 +214,37 @@ impl Drawn {
     }
 
     pub fn parts(&self) -> Parts<'_> {
-        Parts {
+        let account = Account {
             version: self.version,
-            mic: self.mic,
-            lm: &self.lm,
-            nt: &self.nt,
             domain: &self.domain,
             user: &self.user,
             workstation: &self.workstation,
+        };
+        let secrets = Secrets {
+            lm: &self.lm,
+            nt: &self.nt,
             key: &self.key,
-        }
+            mic: self.mic,
+        };
+        Parts { account, secrets }
+    }
+
+    fn fields(&self) -> [&[u8]; 6] {
+        let Self {
+            lm,
+            nt,
+            domain,
+            user,
+            workstation,
+            key,
+            ..
+        } = self;
+        [lm, nt, domain, user, workstation, key]
     }
 
     /// LM response, NT response and key of the same lengths, with other bytes.
     pub fn other_secrets(&self, random: &mut Random) -> [Vec<u8>; 3] {
         [&self.lm, &self.nt, &self.key].map(|secret| random.bytes(secret.len()))
-    }
-}
-
-impl Parts<'_> {
-    const fn lengths(&self) -> [usize; 6] {
-        [
-            self.lm.len(),
-            self.nt.len(),
-            self.domain.len(),
-            self.user.len(),
-            self.workstation.len(),
-            self.key.len(),
-        ]
     }
 }
 
@@ -280,8 +300,8 @@ pub fn list(random: &mut Random, message: &[u8]) -> Vec<u8> {
     match random.below(16) {
         0 => message.to_vec(),
         1..=4 => target_info(message).unwrap_or_default().to_vec(),
-        5 if random.one_in(40) => challenge::long_list(random),
-        _ => challenge::drawn_list(random),
+        5 if random.one_in(40) => pairs::long_list(random),
+        _ => pairs::drawn_list(random),
     }
 }
 

@@ -12,11 +12,15 @@ use std::hint::black_box;
 use std::io::{self, Write};
 use std::time::{Duration, Instant};
 
-use crate::challenge::IDS;
+use reader::{NegotiateFlags, NegotiateParts};
+
+use crate::cases::cases;
+use crate::pairs::IDS;
 use crate::random::Random;
+use crate::report::{print_counts, print_differences};
 use crate::wire::KEY_EXCH;
 
-use call::{Call, Line, Opening, Respond};
+use call::{Call, Line, Respond};
 use hold::{Holder, Lent, Library, MOST_NUMBERS};
 use inputs::Drawn;
 use secret::{changeable_places, secret_places};
@@ -26,9 +30,6 @@ pub use tally::Tally;
 
 /// How often a long run says how far it is.
 const PROGRESS: Duration = Duration::from_secs(5);
-
-/// How many differences are printed whole.
-const SHOWN: usize = 20;
 
 /// What a run found.
 pub struct Report {
@@ -50,7 +51,7 @@ pub fn run(
     captured: &[Vec<u8>],
     progress: &mut impl Write,
 ) -> Report {
-    let boundaries = crate::cases(seed, 0).into_iter();
+    let boundaries = cases(seed, 0).into_iter();
     let mut given: Vec<Vec<u8>> = boundaries.map(|case| case.message).collect();
     given.extend_from_slice(captured);
     run_on(library, seed, given, drawn, captured, progress)
@@ -77,28 +78,20 @@ fn run_on(
         let message = given
             .next()
             .unwrap_or_else(|| inputs::message(&mut run.random, captured));
-        let before = run.holder.different;
-        run.case(message);
-        failed += usize::from(run.holder.different > before);
+        failed += usize::from(!run.held(message));
         if said.elapsed() >= PROGRESS {
             said = Instant::now();
             // Where it can't be printed, the run goes on.
             let _ = writeln!(progress, "{} of {cases} cases", done + 1);
         }
     }
-    let Holder {
-        tally,
-        differences,
-        different,
-        ..
-    } = run.holder;
     Report {
         seed,
         cases,
         failed,
-        tally,
-        differences,
-        different,
+        tally: run.holder.tally,
+        differences: run.holder.differences,
+        different: run.holder.different,
     }
 }
 
@@ -111,6 +104,13 @@ struct Run<L> {
 }
 
 impl<L: Library> Run<L> {
+    /// Whether a case found no difference.
+    fn held(&mut self, message: Vec<u8>) -> bool {
+        let before = self.holder.different;
+        self.case(message);
+        self.holder.different == before
+    }
+
     /// Every call on one message, and on what is drawn beside it.
     fn case(&mut self, mut message: Vec<u8>) {
         self.holder.stir(&mut self.random);
@@ -251,12 +251,13 @@ impl<L: Library> Run<L> {
         });
         let flags = inputs::flags(&mut self.random);
         let [domain, workstation] = inputs::opening_names(&mut self.random);
-        let opening = Opening {
+        let parts = NegotiateParts {
+            flags: NegotiateFlags(flags),
             version: self.random.array(),
             domain: &domain,
             workstation: &workstation,
         };
-        self.hold_rooms(&Call::WriteNegotiate { flags, opening });
+        self.hold_rooms(&Call::WriteNegotiate { parts });
         let flags = inputs::nl_auth_flags(&mut self.random);
         let strings = inputs::strings(&mut self.random);
         self.hold_rooms(&Call::WriteNlAuthRequest {
@@ -281,7 +282,7 @@ impl<L: Library> Run<L> {
             self.hold_respond(how, challenge, &drawn);
         }
         let parts = drawn.parts();
-        for own in [&[], parts.domain] {
+        for own in [&[], parts.account.domain] {
             self.hold_rooms(&Call::DomainToSend { own, challenge });
         }
     }
@@ -379,9 +380,8 @@ fn challenge_flags(challenge: &[u8]) -> u32 {
 }
 
 impl Report {
-    /// Prints the counts, the shortest differences and last 'N passed, M
-    /// failed', and gives M: each case is one test, and each kind of answer
-    /// that was missed is one that failed.
+    /// Prints the counts, the differences and last 'N passed, M failed', and
+    /// gives M: each kind of answer that was missed is one that failed.
     pub fn print(&self, out: &mut impl Write) -> io::Result<usize> {
         let calls = self.tally.calls();
         writeln!(
@@ -390,21 +390,14 @@ impl Report {
             self.cases, self.seed
         )?;
         write!(out, "{}", self.tally)?;
-        let mut differences: Vec<_> = self.differences.iter().collect();
-        differences.sort_by_key(|difference| difference.size);
-        for difference in differences.iter().take(SHOWN) {
-            writeln!(out, "{}", difference.text)?;
-        }
-        if self.different > SHOWN {
-            writeln!(out, "and {} more that differ", self.different - SHOWN)?;
-        }
-        let not_reached = self.tally.not_reached();
-        for kind in &not_reached {
-            writeln!(out, "NOT REACHED: {kind}")?;
-        }
-        let failed = self.failed + not_reached.len();
-        writeln!(out, "{} passed, {failed} failed", self.cases - self.failed)?;
-        Ok(failed)
+        let shown = self.differences.iter();
+        let shown = shown.map(|difference| (difference.size, &difference.text));
+        print_differences(shown.collect(), self.different, out)?;
+        let not_reached = self.tally.not_reached().into_iter();
+        let missed: Vec<String> = not_reached
+            .map(|kind| format!("NOT REACHED: {kind}"))
+            .collect();
+        print_counts(self.cases, self.failed, &missed, out)
     }
 }
 

@@ -3,10 +3,9 @@
 use reader::{
     answer, answer_for_bench, answer_for_old_servers, answer_for_relay, authenticate_line,
     challenge_line, domain_to_send, field_bytes, negotiate_line, nl_auth_line, ntlm_line,
-    write_authenticate, write_negotiate, write_nl_auth_request, write_nl_auth_response, Account,
-    Answer, Authenticate, AuthenticateParts, AvId, Challenge, Field, Negotiate, NegotiateFlags,
-    NegotiateParts, NlAuth, NlAuthFlags, Policy, Program, Reason, Refusal, Secrets, Settings,
-    TargetInfo,
+    write_authenticate, write_negotiate, write_nl_auth_request, write_nl_auth_response, Answer,
+    Authenticate, AuthenticateParts, AvId, Challenge, Field, Negotiate, NegotiateFlags, NlAuth,
+    NlAuthFlags, Policy, Program, Reason, Refusal, Settings, TargetInfo,
 };
 
 use super::call::{refused, Call, Line, Parts, Respond};
@@ -19,123 +18,35 @@ pub fn second(call: &Call<'_>, out: &mut [u8], numbers: &mut [u64]) -> u64 {
     }
 }
 
+/// A call that gives all it has in arrays answers 0.
 fn call_of(call: &Call<'_>, out: &mut [u8], numbers: &mut [u64]) -> Result<usize, Refusal> {
     // "An array .. that is too short is refused 33, before anything is read."
     if numbers.len() < call.numbers() || call.array().is_some_and(|len| out.len() < len) {
         return Err(Reason::NoRoom.of_message());
     }
     match *call {
-        Call::ReadAuthenticate { message } => {
-            let read = Authenticate::read(message)?;
-            put_bytes(out, &read.mic_bytes());
-            let head = [u64::from(read.flags.0), u64::from(read.mic.is_some())];
-            put(numbers, &head);
-            let fields = [
-                read.lm,
-                read.nt,
-                read.domain,
-                read.user,
-                read.workstation,
-                read.key,
-            ];
-            put_fields(&mut numbers[2..], &fields);
-            Ok(0)
-        }
-        Call::ReadChallenge { message } => {
-            let read = Challenge::read(message)?;
-            put_bytes(out, &read.server_challenge);
-            put(numbers, &[u64::from(read.flags.0)]);
-            put_fields(&mut numbers[1..], &[read.target_name, read.target_info]);
-            Ok(0)
-        }
-        Call::ReadTimestamp { message } => {
-            put(
-                numbers,
-                &optional(Challenge::read(message)?.pairs.timestamp),
-            );
-            Ok(0)
-        }
-        Call::ReadServerNames { message } => {
-            let pairs = Challenge::read(message)?.pairs;
-            let there = [pairs.computer, pairs.domain].map(|pair| u64::from(pair.is_some()));
-            put(numbers, &there);
-            Ok(0)
-        }
-        Call::ReadNegotiate { message } => {
-            let read = Negotiate::read(message)?;
-            put(numbers, &[u64::from(read.flags.0)]);
-            put_fields(&mut numbers[1..], &[read.domain, read.workstation]);
-            Ok(0)
-        }
-        Call::ReadNlAuth { message } => {
-            let read = NlAuth::read(message)?;
-            put(
-                numbers,
-                &[read.message_type as u64, u64::from(read.flags.bits())],
-            );
-            put_fields(&mut numbers[2..], &read.strings);
-            Ok(0)
-        }
+        Call::ReadAuthenticate { message } => read_authenticate(message, out, numbers),
+        Call::ReadChallenge { message } => read_challenge(message, out, numbers),
+        Call::ReadTimestamp { message } => read_timestamp(message, numbers),
+        Call::ReadServerNames { message } => read_server_names(message, numbers),
+        Call::ReadNegotiate { message } => read_negotiate(message, numbers),
+        Call::ReadNlAuth { message } => read_nl_auth(message, numbers),
         Call::FieldBytes {
             message,
             offset,
             len,
         } => copy(field_bytes(message, offset, len)?, out),
         Call::CheckPairs { list } => TargetInfo(list).count().map(|_| 0),
-        Call::CountPairs { list } => {
-            put(numbers, &[TargetInfo(list).count()? as u64]);
-            Ok(0)
-        }
-        Call::FindPair { list, id } => {
-            let found = TargetInfo(list).find(AvId(id))?;
-            let found = found.map_or([0; 3], |pair| {
-                [1, pair.place as u64, pair.value.len() as u64]
-            });
-            put(numbers, &found);
-            Ok(0)
-        }
-        Call::NextPair { list, at } => {
-            let mut walk = TargetInfo(list).walk_from(at);
-            let pair = walk.ask()?.map_or([0; 4], |pair| {
-                let value = [pair.place, pair.value.len()].map(|number| number as u64);
-                [1, u64::from(pair.id.0), value[0], value[1]]
-            });
-            put(numbers, &pair);
-            put(&mut numbers[4..], &[walk.at() as u64]);
-            Ok(0)
-        }
-        Call::Line { line, message } => match line {
-            Line::Authenticate => authenticate_line(message, out),
-            Line::Challenge => challenge_line(message, out),
-            Line::Negotiate => negotiate_line(message, out),
-            Line::NlAuth => nl_auth_line(message, out),
-            Line::Ntlm => ntlm_line(message, out),
-            Line::NtlmProgram => Program::Ntlm.write_line(message, out),
-            Line::NlAuthProgram => Program::NlAuth.write_line(message, out),
-        },
+        Call::CountPairs { list } => count_pairs(list, numbers),
+        Call::FindPair { list, id } => find_pair(list, id, numbers),
+        Call::NextPair { list, at } => next_pair(list, at, numbers),
+        Call::Line { line, message } => put_line(line, message, out),
         Call::WriteAuthenticate { flags, parts } => {
-            let parts = AuthenticateParts {
-                flags: NegotiateFlags(flags),
-                version: parts.version,
-                mic: parts.mic,
-                lm: parts.lm,
-                nt: parts.nt,
-                domain: parts.domain,
-                user: parts.user,
-                workstation: parts.workstation,
-                key: parts.key,
-            };
+            let flags = NegotiateFlags(flags);
+            let parts = AuthenticateParts::new(flags, &parts.account, &parts.secrets);
             write_authenticate(&parts, out)
         }
-        Call::WriteNegotiate { flags, opening } => {
-            let parts = NegotiateParts {
-                flags: NegotiateFlags(flags),
-                version: opening.version,
-                domain: opening.domain,
-                workstation: opening.workstation,
-            };
-            write_negotiate(&parts, out)
-        }
+        Call::WriteNegotiate { parts } => write_negotiate(&parts, out),
         Call::WriteNlAuthRequest { flags, strings } => {
             write_nl_auth_request(NlAuthFlags::new(flags), &strings, out)
         }
@@ -143,12 +54,7 @@ fn call_of(call: &Call<'_>, out: &mut [u8], numbers: &mut [u64]) -> Result<usize
         Call::Decide {
             settings,
             challenge,
-        } => {
-            let decided = policy(settings).decide(challenge)?;
-            put(numbers, &[u64::from(decided.flags.0)]);
-            put(&mut numbers[1..], &optional(decided.pairs.timestamp));
-            Ok(0)
-        }
+        } => decide(settings, challenge, numbers),
         Call::DomainToSend { own, challenge } => copy(domain_to_send(own, challenge).bytes(), out),
         Call::Respond {
             how,
@@ -163,6 +69,103 @@ fn call_of(call: &Call<'_>, out: &mut [u8], numbers: &mut [u64]) -> Result<usize
     }
 }
 
+fn read_authenticate(
+    message: &[u8],
+    mic: &mut [u8],
+    numbers: &mut [u64],
+) -> Result<usize, Refusal> {
+    let read = Authenticate::read(message)?;
+    put_bytes(mic, &read.mic_bytes());
+    let head = [u64::from(read.flags.0), u64::from(read.mic.is_some())];
+    put(numbers, &head);
+    put_fields(&mut numbers[2..], &read.fields());
+    Ok(0)
+}
+
+fn read_challenge(
+    message: &[u8],
+    server_challenge: &mut [u8],
+    numbers: &mut [u64],
+) -> Result<usize, Refusal> {
+    let read = Challenge::read(message)?;
+    put_bytes(server_challenge, &read.server_challenge);
+    put(numbers, &[u64::from(read.flags.0)]);
+    put_fields(&mut numbers[1..], &read.fields());
+    Ok(0)
+}
+
+fn read_timestamp(message: &[u8], numbers: &mut [u64]) -> Result<usize, Refusal> {
+    let pairs = Challenge::read(message)?.pairs;
+    put(numbers, &optional(pairs.timestamp));
+    Ok(0)
+}
+
+fn read_server_names(message: &[u8], numbers: &mut [u64]) -> Result<usize, Refusal> {
+    let pairs = Challenge::read(message)?.pairs;
+    let there = [pairs.computer, pairs.domain].map(|pair| u64::from(pair.is_some()));
+    put(numbers, &there);
+    Ok(0)
+}
+
+fn read_negotiate(message: &[u8], numbers: &mut [u64]) -> Result<usize, Refusal> {
+    let read = Negotiate::read(message)?;
+    put(numbers, &[u64::from(read.flags.0)]);
+    put_fields(&mut numbers[1..], &read.fields());
+    Ok(0)
+}
+
+fn read_nl_auth(message: &[u8], numbers: &mut [u64]) -> Result<usize, Refusal> {
+    let read = NlAuth::read(message)?;
+    let head = [read.message_type as u64, u64::from(read.flags.bits())];
+    put(numbers, &head);
+    put_fields(&mut numbers[2..], &read.strings);
+    Ok(0)
+}
+
+fn count_pairs(list: &[u8], numbers: &mut [u64]) -> Result<usize, Refusal> {
+    put(numbers, &[TargetInfo(list).count()? as u64]);
+    Ok(0)
+}
+
+fn find_pair(list: &[u8], id: u16, numbers: &mut [u64]) -> Result<usize, Refusal> {
+    let found = TargetInfo(list).find(AvId(id))?;
+    let found = found.map_or([0; 3], |pair| {
+        [1, pair.place as u64, pair.value.len() as u64]
+    });
+    put(numbers, &found);
+    Ok(0)
+}
+
+fn next_pair(list: &[u8], at: usize, numbers: &mut [u64]) -> Result<usize, Refusal> {
+    let mut walk = TargetInfo(list).walk_from(at);
+    let pair = walk.ask()?.map_or([0; 4], |pair| {
+        let value = [pair.place, pair.value.len()].map(|number| number as u64);
+        [1, u64::from(pair.id.0), value[0], value[1]]
+    });
+    put(numbers, &pair);
+    put(&mut numbers[4..], &[walk.at() as u64]);
+    Ok(0)
+}
+
+fn put_line(line: Line, message: &[u8], out: &mut [u8]) -> Result<usize, Refusal> {
+    match line {
+        Line::Authenticate => authenticate_line(message, out),
+        Line::Challenge => challenge_line(message, out),
+        Line::Negotiate => negotiate_line(message, out),
+        Line::NlAuth => nl_auth_line(message, out),
+        Line::Ntlm => ntlm_line(message, out),
+        Line::NtlmProgram => Program::Ntlm.write_line(message, out),
+        Line::NlAuthProgram => Program::NlAuth.write_line(message, out),
+    }
+}
+
+fn decide(settings: u32, challenge: &[u8], numbers: &mut [u64]) -> Result<usize, Refusal> {
+    let decided = policy(settings).decide(challenge)?;
+    put(numbers, &[u64::from(decided.flags.0)]);
+    put(&mut numbers[1..], &optional(decided.pairs.timestamp));
+    Ok(0)
+}
+
 fn respond(
     how: Respond,
     challenge: &[u8],
@@ -170,29 +173,18 @@ fn respond(
     parts: &Parts<'_>,
     out: &mut [u8],
 ) -> Result<Answer, Refusal> {
-    let account = Account {
-        version: parts.version,
-        domain: parts.domain,
-        user: parts.user,
-        workstation: parts.workstation,
-    };
-    let secrets = &Secrets {
-        lm: parts.lm,
-        nt: parts.nt,
-        key: parts.key,
-        mic: parts.mic,
-    };
+    let Parts { account, secrets } = parts;
     match how {
         Respond::With { settings } => {
             let settings = Settings {
                 policy: policy(settings),
-                account,
+                account: *account,
             };
             answer(challenge, &settings, clock, secrets, out)
         }
-        Respond::ForBench => answer_for_bench(challenge, &account, clock, secrets, out),
-        Respond::ToOldServer => answer_for_old_servers(challenge, &account, clock, secrets, out),
-        Respond::ForRelay => answer_for_relay(challenge, &account, clock, secrets, out),
+        Respond::ForBench => answer_for_bench(challenge, account, clock, secrets, out),
+        Respond::ToOldServer => answer_for_old_servers(challenge, account, clock, secrets, out),
+        Respond::ForRelay => answer_for_relay(challenge, account, clock, secrets, out),
     }
 }
 

@@ -3,11 +3,11 @@
 use std::fmt;
 
 use super::call::{refusal, Call, NAMES};
-use crate::tally::REFUSALS;
+use crate::tally::{each_refusal, Columns, Refusals, REFUSALS};
 
 /// Each refusal that only answering and writing can give, with every field that
 /// it can have.
-const OF_WRITING: [(u8, &[u8]); 6] = [
+const OF_WRITING: [Refusals; 6] = [
     (20, &[0]),
     (21, &[0]),
     (30, &[0]),
@@ -67,7 +67,7 @@ const WITH_SECRETS: [&str; 8] = [
 ];
 
 /// All refusals, by their numbers.
-fn refusals() -> Vec<(u8, &'static [u8])> {
+fn refusals() -> Vec<Refusals> {
     let mut all = [&REFUSALS[..], &OF_WRITING].concat();
     for (number, fields) in &mut all {
         if *number == 6 {
@@ -158,11 +158,9 @@ impl Tally {
                 }
             }
         }
-        for (number, fields) in refusals() {
-            for &field in fields {
-                if self.refused(number, field) == 0 {
-                    missing.push(format!("refused {number} field={field}"));
-                }
+        for (number, field) in each_refusal(&refusals()) {
+            if self.refused(number, field) == 0 {
+                missing.push(format!("refused {number} field={field}"));
             }
         }
         missing
@@ -192,11 +190,13 @@ impl Row {
     }
 }
 
+const COLUMNS: Columns = Columns { name: 24, count: 9 };
+
 /// A row for each call, then one for each refusal.
 impl fmt::Display for Tally {
     fn fmt(&self, f: &mut fmt::Formatter<'_>) -> fmt::Result {
         for (name, row) in self.named() {
-            write!(f, "  {name:<24}{:>9}", row.all())?;
+            COLUMNS.row(f, name, row.all())?;
             write!(f, "   answered {}", row.answered)?;
             let refused = row
                 .refused
@@ -213,21 +213,7 @@ impl fmt::Display for Tally {
             }
             writeln!(f)?;
         }
-        for (number, fields) in refusals() {
-            let counts = fields
-                .iter()
-                .map(|&field| (field, self.refused(number, field)));
-            let all: u64 = counts.clone().map(|(_, count)| count).sum();
-            write!(f, "  {:<24}{all:>9}", format!("refused {number}"))?;
-            if fields.len() > 1 {
-                let each: Vec<String> = counts
-                    .map(|(field, count)| format!("field {field}: {count}"))
-                    .collect();
-                write!(f, "   {}", each.join(", "))?;
-            }
-            writeln!(f)?;
-        }
-        Ok(())
+        COLUMNS.refusals(f, &refusals(), |number, field| self.refused(number, field))
     }
 }
 
