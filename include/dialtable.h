@@ -1,7 +1,7 @@
 /*
  * Dialtable: NTLM and NL_AUTH messages read and written, with every call proved against its definition. For x86-64:
  *
- *     gcc -Iinclude program.c target/staticlib/libexport.a -o program
+ *     gcc -Iinclude program.c target/staticlib/libdialtable.a -o program
  *
  * Every call takes bytes as they come, of any length, and always ends. Nothing is kept between calls and nothing is
  * allocated; calls are reentrant. Memory is lent for the length of the call: inputs are only read, an output is written

@@ -1,8 +1,8 @@
 -- The answer is the number of what was copied.
 use borrow.Author.Needs.{needs}
 use Rattle.c_number.proofs.Laws.{of-copied, of-copy}
-use Rattle.export.proofs.dialtable_field_bytes.Statement.{statement}
-use Rattle.export.proofs.dialtable_field_bytes.Tie as tie
+use Rattle.dialtable.proofs.dialtable_field_bytes.Statement.{statement}
+use Rattle.dialtable.proofs.dialtable_field_bytes.Tie as tie
 
 pub dialtable-field-bytes-spec : {M : Type 1} → statement M
 dialtable-field-bytes-spec =
