@@ -1,4 +1,5 @@
-/* What a Cortex-M starts from: the top of its stack and newlib's start. A fault ends in hang, and the emulator's time runs out. */
+/* What a Cortex-M starts from: the top of its stack and newlib's start. A fault ends in hang, until the emulator's time
+ * runs out. */
 extern unsigned __stack;
 extern void _start(void);
 

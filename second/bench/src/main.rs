@@ -6,6 +6,7 @@ mod inputs;
 use std::env;
 use std::hint::black_box;
 use std::io::{self, Write};
+use std::path::Path;
 use std::process::ExitCode;
 use std::time::{Duration, Instant};
 
@@ -18,7 +19,7 @@ use reader::{
 
 use inputs::{Account, Opening, BEFORE_LIST, FLAGS, TIMESTAMP};
 
-const USAGE: &str = "usage: bench time | bench calls | bench once CALL";
+const USAGE: &str = "usage: bench time MESSAGES | bench calls MESSAGES | bench once MESSAGES PLACE";
 
 /// Sizes of messages, up to the longest.
 const SIZES: [usize; 4] = [100, 1_000, 10_000, 65_535];
@@ -47,12 +48,18 @@ macro_rules! repeat {
 fn main() -> ExitCode {
     let args: Vec<String> = env::args().skip(1).collect();
     let words: Vec<&str> = args.iter().map(String::as_str).collect();
-    let done = match words.as_slice() {
-        ["time"] => time(&mut io::stdout().lock()),
-        ["calls"] => usual()
-            .iter()
-            .try_for_each(|call| writeln!(io::stdout(), "{}", call.name)),
-        ["once", name] => return once(name),
+    let [what, folder, place @ ..] = words.as_slice() else {
+        return fail(USAGE);
+    };
+    let captured = match captured(Path::new(folder)) {
+        Ok(captured) => captured,
+        Err(error) => return fail(&error),
+    };
+    let mut out = io::stdout().lock();
+    let done = match (*what, place) {
+        ("time", []) => time(&mut out, captured),
+        ("calls", []) => calls(&mut out, captured),
+        ("once", [place]) => return once(captured, place),
         _ => return fail(USAGE),
     };
     match done {
@@ -67,9 +74,17 @@ fn fail(message: &str) -> ExitCode {
     ExitCode::from(2)
 }
 
+/// The calls that instructions are counted of: its place, its name, and what it
+/// is given.
+fn calls(out: &mut impl Write, captured: Vec<Measured>) -> io::Result<()> {
+    let mut calls = usual().into_iter().chain(captured).enumerate();
+    calls.try_for_each(|(place, call)| writeln!(out, "{place} {} {}", call.name, call.on))
+}
+
 /// Makes exactly one call of each side, for a program that counts instructions.
-fn once(name: &str) -> ExitCode {
-    let Some(mut call) = usual().into_iter().find(|call| call.name == name) else {
+fn once(captured: Vec<Measured>, place: &str) -> ExitCode {
+    let mut calls = usual().into_iter().chain(captured);
+    let Some(mut call) = place.parse().ok().and_then(|place| calls.nth(place)) else {
         return fail(USAGE);
     };
     (call.proved)(1);
@@ -84,14 +99,18 @@ extern "C" fn bench_second_once(call: &mut Box<dyn FnMut(u64)>) {
     call(1);
 }
 
-fn time(out: &mut impl Write) -> io::Result<()> {
-    writeln!(out, "nanoseconds for one call, both on the same input in one run; the median of {ROUNDS} rounds, taken in")?;
+fn time(out: &mut impl Write, captured: Vec<Measured>) -> io::Result<()> {
+    writeln!(out, "nanoseconds for one call, both on the same input in one run; the least of {ROUNDS} rounds, taken in")?;
     writeln!(
         out,
         "turn. Outputs are lent as the call before left them. The aim is a ratio of at most 1.0."
     )?;
-    heading(out, "the usual messages")?;
+    heading(out, "the usual messages, as our own writer lays them out")?;
     for mut call in usual() {
+        row(out, &mut call)?;
+    }
+    heading(out, "captured messages")?;
+    for mut call in captured {
         row(out, &mut call)?;
     }
     heading(out, "how time grows with the message")?;
@@ -103,7 +122,7 @@ fn time(out: &mut impl Write) -> io::Result<()> {
 
 fn heading(out: &mut impl Write, what: &str) -> io::Result<()> {
     let columns = ["proved", "second", "ratio"];
-    write!(out, "\n  {what:<52}")?;
+    write!(out, "\n  {what:<68}")?;
     for column in columns {
         write!(out, "{column:>10}")?;
     }
@@ -117,19 +136,20 @@ fn row(out: &mut impl Write, call: &mut Measured) -> io::Result<()> {
     let what = format!("{} {}", call.name, call.on);
     writeln!(
         out,
-        "  {what:<52}{proved:>10.1}{second:>10.1}{ratio:>10.2}{aim}"
+        "  {what:<68}{proved:>10.1}{second:>10.1}{ratio:>10.2}{aim}"
     )
 }
 
 /// How often each side is measured.
-const ROUNDS: usize = 15;
-/// How long one side runs in a round.
-const ROUND: Duration = Duration::from_millis(4);
+const ROUNDS: usize = 40;
+/// How long one side runs in a round: short, so that some rounds of each find
+/// the machine free.
+const ROUND: Duration = Duration::from_millis(1);
 
-/// The medians of both sides, in nanoseconds for one call.
+/// The least of both sides, in nanoseconds for one call.
 fn measure(call: &mut Measured) -> [f64; 2] {
     let times = [&mut call.proved, &mut call.second].map(|side| times_in_a_round(side));
-    let mut found = [const { Vec::new() }; 2];
+    let mut least = [f64::INFINITY; 2];
     for round in 0..ROUNDS {
         for turn in 0..2 {
             // Neither side always goes first.
@@ -139,13 +159,10 @@ fn measure(call: &mut Measured) -> [f64; 2] {
             } else {
                 &mut call.second
             };
-            found[side].push(nanoseconds(run, times[side]));
+            least[side] = least[side].min(nanoseconds(run, times[side]));
         }
     }
-    found.map(|mut found| {
-        found.sort_by(f64::total_cmp);
-        found[ROUNDS / 2]
-    })
+    least
 }
 
 fn nanoseconds(run: &mut dyn FnMut(u64), times: u64) -> f64 {
@@ -189,6 +206,32 @@ fn usual() -> Vec<Measured> {
         open(opening),
         respond(challenge, account),
     ]
+}
+
+/// The same on messages of other programs, whose fields stand in another order.
+fn captured(folder: &Path) -> Result<Vec<Measured>, String> {
+    let mut calls = Vec::new();
+    for file in inputs::CAPTURED {
+        let message = inputs::captured(folder, file)?;
+        let made: &[fn(Vec<u8>) -> Measured] = match message.get(8) {
+            Some(1) => &[read_negotiate, line_of_negotiate],
+            Some(2) => &[
+                |message| read_challenge(message, ""),
+                line_of_challenge,
+                |message| respond(message, Account::usual()),
+            ],
+            Some(3) => &[read_authenticate, |message| {
+                line_of_authenticate(message, "")
+            }],
+            _ => &[read_nl_auth, line_of_nl_auth],
+        };
+        calls.extend(made.iter().map(|make| {
+            let call = make(message.clone());
+            let on = format!("{file} {}", call.on.trim_start());
+            Measured { on, ..call }
+        }));
+    }
+    Ok(calls)
 }
 
 /// The same for longer and longer messages.
