@@ -7,7 +7,7 @@ use std::env;
 use std::hint::black_box;
 use std::io::{self, Write};
 use std::path::Path;
-use std::process::ExitCode;
+use std::process::{Command, ExitCode, Stdio};
 use std::time::{Duration, Instant};
 
 use dialtable::raw;
@@ -19,7 +19,7 @@ use reader::{
 
 use inputs::{Account, Opening, BEFORE_LIST, FLAGS, TIMESTAMP};
 
-const USAGE: &str = "usage: bench time MESSAGES | bench calls MESSAGES | bench once MESSAGES PLACE";
+const USAGE: &str = "usage: bench time | round | calls MESSAGES, or bench once MESSAGES PLACE";
 
 /// Sizes of messages, up to the longest.
 const SIZES: [usize; 4] = [100, 1_000, 10_000, 65_535];
@@ -57,7 +57,8 @@ fn main() -> ExitCode {
     };
     let mut out = io::stdout().lock();
     let done = match (*what, place) {
-        ("time", []) => time(&mut out, captured),
+        ("time", []) => time(&mut out, folder, captured),
+        ("round", []) => round(&mut out, captured),
         ("calls", []) => calls(&mut out, captured),
         ("once", [place]) => return once(captured, place),
         _ => return fail(USAGE),
@@ -99,25 +100,65 @@ extern "C" fn bench_second_once(call: &mut Box<dyn FnMut(u64)>) {
     call(1);
 }
 
-fn time(out: &mut impl Write, captured: Vec<Measured>) -> io::Result<()> {
-    writeln!(out, "nanoseconds for one call, both on the same input in one run; the least of {ROUNDS} rounds, taken in")?;
-    writeln!(
-        out,
-        "turn. Outputs are lent as the call before left them. The aim is a ratio of at most 1.0."
-    )?;
-    heading(out, "the usual messages, as our own writer lays them out")?;
-    for mut call in usual() {
-        row(out, &mut call)?;
+/// All calls that are timed, under the names of their tables.
+fn tables(captured: Vec<Measured>) -> [(&'static str, Vec<Measured>); 3] {
+    [
+        (
+            "the usual messages, as our own writer lays them out",
+            usual(),
+        ),
+        ("captured messages", captured),
+        ("how time grows with the message", growing()),
+    ]
+}
+
+fn time(out: &mut impl Write, folder: &str, captured: Vec<Measured>) -> io::Result<()> {
+    let tables = tables(captured);
+    let mut least = vec![[f64::INFINITY; 2]; tables.iter().map(|(_, calls)| calls.len()).sum()];
+    for _ in 0..PROCESSES {
+        for (least, found) in least.iter_mut().zip(another_process(folder)?) {
+            *least = [least[0].min(found[0]), least[1].min(found[1])];
+        }
     }
-    heading(out, "captured messages")?;
-    for mut call in captured {
-        row(out, &mut call)?;
-    }
-    heading(out, "how time grows with the message")?;
-    for mut call in growing() {
-        row(out, &mut call)?;
+    writeln!(out, "nanoseconds for one call, both on the same input: the least of {ROUNDS} rounds in each of {PROCESSES} processes, in which")?;
+    writeln!(out, "both sides of all calls take turns. Outputs are lent as the call before left them. The aim is a ratio of at most 1.0.")?;
+    let mut least = least.into_iter();
+    for (what, calls) in &tables {
+        heading(out, what)?;
+        for (call, least) in calls.iter().zip(&mut least) {
+            row(out, call, least)?;
+        }
     }
     Ok(())
+}
+
+/// How many processes measure. Where a process has its memory can make one side
+/// half as slow again, in all its rounds.
+const PROCESSES: usize = 8;
+
+/// What another process of this program measured.
+fn another_process(folder: &str) -> io::Result<Vec<[f64; 2]>> {
+    let said = Command::new(env::current_exe()?)
+        .args(["round", folder])
+        .stderr(Stdio::inherit())
+        .output()?;
+    let number = |word: Option<&str>| word.and_then(|word| word.parse().ok());
+    let read = |line: &str| {
+        let mut words = line.split(' ');
+        Some([number(words.next())?, number(words.next())?])
+    };
+    let said = String::from_utf8_lossy(&said.stdout);
+    let found: Option<_> = said.lines().map(read).collect();
+    found.ok_or_else(|| io::Error::other("a process that measured broke off"))
+}
+
+/// Measures in this process, and prints both sides of each call.
+fn round(out: &mut impl Write, captured: Vec<Measured>) -> io::Result<()> {
+    let mut tables = tables(captured);
+    let calls = tables.iter_mut().flat_map(|(_, calls)| calls);
+    measure(calls)
+        .iter()
+        .try_for_each(|[proved, second]| writeln!(out, "{proved} {second}"))
 }
 
 fn heading(out: &mut impl Write, what: &str) -> io::Result<()> {
@@ -129,8 +170,8 @@ fn heading(out: &mut impl Write, what: &str) -> io::Result<()> {
     writeln!(out)
 }
 
-fn row(out: &mut impl Write, call: &mut Measured) -> io::Result<()> {
-    let [proved, second] = measure(call);
+fn row(out: &mut impl Write, call: &Measured, found: [f64; 2]) -> io::Result<()> {
+    let [proved, second] = found;
     let ratio = proved / second;
     let aim = if ratio > 1.0 { "  over the aim" } else { "" };
     let what = format!("{} {}", call.name, call.on);
@@ -140,29 +181,36 @@ fn row(out: &mut impl Write, call: &mut Measured) -> io::Result<()> {
     )
 }
 
-/// How often each side is measured.
-const ROUNDS: usize = 40;
-/// How long one side runs in a round: short, so that some rounds of each find
-/// the machine free.
-const ROUND: Duration = Duration::from_millis(1);
+/// How often each side of each call is measured.
+const ROUNDS: usize = 20;
+/// How long one side runs in a round: short, so that on a busy machine some
+/// rounds of each side find it free.
+const ROUND: Duration = Duration::from_micros(400);
 
-/// The least of both sides, in nanoseconds for one call.
-fn measure(call: &mut Measured) -> [f64; 2] {
-    let times = [&mut call.proved, &mut call.second].map(|side| times_in_a_round(side));
-    let mut least = [f64::INFINITY; 2];
+/// The least of both sides of each call, in nanoseconds for one call. All calls
+/// have a round before the next round starts, so that each is measured over
+/// the whole time.
+fn measure<'a>(calls: impl Iterator<Item = &'a mut Measured>) -> Vec<[f64; 2]> {
+    let mut sides: Vec<_> = calls
+        .map(|call| {
+            let sides = [&mut call.proved, &mut call.second];
+            sides.map(|run| {
+                let times = times_in_a_round(run);
+                (run, times, f64::INFINITY)
+            })
+        })
+        .collect();
     for round in 0..ROUNDS {
-        for turn in 0..2 {
-            // Neither side always goes first.
-            let side = (round + turn) % 2;
-            let run = if side == 0 {
-                &mut call.proved
-            } else {
-                &mut call.second
-            };
-            least[side] = least[side].min(nanoseconds(run, times[side]));
+        for sides in &mut sides {
+            for turn in 0..2 {
+                // Neither side always goes first.
+                let (run, times, least) = &mut sides[(round + turn) % 2];
+                *least = least.min(nanoseconds(run, *times));
+            }
         }
     }
-    least
+    let least = |sides: [_; 2]| sides.map(|(_, _, least)| least);
+    sides.into_iter().map(least).collect()
 }
 
 fn nanoseconds(run: &mut dyn FnMut(u64), times: u64) -> f64 {
