@@ -4,8 +4,8 @@
 # is refused, with what is wrong with it.
 #
 # What the forms rest on: a pointer in memory lies in a place of 8 bytes, of which 4 are then used, so a place that is made for a
-# pointer alone is stored to and loaded from as a pointer and nothing else; memory is otherwise made as bytes; steps of an
-# address are counted in bytes; and no pointer becomes a number.
+# pointer alone is stored to and loaded from as a pointer and nothing else, and no address is that of a pointer here and of a
+# number there; memory is otherwise made as bytes; steps of an address are counted in bytes; and no pointer becomes a number.
 
 function refuse(what) {
     printf "the module can't be turned: %s, at its line %d: %s\n", what, NR, $0 >"/dev/stderr"
@@ -41,7 +41,10 @@ BEGIN {
     form[++forms] = "^(source_filename = \".*\"|![0-9]+ = !\\{(!\".*\"|i8 [0-9]+, i8 [0-9]+)?\\}|!llvm\\.ident = .*)$"
 }
 
-/^define/ { split("", pointer) }
+/^define/ {
+    split("", pointer)
+    split("", holds)
+}
 / = alloca ptr,/ { pointer[$1] = 1 }
 
 /ptrtoint|inttoptr|ptrtoaddr/ { refuse("a pointer that becomes a number, or a number that becomes a pointer") }
@@ -86,6 +89,12 @@ BEGIN {
     while (match(rest, /%[A-Za-z0-9_.]+/)) {
         if (substr(rest, RSTART, RLENGTH) in pointer) refuse("the place of a pointer that is used as something else")
         rest = substr(rest, RSTART + RLENGTH)
+    }
+    if (/^  (%[^ ]+ = load|store) / && match($0, /, ptr %[A-Za-z0-9_.]+/)) {
+        address = substr($0, RSTART + 6, RLENGTH - 6)
+        what = / = load ptr,|^  store ptr / ? "a pointer" : "a number"
+        if (address in holds && holds[address] != what) refuse("an address of a pointer and of a number")
+        holds[address] = what
     }
     print
 }

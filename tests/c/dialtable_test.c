@@ -410,12 +410,16 @@ static void writes_negotiate(void)
     CHECK(untouched(out, sizeof out));
 }
 
-/* A message of 65,535 bytes is written, and one more is refused. */
+/* A message of 65,535 bytes is written and read, and one more is refused. */
 static void writes_the_longest_negotiate(void)
 {
     static uint8_t name[65496], out[65536];
+    uint64_t numbers[DIALTABLE_NEGOTIATE_NUMBERS];
 
     EQUAL(dialtable_write_negotiate(out, sizeof out, 2, version, name, 65495, NULL, 0), 65535);
+    EQUAL(dialtable_read_negotiate(out, 65535, numbers, DIALTABLE_NEGOTIATE_NUMBERS), 0);
+    EQUAL(numbers[DIALTABLE_NEGOTIATE_DOMAIN_LEN], 65495);
+    CHECK(refused(dialtable_read_negotiate(out, 65536, numbers, DIALTABLE_NEGOTIATE_NUMBERS), 1, 0));
     EQUAL(dialtable_write_negotiate(out, sizeof out, 2, version, name, 65494, name, 1), 65535);
     memset(out, FILL, sizeof out);
     CHECK(refused(dialtable_write_negotiate(out, sizeof out, 2, version, name, 65496, NULL, 0), 30, 0));

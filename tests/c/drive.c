@@ -24,7 +24,8 @@ static uint32_t draw_32(void)
     return high << 16 | draw(65536);
 }
 
-/* What is lent: an output, numbers, and the bytes of a MIC or of a server challenge, filled before each call. */
+/* What is lent to be written: an output, numbers, and the bytes of a MIC or of a server challenge, filled before each
+ * call. */
 static uint8_t out[1024], bytes[24];
 static uint64_t numbers[16];
 static uint64_t all = 1469598103934665603u;
@@ -178,6 +179,8 @@ int main(void)
         prints(room);
         writes(room);
         answers(room, places);
+        mix(msg, sizeof msg);
+        mix(mic, sizeof mic);
     }
     printf("%08lX%08lX, refused", (unsigned long)(all >> 32), (unsigned long)(all & 0xFFFFFFFFu));
     for (i = 0; i < 256; i++)
