@@ -273,13 +273,19 @@ uint64_t dialtable_write_authenticate(uint8_t *out, dialtable_len out_len, uint3
                                       dialtable_len nt_len, const uint8_t *domain, dialtable_len domain_len,
                                       const uint8_t *user, dialtable_len user_len, const uint8_t *workstation,
                                       dialtable_len workstation_len, const uint8_t *key, dialtable_len key_len);
-/* Room: 40 bytes and those of both names. A name that isn't empty sets its bit in the flags written (domain 0x1000,
- * workstation 0x2000) and an empty one clears it; other bits are written as they are. Version as above. */
+/* Room: 40 bytes and those of both names. A name that isn't empty sets its bit in the flags written
+ * (DOMAIN_SUPPLIED, WORKSTATION_SUPPLIED) and an empty one clears it; other bits are written as they are. Version as
+ * above. */
 uint64_t dialtable_write_negotiate(uint8_t *out, dialtable_len out_len, uint32_t flags, const uint8_t version[8],
                                    const uint8_t *domain, dialtable_len domain_len, const uint8_t *workstation,
                                    dialtable_len workstation_len);
-/* Strings of bits A to E (1, 2, 4, 8, 16); bits above are dropped, and a clear bit's string is passed over. Room: 8
- * bytes and, for each string written, its own and one more. */
+/* Strings of the bits below; bits above are dropped, and a clear bit's string is passed over. Room: 8 bytes and, for each
+ * string written, its own and one more. */
+#define DIALTABLE_NL_AUTH_BIT_A 0x1u
+#define DIALTABLE_NL_AUTH_BIT_B 0x2u
+#define DIALTABLE_NL_AUTH_BIT_C 0x4u
+#define DIALTABLE_NL_AUTH_BIT_D 0x8u
+#define DIALTABLE_NL_AUTH_BIT_E 0x10u
 uint64_t dialtable_write_nl_auth_request(uint8_t *out, dialtable_len out_len, uint32_t flags, const uint8_t *a,
                                          dialtable_len a_len, const uint8_t *b, dialtable_len b_len, const uint8_t *c,
                                          dialtable_len c_len, const uint8_t *d, dialtable_len d_len, const uint8_t *e,
@@ -288,10 +294,10 @@ uint64_t dialtable_write_nl_auth_response(uint8_t *out, dialtable_len out_len);
 
 /* ---- Answering a CHALLENGE. Settings are a sum of these bits; other bits are ignored. */
 
-#define DIALTABLE_DEMAND_128 1u /* refuse (20) a challenge without 128-bit */
-#define DIALTABLE_NTLMV2 2u
-#define DIALTABLE_INTEGRITY 4u
-#define DIALTABLE_CONFIDENTIALITY 8u
+#define DIALTABLE_DEMAND_128 1u      /* refuse (20) a challenge without 128-bit */
+#define DIALTABLE_NTLMV2 2u          /* a timestamp in the challenge is the Time, and the LM response then zeros */
+#define DIALTABLE_INTEGRITY 4u       /* with NTLMV2: refuse (21) a challenge that has not both pairs 1 and 2 */
+#define DIALTABLE_CONFIDENTIALITY 8u /* the same */
 #define DIALTABLE_DEFAULTS DIALTABLE_NTLMV2
 
 enum {
@@ -300,7 +306,8 @@ enum {
     DIALTABLE_DECISION_TIMESTAMP,       /* 0 where there is none */
     DIALTABLE_DECISION_NUMBERS
 };
-/* Reading, 20, 21. Answers 0. */
+/* Reading, 20, 21. The Time for the response is the timestamp where one is there and NTLMV2 is set, else the box's clock.
+ * Answers 0. */
 uint64_t dialtable_decide(uint32_t settings, const uint8_t *challenge, dialtable_len challenge_len, uint64_t *numbers,
                           dialtable_len numbers_len);
 

@@ -590,7 +590,7 @@ static void takes_numbers_in_wide_registers(const message_t *p1, const message_t
     CHECK(refused(open_wide(out, sizeof out, above, NULL, 0), 5, 0));
 }
 
-/* The names of refusals and flags have the numbers of document 01. */
+/* The names of refusals, flags, pair ids and NL_AUTH's bits have the numbers of document 01. */
 static void names_numbers(void)
 {
     static const uint32_t named[] = {
@@ -604,10 +604,15 @@ static void names_numbers(void)
         DIALTABLE_REFUSED_WRONG_KEY, DIALTABLE_REFUSED_NO_ROOM, DIALTABLE_REFUSED_ZERO_IN_STRING,
         DIALTABLE_FLAG_UNICODE, DIALTABLE_FLAG_OEM, DIALTABLE_FLAG_REQUEST_TARGET, DIALTABLE_FLAG_SIGN,
         DIALTABLE_FLAG_SEAL, DIALTABLE_FLAG_DOMAIN_SUPPLIED, DIALTABLE_FLAG_WORKSTATION_SUPPLIED,
-        DIALTABLE_FLAG_TARGET_INFO, DIALTABLE_FLAG_VERSION, DIALTABLE_FLAG_128, DIALTABLE_FLAG_KEY_EXCH};
+        DIALTABLE_FLAG_TARGET_INFO, DIALTABLE_FLAG_VERSION, DIALTABLE_FLAG_128, DIALTABLE_FLAG_KEY_EXCH,
+        DIALTABLE_PAIR_NB_COMPUTER, DIALTABLE_PAIR_NB_DOMAIN, DIALTABLE_PAIR_DNS_COMPUTER, DIALTABLE_PAIR_DNS_DOMAIN,
+        DIALTABLE_PAIR_DNS_TREE, DIALTABLE_PAIR_FLAGS, DIALTABLE_PAIR_TIMESTAMP, DIALTABLE_PAIR_SINGLE_HOST,
+        DIALTABLE_PAIR_TARGET_NAME, DIALTABLE_PAIR_CHANNEL_BINDINGS, DIALTABLE_NL_AUTH_BIT_A, DIALTABLE_NL_AUTH_BIT_B,
+        DIALTABLE_NL_AUTH_BIT_C, DIALTABLE_NL_AUTH_BIT_D, DIALTABLE_NL_AUTH_BIT_E};
     static const uint32_t expected[] = {
         1, 2, 3, 4, 5, 6, 7, 8, 9, 10, 11, 12, 13, 14, 15, 16, 17, 20, 21, 30, 31, 32, 33, 34,
-        0x1, 0x2, 0x4, 0x10, 0x20, 0x1000, 0x2000, 0x800000, 0x2000000, 0x20000000, 0x40000000};
+        0x1, 0x2, 0x4, 0x10, 0x20, 0x1000, 0x2000, 0x800000, 0x2000000, 0x20000000, 0x40000000,
+        1, 2, 3, 4, 5, 6, 7, 8, 9, 10, 0x1, 0x2, 0x4, 0x8, 0x10};
     unsigned i;
 
     EQUAL(sizeof named, sizeof expected);
