@@ -252,8 +252,8 @@ uint64_t dialtable_next_pair(const uint8_t *list, dialtable_len list_len, dialta
                              dialtable_len numbers_len);
 
 /* ---- Log lines, each with its 0A at the end. A refused message has a line too. Answers the line's length, or 33.
- * Room: 128 bytes, and four for each byte of the names, always suffice. mic=1 tells that bytes 72 to 87 are a MIC's, and
- * not what they are: it is shown for sixteen zeros too. */
+ * Room: 128 bytes, and four for each byte of the names, always suffice. mic=1 tells that bytes 72 to 87 are a MIC's,
+ * and not what they are: it is shown for sixteen zeros too. */
 
 uint64_t dialtable_authenticate_line(const uint8_t *msg, dialtable_len msg_len, uint8_t *out, dialtable_len out_len);
 uint64_t dialtable_challenge_line(const uint8_t *msg, dialtable_len msg_len, uint8_t *out, dialtable_len out_len);
@@ -279,8 +279,8 @@ uint64_t dialtable_write_authenticate(uint8_t *out, dialtable_len out_len, uint3
 uint64_t dialtable_write_negotiate(uint8_t *out, dialtable_len out_len, uint32_t flags, const uint8_t version[8],
                                    const uint8_t *domain, dialtable_len domain_len, const uint8_t *workstation,
                                    dialtable_len workstation_len);
-/* Strings of the bits below; bits above are dropped, and a clear bit's string is passed over. Room: 8 bytes and, for each
- * string written, its own and one more. */
+/* Strings of the bits below; bits above are dropped, and a clear bit's string is passed over. Room: 8 bytes and, for
+ * each string written, its own and one more. */
 #define DIALTABLE_NL_AUTH_BIT_A 0x1u
 #define DIALTABLE_NL_AUTH_BIT_B 0x2u
 #define DIALTABLE_NL_AUTH_BIT_C 0x4u
@@ -306,8 +306,8 @@ enum {
     DIALTABLE_DECISION_TIMESTAMP,       /* 0 where there is none */
     DIALTABLE_DECISION_NUMBERS
 };
-/* Reading, 20, 21. The Time for the response is the timestamp where one is there and NTLMV2 is set, else the box's clock.
- * Answers 0. */
+/* Reading, 20, 21. The Time for the response is the timestamp where one is there and NTLMV2 is set, else the box's
+ * clock. Answers 0. */
 uint64_t dialtable_decide(uint32_t settings, const uint8_t *challenge, dialtable_len challenge_len, uint64_t *numbers,
                           dialtable_len numbers_len);
 

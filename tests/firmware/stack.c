@@ -65,8 +65,8 @@ static void measure(const uint8_t *msg, dialtable_len len)
     STACK(write_nl_auth_response, out, sizeof out);
     STACK(decide, DIALTABLE_DEFAULTS | DIALTABLE_INTEGRITY, msg, len, numbers, 16);
     STACK(domain_to_send, NULL, 0, msg, len, out, sizeof out);
-    STACK(respond, out, sizeof out, msg, len, DIALTABLE_DEFAULTS, 5, zeros, zeros, zeros, 24, zeros, 24, NAMES, zeros, 16,
-          numbers, 16);
+    STACK(respond, out, sizeof out, msg, len, DIALTABLE_DEFAULTS, 5, zeros, zeros, zeros, 24, zeros, 24, NAMES, zeros,
+          16, numbers, 16);
 #define THIN out, sizeof out, msg, len, 5, zeros, zeros, zeros, 24, zeros, 24, NAMES, zeros, 16, numbers, 16
     STACK(respond_for_bench, THIN);
     STACK(respond_to_old_server, THIN);
