@@ -133,7 +133,7 @@ fn time(out: &mut impl Write, folder: &str, captured: Vec<Measured>) -> io::Resu
 }
 
 /// How many processes measure. Where a process has its memory can make one side
-/// half as slow again, in all its rounds.
+/// take half as long again, in all its rounds.
 const PROCESSES: usize = 8;
 
 /// What another process of this program measured.
