@@ -1,7 +1,8 @@
 // TargetInfo (MS-NLMP 2.2.2.1): a list of AvPairs, each an id, a length and a value, up to the end pair.
 ghost use mathlib.Core.Path.{_≡_};
-ghost use Prim.Native.Nat.{_+_, _<_, _^_};
-ghost use Rattle.av_pairs.specs.AvPairs.{left, pairThere, endPairHolds, valueInside, sizeHolds, pairOf, stepAt, askAt, countPairs, checkPairs, pairAt, isThere};
+ghost use Prim.Native.Nat.{_+_, _≤_, _<_, _^_};
+ghost use lib.ListN.{length};
+ghost use Rattle.av_pairs.specs.AvPairs.{left, pairThere, endPairHolds, valueInside, sizeHolds, pairOf, stepAt, askAt, countPairs, checkPairs, pairAt, valueIn, isThere};
 use av_id::AvId;
 use wire::check::Checked;
 use wire::check::Verdict;
@@ -184,6 +185,18 @@ pub fn pair_at(list: &[u8], at: usize) -> Found
         Step::Pair(p) => Found::At(p),
         Step::End => Found::Nothing,
         Step::Refused(_) => Found::Nothing,
+    }
+}
+
+impl AvPair {
+    // The value, as a part of the pair's list.
+    pub fn value(self, list: &[u8]) -> &[u8]
+        requires { ⌜ self .at + self .len ≤ length (now list) ⌝ }
+        ensures { λ r. ⌜ now r ≡ valueIn (now (list .entry)) self ⌝ }
+    {
+        let at = self.at;
+        let end = at + self.len as usize;
+        &list[at..end]
     }
 }
 
