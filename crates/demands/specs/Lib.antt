@@ -22,3 +22,4 @@ pub mod Answering
 pub mod FieldCopied
 pub mod FromC
 pub mod Answers
+pub mod ResponsePairs
