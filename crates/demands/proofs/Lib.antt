@@ -54,3 +54,4 @@ pub mod SmallFields
 pub mod LineShort
 pub mod Answers
 pub mod PairsBack
+pub mod ResponsePairs
