@@ -358,6 +358,20 @@ response-pairs-written room s b name bind mark size sixteen info sized = go (rea
 
 -- ---- what it keeps, and what changes nothing
 
+-- what is written has at most 65,535 bytes
+pub response-pairs-short : (room : ℕ) (s name : List ℕ) (mark : Bool) (bind : List ℕ) (n : ℕ) → writeAnswer room s name mark bind ≡ Length n → n ≤ 65535
+unfolding writeAnswer listAnswer
+response-pairs-short room s name mark bind n h = go (readingOf s) h where
+  by : (v : Verdict) (l : List ℕ) → (v ≡ Clear → length l ≤ 65535) → answered v l ≡ Length n → n ≤ 65535
+  by Clear l short p = let m : n ≡ length l = cc in rw m (short refl)
+  by (Not e) l short p = absurd (let z : _≡_ {A = ℕ} 0 1 = cc in omega arith)
+
+  go : (r : Reading) → onTaken Refused r (λ c. answered (checkList room name (length (listFor (infoOf s c) name mark bind))) (listFor (infoOf s c) name mark bind)) ≡ Length n → n ≤ 65535
+  go (Taken c) p =
+      let l = listFor (infoOf s c) name mark bind in
+      by (checkList room name (length l)) l (λ y. sound room name (length l) y .short) p
+  go (Unread e) p = absurd (let z : _≡_ {A = ℕ} 0 1 = cc in omega arith)
+
 pub response-pairs-kept : ResponsePairsKept
 unfolding writeAnswer writeOut listAnswer listOut
 response-pairs-kept out s name bind mark = go (readingOf s) where

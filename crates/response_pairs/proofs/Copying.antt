@@ -1,5 +1,5 @@
 -- Laws of the walk that finds a list's size and of the one that copies its pairs.
-use Prim.Native.Nat.{ℕ, _+_, _-_, _≤_}
+use Prim.Native.Nat.{ℕ, _+_, _-_, _≤_, min}
 use mathlib.Core.Path.{_≡_, refl, sym, ap, _∙_}
 use mathlib.Core.Bool.{Bool, true, false, _||_, _&&_, not, cond}
 use mathlib.Core.List.{List, [], _∷_, _++_, append-nil, append-assoc}
@@ -17,7 +17,6 @@ use Rattle.av_pairs.specs.declared.Found.the-variants.{At, Nothing}
 use Rattle.av_pairs.specs.AvPairs.{endOf, pairAt, Valued, valueIn, valuesOf}
 use Rattle.av_pairs.proofs.Walks.{valuesAt, gave-there, there-inside, more-values, no-values, values-start, value-long}
 use Rattle.place.specs.Place.{Wrote, le16, le32}
-use Rattle.place.specs.Written.{counted}
 use Rattle.place.proofs.Laws.{and-then, nothing, kept as same-length}
 use Rattle.place.proofs.Numbers.{length-le32}
 use Rattle.wire.specs.Number.{u32At}
@@ -28,13 +27,13 @@ use Rattle.response_pairs.proofs.Fits.{four, length-pair, bytes-append}
 -- ---- the walk for the size: what was seen, and what is left
 
 pub record Seeing (s : List ℕ) (at n : ℕ) (t f : Bool) : Type 0 where
-  pub size : counted (n + length (bytesOf (kept (valuesAt s at)))) ≡ counted (length (bytesOf (kept (valuesOf s))))
+  pub size : min 65536 (n + length (bytesOf (kept (valuesAt s at)))) ≡ min 65536 (length (bytesOf (kept (valuesOf s))))
   pub few : n ≤ 65536
   pub timestamp : t || hasPair isTimestamp (valuesAt s at) ≡ hasPair isTimestamp (valuesOf s)
   pub flags : f || hasPair isFlags (valuesAt s at) ≡ hasPair isFlags (valuesOf s)
 
 pub see-none : (s : List ℕ) → Seeing s 0 0 false false
-see-none s = record { size = simp (values-start s) (ap counted (zero-add _)); few = omega arith; timestamp = simp (values-start s); flags = simp (values-start s) }
+see-none s = record { size = simp (values-start s) (ap (λ (n : ℕ). min 65536 n) (zero-add _)); few = omega arith; timestamp = simp (values-start s); flags = simp (values-start s) }
 
 or-assoc : (a b c : Bool) → (a || b) || c ≡ a || (b || c)
 or-assoc true b c = refl
@@ -57,7 +56,7 @@ module _ (s : List ℕ) (at n : ℕ) (t f : Bool) (w : Seeing s at n t f) where
   see-few = w .few
 
   module _ (r : Found) (e : r ≡ pairAt s at) where
-    pub see-one : (p : AvPair) (z m : ℕ) (a b : Bool) → r ≡ At p → z ≡ cond (leftOut (p .id)) 0 (4 + p .len) → m ≡ counted (n + z) →
+    pub see-one : (p : AvPair) (z m : ℕ) (a b : Bool) → r ≡ At p → z ≡ cond (leftOut (p .id)) 0 (4 + p .len) → m ≡ min 65536 (n + z) →
         a ≡ isTimestamp (p .id) → b ≡ isFlags (p .id) → Seeing s (p .at + p .len) m (t || a) (f || b)
     see-one p z m a b h g d x y =
         let v = more-values s at r e p h in
@@ -71,7 +70,7 @@ module _ (s : List ℕ) (at n : ℕ) (t f : Bool) (w : Seeing s at n t f) where
           flags = or-assoc f b _ ∙ simp y (simp v at (w .flags));
         }
 
-    pub see-size : r ≡ Nothing → n ≡ counted (length (bytesOf (kept (valuesOf s))))
+    pub see-size : r ≡ Nothing → n ≡ min 65536 (length (bytesOf (kept (valuesOf s))))
     see-size h = let l : length (bytesOf (kept (valuesAt s at))) ≡ 0 = ap (λ (ps : List Valued). length (bytesOf (kept ps))) (no-values s at r e h) in omega (arith, l, w .size, w .few)
 
     pub see-timestamp : r ≡ Nothing → t ≡ hasPair isTimestamp (valuesOf s)

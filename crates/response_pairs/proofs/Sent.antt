@@ -1,7 +1,8 @@
 -- Laws of the added pairs, of the list's size and of the whole writing.
-use Prim.Native.Nat.{ℕ, _+_, _%_, _≤_}
+use Prim.Native.Nat.{ℕ, _+_, _%_, _≤_, min}
 use mathlib.Core.Path.{_≡_, refl, sym, ap, _∙_}
 use mathlib.Core.Bool.{Bool, true, false, _&&_, not, cond}
+use mathlib.Core.Logic.{_⊎_}
 use mathlib.Core.List.{List, [], _∷_, _++_, append-nil, append-assoc}
 use native.Mathlib.Omega.{arith}
 use borrow.Author.Tests.{eqb-true, eqb-false, eq-eqb, ne-eqb, leb-true, leb-false, lt-leb}
@@ -13,11 +14,12 @@ use Rattle.challenge.specs.declared.Answer.{Answer}
 use Rattle.challenge.specs.declared.Challenge.{Challenge}
 use Rattle.challenge.specs.declared.Reading.{Reading}
 use Rattle.challenge.specs.declared.Reading.the-variants.{Taken, Refused as Unread}
-use Rattle.challenge.specs.Challenge.{readingOf, readChallenge, readingRefusal, infoOf}
+use Rattle.challenge.specs.Challenge.{readingOf, readChallenge, infoOf}
+use Rattle.challenge.proofs.Laws.{reading-told}
 use Rattle.place.specs.declared.written.Written.{Written}
 use Rattle.place.specs.declared.written.Written.the-variants.{Length, Refused}
 use Rattle.place.specs.Place.{Wrote, le16, le32}
-use Rattle.place.specs.Written.{counted, answered, outAfter}
+use Rattle.place.specs.Written.{answered, outAfter}
 use Rattle.place.proofs.Laws.{and-then, nothing, kept as same-length}
 use Rattle.place.proofs.Numbers.{length-le32}
 use Rattle.place.proofs.Writings.{written, stored, refused, untouched}
@@ -25,7 +27,7 @@ use Rattle.wire.specs.declared.check.Verdict.{Verdict}
 use Rattle.wire.specs.declared.check.Verdict.the-variants.{Clear, Refused as Not}
 use Rattle.wire.specs.declared.refusal.Refusal.{Refusal}
 use Rattle.wire.specs.declared.refusal.Refusal.the-variants.{TooLongToWrite, OddNameToWrite, NoRoom}
-use Rattle.wire.specs.Check.{checked, after, refusalOf}
+use Rattle.wire.specs.Check.{checked, after}
 use Rattle.wire.proofs.Laws.{after-clear}
 use Rattle.response_pairs.specs.ResponsePairs.{pairWith, hasPair, isNone, kept, dueBits, bitsDue, withBits, addsFlags, addedPairs, pairsBack, pairsFor, pairBytes, bytesOf, listBytes, listWith, listFor, checkList, listAnswer, listOut, writeAnswer, writeOut}
 use Rattle.response_pairs.proofs.Fits.{values-fit, kept-fit, length-pair, bytes-append, bits-size}
@@ -111,11 +113,11 @@ module _ (adds : Bool) (bits : ℕ) where
 
 -- ---- the size
 
-pub size-empty : (m n size : ℕ) → m ≡ 0 → 4 ≡ counted (cond (eqb m 0) 4 size)
+pub size-empty : (m n size : ℕ) → m ≡ 0 → 4 ≡ min 65536 (cond (eqb m 0) 4 size)
 size-empty m n size h = simp (eq-eqb m 0 h)
 
-pub size-whole : (h size f m k r name bind : ℕ) (adds : Bool) → (h ≡ 0 → ⊥) → f ≡ cond adds 8 0 → m ≡ counted (size + (f + 12)) →
-    k ≡ counted (m + name) → r ≡ counted (k + bind) → r ≡ counted (cond (eqb h 0) 4 (size + (cond adds 8 0 + (12 + (name + bind)))))
+pub size-whole : (h size f m k r name bind : ℕ) (adds : Bool) → (h ≡ 0 → ⊥) → f ≡ cond adds 8 0 → m ≡ min 65536 (size + (f + 12)) →
+    k ≡ min 65536 (m + name) → r ≡ min 65536 (k + bind) → r ≡ min 65536 (cond (eqb h 0) 4 (size + (cond adds 8 0 + (12 + (name + bind)))))
 size-whole h size f m k r name bind adds n a b c d = simp (ne-eqb h 0 n) (omega (arith, a, b, c, d))
 
 module _ (bits : ℕ) (info name bind : List ℕ) where
@@ -145,11 +147,11 @@ module _ (bits : ℕ) (info name bind : List ℕ) where
         ap length (list-parts (eqb-false (length info) 0 e)) ∙ simp (length-append, kept-size, length-added adding bits name bind)
 
   -- as it is counted
-  pub size-counted : (size n : ℕ) (adds : Bool) → adds ≡ adding → size ≡ counted (length (bytesOf (kept (valuesOf info)))) →
-      n ≡ counted (cond (isNone info) 4 (size + (cond adds 8 0 + (12 + (length name + length bind))))) → n ≡ counted (length (listWith bits info name bind))
+  pub size-counted : (size n : ℕ) (adds : Bool) → adds ≡ adding → size ≡ min 65536 (length (bytesOf (kept (valuesOf info)))) →
+      n ≡ min 65536 (cond (isNone info) 4 (size + (cond adds 8 0 + (12 + (length name + length bind))))) → n ≡ min 65536 (length (listWith bits info name bind))
   size-counted size n adds a e h = h ∙ go (isNone info) refl where
     go : (b : Bool) → isNone info ≡ b →
-        counted (cond b 4 (size + (cond adds 8 0 + (12 + (length name + length bind))))) ≡ counted (length (listWith bits info name bind))
+        min 65536 (cond b 4 (size + (cond adds 8 0 + (12 + (length name + length bind))))) ≡ min 65536 (length (listWith bits info name bind))
     go true y = simp (list-size, y)
     go false y = simp (list-size, y, a) (omega (arith, e))
 
@@ -191,7 +193,7 @@ module _ (bits : ℕ) (info name bind : List ℕ) where
 -- ---- the checks
 
 -- they come out the same for a size as it is counted
-same-checks : (room size n : ℕ) (name : List ℕ) → n ≡ counted size → checkList room name n ≡ checkList room name size
+same-checks : (room size n : ℕ) (name : List ℕ) → n ≡ min 65536 size → checkList room name n ≡ checkList room name size
 unfolding checkList
 same-checks room size n name e = go (leb size 65535) refl where
   go : (b : Bool) → leb size 65535 ≡ b → checkList room name n ≡ checkList room name size
@@ -214,7 +216,7 @@ module _ (room size : ℕ) (name : List ℕ) (r : Verdict) (e : r ≡ checkList 
 
 -- ---- the list for TargetInfo's bytes
 
-pub seen-few : (size n : ℕ) → size ≡ counted n → size ≤ 65536
+pub seen-few : (size n : ℕ) → size ≡ min 65536 n → size ≤ 65536
 seen-few size n e = omega (arith, e)
 
 -- what was seen in a list tells what goes back for it
@@ -227,12 +229,12 @@ module _ (info : List ℕ) where
   pub adds-are : (bits : ℕ) (f : Bool) → f ≡ hasPair isFlags (valuesOf info) → (not (eqb bits 0) && not f) ≡ addsFlags bits (valuesOf info)
   adds-are bits f e = rw e
 
-  pub size-are : (bits size n : ℕ) (name bind : List ℕ) (f : Bool) → f ≡ hasPair isFlags (valuesOf info) → size ≡ counted (length (bytesOf (kept (valuesOf info)))) →
-      n ≡ counted (cond (eqb (length info) 0) 4 (size + (cond (not (eqb bits 0) && not f) 8 0 + (12 + (length name + length bind))))) →
-      n ≡ counted (length (listWith bits info name bind))
+  pub size-are : (bits size n : ℕ) (name bind : List ℕ) (f : Bool) → f ≡ hasPair isFlags (valuesOf info) → size ≡ min 65536 (length (bytesOf (kept (valuesOf info)))) →
+      n ≡ min 65536 (cond (eqb (length info) 0) 4 (size + (cond (not (eqb bits 0) && not f) 8 0 + (12 + (length name + length bind))))) →
+      n ≡ min 65536 (length (listWith bits info name bind))
   size-are bits size n name bind f e z g = size-counted bits info name bind size n _ (adds-are bits f e) z g
 
-module _ (bits : ℕ) (info name bind : List ℕ) (n : ℕ) (g : n ≡ counted (length (listWith bits info name bind)))
+module _ (bits : ℕ) (info name bind : List ℕ) (n : ℕ) (g : n ≡ min 65536 (length (listWith bits info name bind)))
     (room : ℕ) (r : Verdict) (e : r ≡ checkList room name n) where
   check-is : r ≡ checkList room name (length (listWith bits info name bind))
   check-is = e ∙ same-checks room (length (listWith bits info name bind)) n name g
@@ -245,7 +247,7 @@ module _ (bits : ℕ) (info name bind : List ℕ) (n : ℕ) (g : n ≡ counted (
     list-room = within-room room _ name r check-is h
 
 module _ (bits : ℕ) (info name bind : List ℕ) (unverified : Bool) (d : bits ≡ bitsDue info name unverified)
-    (n : ℕ) (g : n ≡ counted (length (listWith bits info name bind))) (out : List ℕ) (r : Verdict) (e : r ≡ checkList (length out) name n) where
+    (n : ℕ) (g : n ≡ min 65536 (length (listWith bits info name bind))) (out : List ℕ) (r : Verdict) (e : r ≡ checkList (length out) name n) where
   list-is : listFor info name unverified bind ≡ listWith bits info name bind
   unfolding listFor
   list-is = ap (λ (b : ℕ). listWith b info name bind) (sym d)
@@ -253,7 +255,7 @@ module _ (bits : ℕ) (info name bind : List ℕ) (unverified : Bool) (d : bits 
   check-for : r ≡ checkList (length out) name (length (listFor info name unverified bind))
   check-for = rw list-is (check-is bits info name bind n g (length out) r e)
 
-  pub list-refused : (p q : Refusal) → r ≡ Not p → q ≡ refusalOf r → Refused q ≡ listAnswer (length out) info name unverified bind
+  pub list-refused : (p q : Refusal) → r ≡ Not p → (r ≡ Not q) ⊎ (r ≡ Clear) → Refused q ≡ listAnswer (length out) info name unverified bind
   unfolding listAnswer
   list-refused p q h w = refused _ r p check-for h _ q w
 
@@ -281,9 +283,9 @@ module _ (s name bind : List ℕ) (unverified : Bool) (a : Answer) (e : a ≡ re
   reads = ap (λ (x : Answer). x .reading) (sym e)
 
   module _ (f : Refusal) (h : a .reading ≡ Unread f) where
-    pub reading-refused : (room : ℕ) (g : Refusal) → g ≡ readingRefusal (a .reading) → Refused g ≡ writeAnswer room s name unverified bind
+    pub reading-refused : (room : ℕ) (g : Refusal) → (a .reading ≡ Unread g) ⊎ ((c : Challenge) × (a .reading ≡ Taken c)) → Refused g ≡ writeAnswer room s name unverified bind
     unfolding writeAnswer
-    reading-refused room g q = simp (reads, q, h)
+    reading-refused room g q = simp (reads, reading-told (a .reading) f g h q)
 
     pub reading-untouched : (out : List ℕ) → out ≡ writeOut out s name unverified bind
     unfolding writeOut

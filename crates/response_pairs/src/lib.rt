@@ -2,13 +2,12 @@
 ghost use mathlib.Core.Path.{_≡_};
 ghost use mathlib.Core.Bool.{true, _&&_, not, cond};
 ghost use mathlib.Core.List.{[], _∷_};
-ghost use Prim.Native.Nat.{_+_, _≤_};
+ghost use Prim.Native.Nat.{_+_, _≤_, min};
 ghost use lib.Dec.{eqb};
 ghost use lib.ListN.{length};
 ghost use Rattle.av_id.specs.AvId.{isFlags, isTimestamp};
 ghost use Rattle.av_pairs.specs.AvPairs.{valueIn, valuesOf};
 ghost use Rattle.place.specs.Place.{Wrote, le32};
-ghost use Rattle.place.specs.Written.{counted};
 ghost use Rattle.response_pairs.specs.ResponsePairs.{pairWith, hasPair, leftOut, kept, dueBits, bitsDue, withBits, addsFlags, addedPairs, pairBytes, bytesOf, listBytes, listWith, checkList, listAnswer, listOut, writeAnswer, writeOut};
 use av_id::AvId;
 use av_pairs::AvPair;
@@ -61,7 +60,7 @@ fn kept_size(id: AvId, len: u16) -> usize
 
 // Goes over a list once.
 fn look_over(list: &[u8]) -> Seen
-    ensures size { λ r. ⌜ r .size ≡ counted (length (bytesOf (kept (valuesOf (now (list .entry)))))) ⌝ }
+    ensures size { λ r. ⌜ r .size ≡ min 65536 (length (bytesOf (kept (valuesOf (now (list .entry)))))) ⌝ }
     ensures timestamp { λ r. ⌜ r .timestamp ≡ hasPair isTimestamp (valuesOf (now (list .entry))) ⌝ }
     ensures flags { λ r. ⌜ r .flags ≡ hasPair isFlags (valuesOf (now (list .entry))) ⌝ }
 {
@@ -227,7 +226,7 @@ fn flags_size(adds: bool) -> usize
 // pair is added.
 fn list_size(list: &[u8], size: usize, adds: bool, name: &[u8], bindings: &[u8]) -> usize
     requires { ⌜ size ≤ 65536 ⌝ }
-    ensures { λ r. ⌜ r ≡ counted (cond (eqb (length (now (list .entry))) 0) 4 (size + (cond adds 8 0 + (12 + (length (now (name .entry)) + length (now (bindings .entry))))))) ⌝ }
+    ensures { λ r. ⌜ r ≡ min 65536 (cond (eqb (length (now (list .entry))) 0) 4 (size + (cond adds 8 0 + (12 + (length (now (name .entry)) + length (now (bindings .entry))))))) ⌝ }
 {
     if list.len() == 0 {
         return 4;
@@ -240,7 +239,7 @@ fn list_size(list: &[u8], size: usize, adds: bool, name: &[u8], bindings: &[u8])
 fn plan_for(list: &[u8], name: &[u8], unverified: bool, bindings: &[u8]) -> Plan
     ensures bits { λ r. ⌜ r .bits ≡ bitsDue (now (list .entry)) (now (name .entry)) unverified ⌝ }
     ensures adds { λ r. ⌜ r .adds ≡ addsFlags (r .bits) (valuesOf (now (list .entry))) ⌝ }
-    ensures size { λ r. ⌜ r .size ≡ counted (length (listWith (r .bits) (now (list .entry)) (now (name .entry)) (now (bindings .entry)))) ⌝ }
+    ensures size { λ r. ⌜ r .size ≡ min 65536 (length (listWith (r .bits) (now (list .entry)) (now (name .entry)) (now (bindings .entry)))) ⌝ }
 {
     let seen = look_over(list);
     let bits = due_bits(seen.timestamp, unverified & !(name.len() == 0));

@@ -1,0 +1,435 @@
+// The C interface: include/dialtable.h says what each call does. Each is a call of the crates below, with its answer as one
+// number.
+ghost use mathlib.Core.Path.{_≡_};
+ghost use mathlib.Core.Bool.{not};
+ghost use lib.Dec.{eqb};
+ghost use lib.ListN.{length};
+ghost use Rattle.place.specs.Written.{bytesAnswer, bytesAfter};
+ghost use Rattle.av_pairs.specs.AvPairs.{checkPairs, countPairs, askAt};
+ghost use Rattle.target_info.specs.TargetInfo.{findPair};
+ghost use Rattle.authenticate.specs.Authenticate.{readAuthenticate};
+ghost use Rattle.authenticate_writing.specs.Writing.{writeAnswer, writeOut};
+ghost use Rattle.challenge.specs.Challenge.{readChallenge, timestampOf, serverNamesOf};
+ghost use Rattle.negotiate.specs.Negotiate.{readNegotiate};
+ghost use Rattle.negotiate_writing.specs.Writing.{writeAnswer as negotiateAnswer, writeOut as negotiateOut};
+ghost use Rattle.nl_auth.specs.NlAuth.{readNlAuth};
+ghost use Rattle.nl_auth_flags.specs.Flags.{known};
+ghost use Rattle.nl_auth_writing.specs.Writing.{requestAnswer, requestOut, responseAnswer, responseOut};
+ghost use Rattle.line.specs.Line.{negotiateLine, authenticateLine, challengeLine, nlAuthLine, ntlmLine, shownLine};
+ghost use Rattle.respond.specs.Answer.{respondAnswer, respondOut};
+ghost use Rattle.respond.specs.Decision.{defaults, decisionOn};
+ghost use Rattle.respond.specs.Domain.{domainToSend};
+ghost use Rattle.response_pairs.specs.ResponsePairs.{writeAnswer as pairsAnswer, writeOut as pairsOut};
+ghost use Rattle.c_number.specs.Number.{verdictNumber, writtenNumber};
+ghost use Rattle.c_number.specs.Outcome.{callNumber, callOut, twoArrayNumber, twoArrayOut, twoArrayBytes};
+ghost use Rattle.c_reading.specs.FieldCopy.{fieldCopyAnswer, fieldCopyOut};
+ghost use Rattle.c_reading.specs.Numbers.{negotiateOutcome, authenticateOutcome, challengeOutcome, timestampOutcome, serverNamesOutcome, nlAuthOutcome};
+ghost use Rattle.c_pairs.specs.Pairs.{countOutcome, searchOutcome, askedOutcome};
+ghost use Rattle.c_respond.specs.Settings.{settingsOf};
+ghost use Rattle.c_respond.specs.Respond.{decidedOutcome, respondedNumber, respondedNumbers, respondedOut};
+use authenticate_writing::write;
+use c_number::copy;
+use c_number::line_number;
+use c_number::verdict_number;
+use c_number::written_number;
+use negotiate_flags::NegotiateFlags;
+use nl_auth_flags::NlAuthFlags;
+use nl_auth_writing::write_request;
+use nl_auth_writing::write_response;
+use respond::domain::domain_to_send;
+
+#[no_mangle]
+pub extern "C" fn dialtable_read_negotiate(msg: &[u8], numbers: &mut [u64]) -> u64
+    ensures answer { λ r. ⌜ r ≡ callNumber 5 (negotiateOutcome (readNegotiate (now (msg .entry)))) (length (now (numbers .entry))) ⌝ }
+    ensures content { λ _. ⌜ now (numbers .exit) ≡ callOut 5 (negotiateOutcome (readNegotiate (now (msg .entry)))) (now (numbers .entry)) ⌝ }
+{
+    c_reading::read_negotiate(msg, numbers)
+}
+
+#[no_mangle]
+pub extern "C" fn dialtable_read_authenticate(
+    msg: &[u8],
+    numbers: &mut [u64],
+    mic: &mut [u8],
+) -> u64
+    ensures answer { λ r. ⌜ r ≡ twoArrayNumber 14 16 (authenticateOutcome (readAuthenticate (now (msg .entry)) .reading)) (length (now (numbers .entry))) (length (now (mic .entry))) ⌝ }
+    ensures content { λ _. ⌜ now (numbers .exit) ≡ twoArrayOut 14 16 (authenticateOutcome (readAuthenticate (now (msg .entry)) .reading)) (now (numbers .entry)) (length (now (mic .entry))) ⌝ }
+    ensures beside { λ _. ⌜ now (mic .exit) ≡ twoArrayBytes 14 16 (authenticateOutcome (readAuthenticate (now (msg .entry)) .reading)) (readAuthenticate (now (msg .entry)) .mic) (length (now (numbers .entry))) (now (mic .entry)) ⌝ }
+{
+    c_reading::read_authenticate(msg, numbers, mic)
+}
+
+#[no_mangle]
+pub extern "C" fn dialtable_read_challenge(msg: &[u8], numbers: &mut [u64], out: &mut [u8]) -> u64
+    ensures answer { λ r. ⌜ r ≡ twoArrayNumber 5 8 (challengeOutcome (readChallenge (now (msg .entry)) .reading)) (length (now (numbers .entry))) (length (now (out .entry))) ⌝ }
+    ensures content { λ _. ⌜ now (numbers .exit) ≡ twoArrayOut 5 8 (challengeOutcome (readChallenge (now (msg .entry)) .reading)) (now (numbers .entry)) (length (now (out .entry))) ⌝ }
+    ensures beside { λ _. ⌜ now (out .exit) ≡ twoArrayBytes 5 8 (challengeOutcome (readChallenge (now (msg .entry)) .reading)) (readChallenge (now (msg .entry)) .«server_challenge») (length (now (numbers .entry))) (now (out .entry)) ⌝ }
+{
+    c_reading::read_challenge(msg, numbers, out)
+}
+
+#[no_mangle]
+pub extern "C" fn dialtable_read_timestamp(msg: &[u8], numbers: &mut [u64]) -> u64
+    ensures answer { λ r. ⌜ r ≡ callNumber 2 (timestampOutcome (timestampOf (now (msg .entry)))) (length (now (numbers .entry))) ⌝ }
+    ensures content { λ _. ⌜ now (numbers .exit) ≡ callOut 2 (timestampOutcome (timestampOf (now (msg .entry)))) (now (numbers .entry)) ⌝ }
+{
+    c_reading::read_timestamp(msg, numbers)
+}
+
+#[no_mangle]
+pub extern "C" fn dialtable_read_server_names(msg: &[u8], numbers: &mut [u64]) -> u64
+    ensures answer { λ r. ⌜ r ≡ callNumber 2 (serverNamesOutcome (serverNamesOf (now (msg .entry)))) (length (now (numbers .entry))) ⌝ }
+    ensures content { λ _. ⌜ now (numbers .exit) ≡ callOut 2 (serverNamesOutcome (serverNamesOf (now (msg .entry)))) (now (numbers .entry)) ⌝ }
+{
+    c_reading::read_server_names(msg, numbers)
+}
+
+#[no_mangle]
+pub extern "C" fn dialtable_read_nl_auth(msg: &[u8], numbers: &mut [u64]) -> u64
+    ensures answer { λ r. ⌜ r ≡ callNumber 12 (nlAuthOutcome (readNlAuth (now (msg .entry)))) (length (now (numbers .entry))) ⌝ }
+    ensures content { λ _. ⌜ now (numbers .exit) ≡ callOut 12 (nlAuthOutcome (readNlAuth (now (msg .entry)))) (now (numbers .entry)) ⌝ }
+{
+    c_reading::read_nl_auth(msg, numbers)
+}
+
+#[no_mangle]
+pub extern "C" fn dialtable_count_pairs(list: &[u8], numbers: &mut [u64]) -> u64
+    ensures answer { λ r. ⌜ r ≡ callNumber 1 (countOutcome (countPairs (now (list .entry)))) (length (now (numbers .entry))) ⌝ }
+    ensures content { λ _. ⌜ now (numbers .exit) ≡ callOut 1 (countOutcome (countPairs (now (list .entry)))) (now (numbers .entry)) ⌝ }
+{
+    c_pairs::count_pairs(list, numbers)
+}
+
+#[no_mangle]
+pub extern "C" fn dialtable_find_pair(list: &[u8], id: u16, numbers: &mut [u64]) -> u64
+    ensures answer { λ r. ⌜ r ≡ callNumber 3 (searchOutcome (findPair (record { id = id }) (now (list .entry)))) (length (now (numbers .entry))) ⌝ }
+    ensures content { λ _. ⌜ now (numbers .exit) ≡ callOut 3 (searchOutcome (findPair (record { id = id }) (now (list .entry)))) (now (numbers .entry)) ⌝ }
+{
+    c_pairs::find_pair(list, id, numbers)
+}
+
+#[no_mangle]
+pub extern "C" fn dialtable_next_pair(list: &[u8], at: usize, numbers: &mut [u64]) -> u64
+    ensures answer { λ r. ⌜ r ≡ callNumber 5 (askedOutcome (askAt (now (list .entry)) at)) (length (now (numbers .entry))) ⌝ }
+    ensures content { λ _. ⌜ now (numbers .exit) ≡ callOut 5 (askedOutcome (askAt (now (list .entry)) at)) (now (numbers .entry)) ⌝ }
+{
+    c_pairs::next_pair(list, at, numbers)
+}
+
+#[no_mangle]
+pub extern "C" fn dialtable_decide(settings: u32, challenge: &[u8], numbers: &mut [u64]) -> u64
+    ensures answer { λ r. ⌜ r ≡ callNumber 3 (decidedOutcome (decisionOn (settingsOf settings) (now (challenge .entry)))) (length (now (numbers .entry))) ⌝ }
+    ensures content { λ _. ⌜ now (numbers .exit) ≡ callOut 3 (decidedOutcome (decisionOn (settingsOf settings) (now (challenge .entry)))) (now (numbers .entry)) ⌝ }
+{
+    c_respond::decide(settings, challenge, numbers)
+}
+
+#[no_mangle]
+pub extern "C" fn dialtable_respond<'a>(
+    out: &mut [u8],
+    challenge: &'a [u8],
+    settings: u32,
+    clock: u64,
+    version: &[u8; 8],
+    mic: &[u8; 16],
+    lm: &[u8],
+    nt: &[u8],
+    domain: &'a [u8],
+    user: &[u8],
+    workstation: &[u8],
+    key: &[u8],
+    numbers: &mut [u64],
+) -> u64
+    ensures answer { λ r. ⌜ r ≡ respondedNumber (respondAnswer (length (now (out .entry))) (now (challenge .entry)) (settingsOf settings) clock (now (version .entry)) (now (mic .entry)) (now (lm .entry)) (now (nt .entry)) (now (domain .entry)) (now (user .entry)) (now (workstation .entry)) (now (key .entry))) (length (now (numbers .entry))) ⌝ }
+    ensures content { λ _. ⌜ now (out .exit) ≡ respondedOut (respondOut (now (out .entry)) (now (challenge .entry)) (settingsOf settings) (now (version .entry)) (now (mic .entry)) (now (lm .entry)) (now (nt .entry)) (now (domain .entry)) (now (user .entry)) (now (workstation .entry)) (now (key .entry))) (length (now (numbers .entry))) (now (out .entry)) ⌝ }
+    ensures beside { λ _. ⌜ now (numbers .exit) ≡ respondedNumbers (respondAnswer (length (now (out .entry))) (now (challenge .entry)) (settingsOf settings) clock (now (version .entry)) (now (mic .entry)) (now (lm .entry)) (now (nt .entry)) (now (domain .entry)) (now (user .entry)) (now (workstation .entry)) (now (key .entry))) (now (numbers .entry)) ⌝ }
+{
+    c_respond::respond(
+        out,
+        challenge,
+        settings,
+        clock,
+        version,
+        mic,
+        lm,
+        nt,
+        domain,
+        user,
+        workstation,
+        key,
+        numbers,
+    )
+}
+
+#[no_mangle]
+pub extern "C" fn dialtable_respond_for_bench<'a>(
+    out: &mut [u8],
+    challenge: &'a [u8],
+    clock: u64,
+    version: &[u8; 8],
+    mic: &[u8; 16],
+    lm: &[u8],
+    nt: &[u8],
+    domain: &'a [u8],
+    user: &[u8],
+    workstation: &[u8],
+    key: &[u8],
+    numbers: &mut [u64],
+) -> u64
+    ensures answer { λ r. ⌜ r ≡ respondedNumber (respondAnswer (length (now (out .entry))) (now (challenge .entry)) defaults clock (now (version .entry)) (now (mic .entry)) (now (lm .entry)) (now (nt .entry)) (now (domain .entry)) (now (user .entry)) (now (workstation .entry)) (now (key .entry))) (length (now (numbers .entry))) ⌝ }
+    ensures content { λ _. ⌜ now (out .exit) ≡ respondedOut (respondOut (now (out .entry)) (now (challenge .entry)) defaults (now (version .entry)) (now (mic .entry)) (now (lm .entry)) (now (nt .entry)) (now (domain .entry)) (now (user .entry)) (now (workstation .entry)) (now (key .entry))) (length (now (numbers .entry))) (now (out .entry)) ⌝ }
+    ensures beside { λ _. ⌜ now (numbers .exit) ≡ respondedNumbers (respondAnswer (length (now (out .entry))) (now (challenge .entry)) defaults clock (now (version .entry)) (now (mic .entry)) (now (lm .entry)) (now (nt .entry)) (now (domain .entry)) (now (user .entry)) (now (workstation .entry)) (now (key .entry))) (now (numbers .entry)) ⌝ }
+{
+    c_respond::respond_for_bench(
+        out,
+        challenge,
+        clock,
+        version,
+        mic,
+        lm,
+        nt,
+        domain,
+        user,
+        workstation,
+        key,
+        numbers,
+    )
+}
+
+#[no_mangle]
+pub extern "C" fn dialtable_respond_to_old_server<'a>(
+    out: &mut [u8],
+    challenge: &'a [u8],
+    clock: u64,
+    version: &[u8; 8],
+    mic: &[u8; 16],
+    lm: &[u8],
+    nt: &[u8],
+    domain: &'a [u8],
+    user: &[u8],
+    workstation: &[u8],
+    key: &[u8],
+    numbers: &mut [u64],
+) -> u64
+    ensures answer { λ r. ⌜ r ≡ respondedNumber (respondAnswer (length (now (out .entry))) (now (challenge .entry)) defaults clock (now (version .entry)) (now (mic .entry)) (now (lm .entry)) (now (nt .entry)) (now (domain .entry)) (now (user .entry)) (now (workstation .entry)) (now (key .entry))) (length (now (numbers .entry))) ⌝ }
+    ensures content { λ _. ⌜ now (out .exit) ≡ respondedOut (respondOut (now (out .entry)) (now (challenge .entry)) defaults (now (version .entry)) (now (mic .entry)) (now (lm .entry)) (now (nt .entry)) (now (domain .entry)) (now (user .entry)) (now (workstation .entry)) (now (key .entry))) (length (now (numbers .entry))) (now (out .entry)) ⌝ }
+    ensures beside { λ _. ⌜ now (numbers .exit) ≡ respondedNumbers (respondAnswer (length (now (out .entry))) (now (challenge .entry)) defaults clock (now (version .entry)) (now (mic .entry)) (now (lm .entry)) (now (nt .entry)) (now (domain .entry)) (now (user .entry)) (now (workstation .entry)) (now (key .entry))) (now (numbers .entry)) ⌝ }
+{
+    c_respond::respond_to_old_server(
+        out,
+        challenge,
+        clock,
+        version,
+        mic,
+        lm,
+        nt,
+        domain,
+        user,
+        workstation,
+        key,
+        numbers,
+    )
+}
+
+#[no_mangle]
+pub extern "C" fn dialtable_respond_for_relay<'a>(
+    out: &mut [u8],
+    challenge: &'a [u8],
+    clock: u64,
+    version: &[u8; 8],
+    mic: &[u8; 16],
+    lm: &[u8],
+    nt: &[u8],
+    domain: &'a [u8],
+    user: &[u8],
+    workstation: &[u8],
+    key: &[u8],
+    numbers: &mut [u64],
+) -> u64
+    ensures answer { λ r. ⌜ r ≡ respondedNumber (respondAnswer (length (now (out .entry))) (now (challenge .entry)) defaults clock (now (version .entry)) (now (mic .entry)) (now (lm .entry)) (now (nt .entry)) (now (domain .entry)) (now (user .entry)) (now (workstation .entry)) (now (key .entry))) (length (now (numbers .entry))) ⌝ }
+    ensures content { λ _. ⌜ now (out .exit) ≡ respondedOut (respondOut (now (out .entry)) (now (challenge .entry)) defaults (now (version .entry)) (now (mic .entry)) (now (lm .entry)) (now (nt .entry)) (now (domain .entry)) (now (user .entry)) (now (workstation .entry)) (now (key .entry))) (length (now (numbers .entry))) (now (out .entry)) ⌝ }
+    ensures beside { λ _. ⌜ now (numbers .exit) ≡ respondedNumbers (respondAnswer (length (now (out .entry))) (now (challenge .entry)) defaults clock (now (version .entry)) (now (mic .entry)) (now (lm .entry)) (now (nt .entry)) (now (domain .entry)) (now (user .entry)) (now (workstation .entry)) (now (key .entry))) (now (numbers .entry)) ⌝ }
+{
+    c_respond::respond_for_relay(
+        out,
+        challenge,
+        clock,
+        version,
+        mic,
+        lm,
+        nt,
+        domain,
+        user,
+        workstation,
+        key,
+        numbers,
+    )
+}
+
+#[no_mangle]
+pub extern "C" fn dialtable_negotiate_line(msg: &[u8], out: &mut [u8]) -> u64
+    ensures answer { λ r. ⌜ r ≡ writtenNumber (bytesAnswer (negotiateLine (now (msg .entry))) (now (out .entry))) ⌝ }
+    ensures content { λ _. ⌜ now (out .exit) ≡ bytesAfter (negotiateLine (now (msg .entry))) (now (out .entry)) ⌝ }
+{
+    line_number(line::negotiate_line(msg, out))
+}
+
+#[no_mangle]
+pub extern "C" fn dialtable_authenticate_line(msg: &[u8], out: &mut [u8]) -> u64
+    ensures answer { λ r. ⌜ r ≡ writtenNumber (bytesAnswer (authenticateLine (now (msg .entry))) (now (out .entry))) ⌝ }
+    ensures content { λ _. ⌜ now (out .exit) ≡ bytesAfter (authenticateLine (now (msg .entry))) (now (out .entry)) ⌝ }
+{
+    line_number(line::authenticate_line(msg, out))
+}
+
+#[no_mangle]
+pub extern "C" fn dialtable_challenge_line(msg: &[u8], out: &mut [u8]) -> u64
+    ensures answer { λ r. ⌜ r ≡ writtenNumber (bytesAnswer (challengeLine (now (msg .entry))) (now (out .entry))) ⌝ }
+    ensures content { λ _. ⌜ now (out .exit) ≡ bytesAfter (challengeLine (now (msg .entry))) (now (out .entry)) ⌝ }
+{
+    line_number(line::challenge_line(msg, out))
+}
+
+#[no_mangle]
+pub extern "C" fn dialtable_nl_auth_line(msg: &[u8], out: &mut [u8]) -> u64
+    ensures answer { λ r. ⌜ r ≡ writtenNumber (bytesAnswer (nlAuthLine (now (msg .entry))) (now (out .entry))) ⌝ }
+    ensures content { λ _. ⌜ now (out .exit) ≡ bytesAfter (nlAuthLine (now (msg .entry))) (now (out .entry)) ⌝ }
+{
+    line_number(line::nl_auth_line(msg, out))
+}
+
+#[no_mangle]
+pub extern "C" fn dialtable_ntlm_line(msg: &[u8], out: &mut [u8]) -> u64
+    ensures answer { λ r. ⌜ r ≡ writtenNumber (bytesAnswer (ntlmLine (now (msg .entry))) (now (out .entry))) ⌝ }
+    ensures content { λ _. ⌜ now (out .exit) ≡ bytesAfter (ntlmLine (now (msg .entry))) (now (out .entry)) ⌝ }
+{
+    line_number(line::ntlm_line(msg, out))
+}
+
+#[no_mangle]
+pub extern "C" fn dialtable_ntlm_program_line(msg: &[u8], out: &mut [u8]) -> u64
+    ensures answer { λ r. ⌜ r ≡ writtenNumber (bytesAnswer (shownLine (ntlmLine (now (msg .entry))) (now (out .entry))) (now (out .entry))) ⌝ }
+    ensures content { λ _. ⌜ now (out .exit) ≡ bytesAfter (shownLine (ntlmLine (now (msg .entry))) (now (out .entry))) (now (out .entry)) ⌝ }
+{
+    line_number(line::ntlm_program_line(msg, out))
+}
+
+#[no_mangle]
+pub extern "C" fn dialtable_nl_auth_program_line(msg: &[u8], out: &mut [u8]) -> u64
+    ensures answer { λ r. ⌜ r ≡ writtenNumber (bytesAnswer (shownLine (nlAuthLine (now (msg .entry))) (now (out .entry))) (now (out .entry))) ⌝ }
+    ensures content { λ _. ⌜ now (out .exit) ≡ bytesAfter (shownLine (nlAuthLine (now (msg .entry))) (now (out .entry))) (now (out .entry)) ⌝ }
+{
+    line_number(line::nl_auth_program_line(msg, out))
+}
+
+#[no_mangle]
+pub extern "C" fn dialtable_check_pairs(list: &[u8]) -> u64
+    ensures { λ r. ⌜ r ≡ verdictNumber (checkPairs (now (list .entry))) ⌝ }
+{
+    verdict_number(av_pairs::check_pairs(list))
+}
+
+#[no_mangle]
+pub extern "C" fn dialtable_field_bytes(msg: &[u8], offset: u32, len: u16, out: &mut [u8]) -> u64
+    ensures answer { λ r. ⌜ r ≡ writtenNumber (fieldCopyAnswer (now (msg .entry)) (record { offset = offset; len = len }) (now (out .entry))) ⌝ }
+    ensures content { λ _. ⌜ now (out .exit) ≡ fieldCopyOut (now (msg .entry)) (record { offset = offset; len = len }) (now (out .entry)) ⌝ }
+{
+    c_reading::field_bytes(msg, offset, len, out)
+}
+
+#[no_mangle]
+pub extern "C" fn dialtable_domain_to_send<'a>(
+    own: &'a [u8],
+    challenge: &'a [u8],
+    out: &mut [u8],
+) -> u64
+    ensures answer { λ r. ⌜ r ≡ writtenNumber (bytesAnswer (domainToSend (now (own .entry)) (now (challenge .entry))) (now (out .entry))) ⌝ }
+    ensures content { λ _. ⌜ now (out .exit) ≡ bytesAfter (domainToSend (now (own .entry)) (now (challenge .entry))) (now (out .entry)) ⌝ }
+{
+    written_number(copy(out, domain_to_send(own, challenge)))
+}
+
+#[no_mangle]
+pub extern "C" fn dialtable_write_negotiate(
+    out: &mut [u8],
+    flags: u32,
+    version: &[u8; 8],
+    domain: &[u8],
+    workstation: &[u8],
+) -> u64
+    ensures answer { λ r. ⌜ r ≡ writtenNumber (negotiateAnswer (length (now (out .entry))) (record { bits = flags }) (now (version .entry)) (now (domain .entry)) (now (workstation .entry))) ⌝ }
+    ensures content { λ _. ⌜ now (out .exit) ≡ negotiateOut (now (out .entry)) (record { bits = flags }) (now (version .entry)) (now (domain .entry)) (now (workstation .entry)) ⌝ }
+{
+    let flags = NegotiateFlags { bits: flags };
+    written_number(negotiate_writing::write(out, flags, version, domain, workstation))
+}
+
+#[no_mangle]
+pub extern "C" fn dialtable_write_authenticate(
+    out: &mut [u8],
+    flags: u32,
+    version: &[u8; 8],
+    mic: &[u8; 16],
+    lm: &[u8],
+    nt: &[u8],
+    domain: &[u8],
+    user: &[u8],
+    workstation: &[u8],
+    key: &[u8],
+) -> u64
+    ensures answer { λ r. ⌜ r ≡ writtenNumber (writeAnswer (length (now (out .entry))) (record { bits = flags }) (now (version .entry)) (now (mic .entry)) (now (lm .entry)) (now (nt .entry)) (now (domain .entry)) (now (user .entry)) (now (workstation .entry)) (now (key .entry))) ⌝ }
+    ensures content { λ _. ⌜ now (out .exit) ≡ writeOut (now (out .entry)) (record { bits = flags }) (now (version .entry)) (now (mic .entry)) (now (lm .entry)) (now (nt .entry)) (now (domain .entry)) (now (user .entry)) (now (workstation .entry)) (now (key .entry)) ⌝ }
+{
+    let flags = NegotiateFlags { bits: flags };
+    written_number(write(
+        out,
+        flags,
+        version,
+        mic,
+        lm,
+        nt,
+        domain,
+        user,
+        workstation,
+        key,
+    ))
+}
+
+#[no_mangle]
+pub extern "C" fn dialtable_write_nl_auth_request(
+    out: &mut [u8],
+    flags: u32,
+    a: &[u8],
+    b: &[u8],
+    c: &[u8],
+    d: &[u8],
+    e: &[u8],
+) -> u64
+    ensures answer { λ r. ⌜ r ≡ writtenNumber (requestAnswer (length (now (out .entry))) (known (record { bits = flags })) (now (a .entry)) (now (b .entry)) (now (c .entry)) (now (d .entry)) (now (e .entry))) ⌝ }
+    ensures content { λ _. ⌜ now (out .exit) ≡ requestOut (now (out .entry)) (known (record { bits = flags })) (now (a .entry)) (now (b .entry)) (now (c .entry)) (now (d .entry)) (now (e .entry)) ⌝ }
+{
+    let flags = NlAuthFlags { bits: flags };
+    written_number(write_request(out, flags, a, b, c, d, e))
+}
+
+#[no_mangle]
+pub extern "C" fn dialtable_write_nl_auth_response(out: &mut [u8]) -> u64
+    ensures answer { λ r. ⌜ r ≡ writtenNumber (responseAnswer (length (now (out .entry)))) ⌝ }
+    ensures content { λ _. ⌜ now (out .exit) ≡ responseOut (now (out .entry)) ⌝ }
+{
+    written_number(write_response(out))
+}
+
+#[no_mangle]
+pub extern "C" fn dialtable_write_response_pairs(
+    out: &mut [u8],
+    challenge: &[u8],
+    target_name: &[u8],
+    unverified: u32,
+    bindings: &[u8; 16],
+) -> u64
+    ensures answer { λ r. ⌜ r ≡ writtenNumber (pairsAnswer (length (now (out .entry))) (now (challenge .entry)) (now («target_name» .entry)) (not (eqb unverified 0)) (now (bindings .entry))) ⌝ }
+    ensures content { λ _. ⌜ now (out .exit) ≡ pairsOut (now (out .entry)) (now (challenge .entry)) (now («target_name» .entry)) (not (eqb unverified 0)) (now (bindings .entry)) ⌝ }
+{
+    written_number(response_pairs::write(out, challenge, target_name, !(unverified == 0), bindings))
+}
