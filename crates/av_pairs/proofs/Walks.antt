@@ -4,7 +4,7 @@ use mathlib.Core.Path.{_≡_, refl, sym, ap, _∙_}
 use mathlib.Core.List.{List, [], _∷_}
 use mathlib.Core.Logic.{⊎-elim}
 use native.Mathlib.Omega.{arith}
-use lib.ListN.{length}
+use lib.ListN.{length, length-take, length-drop}
 use mir.Syntax.{w64}
 use mir.Val.{Fits}
 use types.Run.{OneOf}
@@ -20,9 +20,9 @@ use Rattle.av_pairs.specs.declared.Count.{Count}
 use Rattle.av_pairs.specs.declared.Count.the-variants.{Pairs, Refused as Uncounted}
 use Rattle.av_pairs.specs.declared.Found.{Found}
 use Rattle.av_pairs.specs.declared.Found.the-variants.{At, Nothing}
-use Rattle.av_pairs.specs.AvPairs.{stepAt, endOf, onStep, askAt, pairAt, pairsFrom, stopFrom, pairsOf, checkPairs, countPairs}
+use Rattle.av_pairs.specs.AvPairs.{stepAt, endOf, onStep, askAt, pairAt, pairsFrom, stopFrom, pairsOf, checkPairs, countPairs, Valued, valueIn, withValues, valuesOf}
 use Rattle.av_pairs.proofs.Step.{the-type}
-use Rattle.av_pairs.proofs.Steps.{gave}
+use Rattle.av_pairs.proofs.Steps.{Gave, gave}
 
 -- ---- a step
 
@@ -60,6 +60,9 @@ pairsAt s at = pairsFrom (suc (length s - at)) s at
 
 unfoldable pub stopAt : List ℕ → ℕ → Verdict
 stopAt s at = stopFrom (suc (length s - at)) s at
+
+unfoldable pub valuesAt : List ℕ → ℕ → List Valued
+valuesAt s at = withValues s (pairsAt s at)
 
 -- steps to spare change nothing: each pair takes bytes
 enough : (k m : ℕ) (s : List ℕ) (at : ℕ) → length s - at ≤ k → length s - at ≤ m → stopFrom (suc k) s at ≡ stopFrom (suc m) s at
@@ -103,6 +106,10 @@ pairs-start s = enough-pairs (length s - 0) (length s) s 0 (omega arith) (omega 
 pub stop-start : (s : List ℕ) → stopAt s 0 ≡ checkPairs s
 unfolding stopAt checkPairs
 stop-start s = enough (length s - 0) (length s) s 0 (omega arith) (omega arith)
+
+pub values-start : (s : List ℕ) → valuesAt s 0 ≡ valuesOf s
+unfolding valuesAt valuesOf
+values-start s = ap (λ (ps : List AvPair). withValues s ps) (pairs-start s)
 
 module _ (s : List ℕ) (at : ℕ) (r : Step) (e : r ≡ stepAt s at) where
   module _ (p : AvPair) (h : r ≡ Pair p) where
@@ -166,9 +173,19 @@ module _ (s : List ℕ) (at : ℕ) (r : Found) (e : r ≡ pairAt s at) where
     go End y h = at-end s at End (sym y) refl .0
     go (Refused f) y h = at-fault s at (Refused f) (sym y) f refl .0
 
+  pub no-values : r ≡ Nothing → valuesAt s at ≡ []
+  unfolding valuesAt
+  no-values h = ap (λ (ps : List AvPair). withValues s ps) (no-pairs h)
+
   module _ (p : AvPair) (h : r ≡ At p) where
     step : Pair p ≡ stepAt s at
     step = sym (stood s at p (sym e ∙ h))
+
+    pub gave-there : Gave s at p
+    gave-there = gave s at (Pair p) p step refl
+
+    pub there-inside : p .at + p .len ≤ length s
+    there-inside = gave-there .inside
 
     pub there-fits : length s < 2 ^ 64 → Fits w64 (p .at + p .len)
     there-fits f = end-fits s at (Pair p) step p refl f
@@ -178,6 +195,17 @@ module _ (s : List ℕ) (at : ℕ) (r : Found) (e : r ≡ pairAt s at) where
 
     pub more-pairs : pairsAt s at ≡ p ∷ pairsAt s (endOf p)
     more-pairs = pairs-pair s at (Pair p) step p refl
+
+    pub more-values : valuesAt s at ≡ (p .id, valueIn s p) ∷ valuesAt s (endOf p)
+    unfolding valuesAt
+    more-values = ap (λ (ps : List AvPair). withValues s ps) more-pairs
+
+-- how much of a list a part from a place on is, and how long a pair's value
+pub span : (at n : ℕ) → at + n - at ≡ n
+span at n = omega arith
+
+pub value-long : (s : List ℕ) (p : AvPair) → p .at + p .len ≤ length s → length (valueIn s p) ≡ p .len
+value-long s p h = simp (length-take, length-drop) (omega arith)
 
 -- ---- the checks: what is left decides
 

@@ -94,6 +94,17 @@ stopFrom (suc k) s at = onStep (stepAt s at) (λ p. stopFrom k s (endOf p)) (λ 
 unfoldable pub pairsOf : List ℕ → List AvPair
 pairsOf s = pairsFrom (suc (length s)) s 0
 
+-- a pair by its id and its value, and those of a list
+abbrev pub Valued : Type 0
+Valued = AvId × List ℕ
+
+abbrev pub withValues : List ℕ → List AvPair → List Valued
+withValues s [] = []
+withValues s (p ∷ ps) = (p .id, valueIn s p) ∷ withValues s ps
+
+unfoldable pub valuesOf : List ℕ → List Valued
+valuesOf s = withValues s (pairsOf s)
+
 -- checks 10 to 13 over the whole list: the earliest faulty pair decides
 unfoldable pub checkPairs : List ℕ → Verdict
 checkPairs s = stopFrom (suc (length s)) s 0

@@ -39,7 +39,7 @@ use Rattle.respond.specs.Domain.{domainToSend}
 use Rattle.c_number.specs.Number.{refusalNumber, verdictNumber, writtenNumber}
 use Rattle.c_number.specs.Outcome.{Outcome, numbers, refused, outcomeNumber, callNumber, twoArrayNumber}
 use Rattle.c_respond.specs.Respond.{answeredNumber, respondedNumber}
-use Rattle.demands.specs.Answers.{TellsRefusal, TellsOutcome, CallTells, TwoArraysTell, TellsVerdict, CheckPairsTells, TellsWritten, Writing, write-negotiate, write-authenticate, write-nl-auth-request, write-nl-auth-response, writingAnswer, WritingShort, WritingTells, lineOf, LineTells, CopyFits, CopyTells, RespondShort, TellsAnswered, RespondTells}
+use Rattle.demands.specs.Answers.{TellsRefusal, TellsOutcome, CallTells, TwoArraysTell, TellsVerdict, CheckPairsTells, TellsWritten, Writing, write-negotiate, write-authenticate, write-nl-auth-request, write-nl-auth-response, write-response-pairs, writingAnswer, WritingShort, WritingTells, lineOf, LineTells, CopyFits, CopyTells, RespondShort, TellsAnswered, RespondTells}
 use Rattle.demands.specs.FromC.{count, outcome, numberCount, byteCount, twoArrayOutcome}
 use Rattle.demands.proofs.AnswerKept.{message-fits, mic-long}
 use Rattle.demands.proofs.Answered.{sent-written}
@@ -47,6 +47,7 @@ use Rattle.demands.proofs.Bools.{after-held, true-not-false}
 use Rattle.demands.proofs.Kept.{request-holds}
 use Rattle.demands.proofs.LineShort.{line-short}
 use Rattle.demands.proofs.NegotiateBack.{writable}
+use Rattle.demands.proofs.ResponsePairs.{response-pairs-short}
 use Rattle.demands.proofs.SmallFields.{SmallV, pairs-small, SmallD, decision-small, SmallW, writing-small, bytes-small, SmallO, outcome-small, two-array-outcome-small}
 use Rattle.demands.proofs.Told.{tells-refusal, tells-length}
 use Rattle.wire.proofs.Laws.{held-true}
@@ -115,6 +116,7 @@ writing-short (write-nl-auth-response room) n h = go (roomHolds (length response
   go : (k : Checked) → after k (Refused NoRoom) (Length (length responseBytes)) ≡ Length n → n ≤ 65535
   go Held p = omega (arith, same (length responseBytes) p)
   go Failed p = absurd (let z : _≡_ {A = ℕ} 0 1 = cc in omega arith)
+writing-short (write-response-pairs room s name unverified bindings) n h = response-pairs-short room s name unverified bindings n h
 
 written-told : (r : Written) → SmallW r → ((n : ℕ) → r ≡ Length n → n < 0x8000000000000000) → TellsWritten (writtenNumber r) r
 written-told (Length n) w l = tells-length n (l n refl)

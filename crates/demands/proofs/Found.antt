@@ -31,7 +31,7 @@ starts s id found at (this e p q) = p
 starts s id found at (next p q f) = p
 
 -- and the one that is found has the id
-id-of : (s : List ℕ) (id found at : ℕ) → FirstWith s id found at → idOf s found ≡ id
+pub id-of : (s : List ℕ) (id found at : ℕ) → FirstWith s id found at → idOf s found ≡ id
 id-of s id found at (this e p q) = subst (λ (x : ℕ). idOf s x ≡ id) e q
 id-of s id found at (next p q f) = id-of s id found (nextOf s at) f
 

@@ -54,3 +54,5 @@ pub mod SmallFields
 pub mod LineShort
 pub mod Answers
 pub mod Printed
+pub mod PairsBack
+pub mod ResponsePairs

@@ -69,7 +69,7 @@ module _ (a : AvId) where
       near k e l r = inl (omega (arith, eqb-true (a .id) k e), omega (arith, eqb-true (a .id) k e))
 
 module _ (a : AvId) (n : ℕ) where
-  size-is : sizeAllowed a n ≡ true → SizeAllowed (a .id) n
+  pub size-is : sizeAllowed a n ≡ true → SizeAllowed (a .id) n
   size-is h =
       let text = implies (isText a) (eqb (n % 2) 0) in
       let flags = implies (eqb (a .id) 6) (eqb n 4) in
@@ -84,7 +84,7 @@ module _ (a : AvId) (n : ℕ) where
         bindings = λ e. eqb-true n 16 (implied (eqb (a .id) 10) (eqb n 16) (and-right ((text && flags) && time) bind h) (eq-eqb (a .id) 10 e));
       }
 
-  is-size : SizeAllowed (a .id) n → sizeAllowed a n ≡ true
+  pub is-size : SizeAllowed (a .id) n → sizeAllowed a n ≡ true
   is-size w =
       let text = implies (isText a) (eqb (n % 2) 0) in
       let flags = implies (eqb (a .id) 6) (eqb n 4) in

@@ -51,13 +51,14 @@ use Rattle.respond.specs.declared.decision.Decided.{Decided}
 use Rattle.respond.specs.declared.decision.Decided.the-variants.{Taken as Decides, Refused as Declines}
 use Rattle.respond.specs.declared.decision.Settings.{Settings}
 use Rattle.respond.specs.Decision.{decisionOn, strengthHolds, serverNamesHold}
+use Rattle.response_pairs.specs.ResponsePairs.{evenName, checkList, listFor, listAnswer, writeAnswer as pairsAnswer}
 use Rattle.c_number.specs.Outcome.{Outcome, numbers, refused}
 use Rattle.c_reading.specs.Numbers.{negotiateOutcome, authenticateOutcome, challengeOutcome, timestampOutcome, serverNamesOutcome, nlAuthOutcome}
 use Rattle.c_pairs.specs.Pairs.{countOutcome, searchOutcome, stepOutcome}
 use Rattle.c_respond.specs.Settings.{settingsOf}
 use Rattle.c_respond.specs.Respond.{decidedOutcome}
 use Rattle.target_info.specs.TargetInfo.{firstPair, findPair, timestampIn, serverNamesIn}
-use Rattle.demands.specs.Answers.{Writing, write-negotiate, write-authenticate, write-nl-auth-request, write-nl-auth-response, writingAnswer}
+use Rattle.demands.specs.Answers.{Writing, write-negotiate, write-authenticate, write-nl-auth-request, write-nl-auth-response, write-response-pairs, writingAnswer}
 use Rattle.demands.specs.FromC.{Call, read-negotiate, read-timestamp, read-server-names, read-nl-auth, count-pairs, find-pair, next-pair, decide, outcome, TwoArrayCall, read-authenticate, read-challenge, twoArrayOutcome}
 use Rattle.demands.specs.Message.{Format, negotiate, authenticate, challenge, Fails}
 use Rattle.demands.specs.NlAuth.{NlFails}
@@ -252,6 +253,24 @@ unfolding writeAnswer
 authenticate-written-small room flags v mic lm nt domain user workstation key =
     answered-small (checkToWrite room flags lm nt domain user workstation key) (authenticateBytes flags v mic lm nt domain user workstation key) (authenticate-checks room flags lm nt domain user workstation key)
 
+-- of the pair list that goes back: the reading's, or its own
+list-checks : (room : ℕ) (name : List ℕ) (size : ℕ) → SmallV (checkList room name size)
+unfolding checkList
+list-checks room name size =
+    small-after SmallV (evenName name) _ _ (omega arith)
+    (small-after SmallV (sizeToHold size) _ _ (omega arith)
+    (small-after SmallV (roomHolds size room) (Not NoRoom) Clear (omega arith) tt))
+
+response-pairs-small : (room : ℕ) (s name : List ℕ) (unverified : Bool) (bindings : List ℕ) → SmallW (pairsAnswer room s name unverified bindings)
+unfolding pairsAnswer listAnswer
+response-pairs-small room s name unverified bindings = go (readingOf s) (challenge-small s) where
+  go : (r : ChallengeReading) → SmallC r →
+      SmallW (onTaken Unwritten r (λ c. answered (checkList room name (length (listFor (infoOf s c) name unverified bindings))) (listFor (infoOf s c) name unverified bindings)))
+  go (ChallengeTaken c) w =
+      answered-small (checkList room name (length (listFor (infoOf s c) name unverified bindings))) (listFor (infoOf s c) name unverified bindings)
+      (list-checks room name (length (listFor (infoOf s c) name unverified bindings)))
+  go (ChallengeRefused e) w = w
+
 pub writing-small : (w : Writing) → SmallW (writingAnswer w)
 unfolding negotiateAnswer requestAnswer responseAnswer
 writing-small (write-negotiate room flags v domain workstation v8) =
@@ -262,6 +281,7 @@ writing-small (write-nl-auth-request room flags a b c d e) =
     answered-small (checkRequest room (known flags) a b c d e) (requestBytes (known flags) a b c d e) (request-checks room (known flags) a b c d e)
 writing-small (write-nl-auth-response room) =
     small-after SmallW (roomHolds (length responseBytes) room) (Unwritten NoRoom) (Length (length responseBytes)) (omega arith) tt
+writing-small (write-response-pairs room s name unverified bindings) = response-pairs-small room s name unverified bindings
 
 pub bytes-small : (bytes out : List ℕ) → SmallW (bytesAnswer bytes out)
 unfolding bytesAnswer

@@ -2,6 +2,7 @@
 -- `&` are `/` and `%` here, and no length is taken for a refusal.
 use Prim.Native.Nat.{ℕ, _/_, _%_, _≤_, _<_}
 use mathlib.Core.Path.{_≡_}
+use mathlib.Core.Bool.{Bool}
 use mathlib.Core.Logic.{_⊎_}
 use mathlib.Core.List.{List}
 use lib.ListN.{length}
@@ -26,6 +27,7 @@ use Rattle.respond.specs.declared.answer.Answered.{Answered}
 use Rattle.respond.specs.declared.answer.Answered.the-variants.{Sent, Refused as Unanswered}
 use Rattle.respond.specs.declared.decision.Settings.{Settings}
 use Rattle.respond.specs.Answer.{respondAnswer}
+use Rattle.response_pairs.specs.ResponsePairs.{writeAnswer as pairsAnswer}
 use Rattle.c_number.specs.Number.{verdictNumber, writtenNumber}
 use Rattle.c_number.specs.Outcome.{Outcome, numbers, refused, callNumber, twoArrayNumber}
 use Rattle.c_respond.specs.Respond.{respondedNumber}
@@ -83,13 +85,14 @@ abbrev pub TellsWritten : ℕ → Written → Type 0
 TellsWritten answer (Length n) = TellsLength answer n
 TellsWritten answer (Refused e) = TellsRefusal answer e
 
--- a message; Version and MIC are of 8 and 16 bytes, as the calls take them
+-- a message, or the pair list of request 2/12; Version and MIC are of 8 and 16 bytes, as the calls take them
 pub data Writing : Type 0 where
   write-negotiate : (room : ℕ) (flags : NegotiateFlags) (version domain workstation : List ℕ) → length version ≡ 8 → Writing
   write-authenticate : (room : ℕ) (flags : NegotiateFlags) (version mic lm nt domain user workstation key : List ℕ) →
       length version ≡ 8 → length mic ≡ 16 → Writing
   write-nl-auth-request : (room : ℕ) (flags : NlAuthFlags) (a b c d e : List ℕ) → Writing
   write-nl-auth-response : (room : ℕ) → Writing
+  write-response-pairs : (room : ℕ) (challenge name : List ℕ) (unverified : Bool) (bindings : List ℕ) → Writing
 
 abbrev pub writingAnswer : Writing → Written
 writingAnswer (write-negotiate room flags version domain workstation v8) = negotiateAnswer room flags version domain workstation
@@ -97,8 +100,9 @@ writingAnswer (write-authenticate room flags version mic lm nt domain user works
     writeAnswer room flags version mic lm nt domain user workstation key
 writingAnswer (write-nl-auth-request room flags a b c d e) = requestAnswer room (known flags) a b c d e
 writingAnswer (write-nl-auth-response room) = responseAnswer room
+writingAnswer (write-response-pairs room s name unverified bindings) = pairsAnswer room s name unverified bindings
 
--- a message that is written has at most 65,535 bytes
+-- what is written has at most 65,535 bytes
 abbrev pub WritingShort : Type 0
 WritingShort = (w : Writing) (n : ℕ) → writingAnswer w ≡ Length n → n ≤ 65535
 

@@ -23,3 +23,4 @@ pub mod FieldCopied
 pub mod FromC
 pub mod Answers
 pub mod Printed
+pub mod ResponsePairs

@@ -1,6 +1,8 @@
 // The C interface: include/dialtable.h says what each call does. Each is a call of the crates below, with its answer as one
 // number.
 ghost use mathlib.Core.Path.{_≡_};
+ghost use mathlib.Core.Bool.{not};
+ghost use lib.Dec.{eqb};
 ghost use lib.ListN.{length};
 ghost use Rattle.place.specs.Written.{bytesAnswer, bytesAfter};
 ghost use Rattle.av_pairs.specs.AvPairs.{checkPairs, countPairs, askAt};
@@ -17,6 +19,7 @@ ghost use Rattle.line.specs.Line.{negotiateLine, authenticateLine, challengeLin
 ghost use Rattle.respond.specs.Answer.{respondAnswer, respondOut};
 ghost use Rattle.respond.specs.Decision.{defaults, decisionOn};
 ghost use Rattle.respond.specs.Domain.{domainToSend};
+ghost use Rattle.response_pairs.specs.ResponsePairs.{writeAnswer as pairsAnswer, writeOut as pairsOut};
 ghost use Rattle.c_number.specs.Number.{verdictNumber, writtenNumber};
 ghost use Rattle.c_number.specs.Outcome.{callNumber, callOut, twoArrayNumber, twoArrayOut, twoArrayBytes};
 ghost use Rattle.c_reading.specs.FieldCopy.{fieldCopyAnswer, fieldCopyOut};
@@ -415,4 +418,18 @@ pub extern "C" fn dialtable_write_nl_auth_response(out: &mut [u8]) -> u64
     ensures content { λ _. ⌜ now (out .exit) ≡ responseOut (now (out .entry)) ⌝ }
 {
     written_number(write_response(out))
+}
+
+#[no_mangle]
+pub extern "C" fn dialtable_write_response_pairs(
+    out: &mut [u8],
+    challenge: &[u8],
+    target_name: &[u8],
+    unverified: u32,
+    bindings: &[u8; 16],
+) -> u64
+    ensures answer { λ r. ⌜ r ≡ writtenNumber (pairsAnswer (length (now (out .entry))) (now (challenge .entry)) (now («target_name» .entry)) (not (eqb unverified 0)) (now (bindings .entry))) ⌝ }
+    ensures content { λ _. ⌜ now (out .exit) ≡ pairsOut (now (out .entry)) (now (challenge .entry)) (now («target_name» .entry)) (not (eqb unverified 0)) (now (bindings .entry)) ⌝ }
+{
+    written_number(response_pairs::write(out, challenge, target_name, !(unverified == 0), bindings))
 }

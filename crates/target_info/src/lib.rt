@@ -2,10 +2,13 @@
 // held on the list, so that none of them takes a list that runs out as ended; `find_pair` makes these checks itself. `pair_at`
 // makes none and tells no fault from the end: it is for loops over a list that was checked.
 ghost use mathlib.Core.Path.{_≡_};
+ghost use Prim.Native.Nat.{_+_, _≤_};
+ghost use lib.ListN.{length};
 ghost use Rattle.wire.specs.declared.check.Verdict.the-variants.{Clear};
-ghost use Rattle.av_pairs.specs.AvPairs.{pairAt, checkPairs};
+ghost use Rattle.av_pairs.specs.AvPairs.{pairAt, valueIn, checkPairs};
 ghost use Rattle.target_info.specs.TargetInfo.{firstPair, findPair, timestampIn, serverNamesIn};
 use av_id::AvId;
+use av_pairs::AvPair;
 use av_pairs::Found;
 use av_pairs::Step;
 use av_pairs::check_pairs;
@@ -41,6 +44,16 @@ pub fn pair_at(list: &[u8], at: usize) -> Found
         Step::End => Found::Nothing,
         Step::Refused(_) => Found::Nothing,
     }
+}
+
+// A pair's value, as a part of its list.
+pub fn value_of(list: &[u8], p: AvPair) -> &[u8]
+    requires { ⌜ p .at + p .len ≤ length (now list) ⌝ }
+    ensures { λ r. ⌜ now r ≡ valueIn (now (list .entry)) p ⌝ }
+{
+    let at = p.at;
+    let end = at + p.len as usize;
+    &list[at..end]
 }
 
 // The first pair with the id.

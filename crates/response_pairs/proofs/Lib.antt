@@ -1,0 +1,4 @@
+pub mod Fits
+pub mod Copying
+pub mod Sent
+pub mod Standing
