@@ -33,7 +33,7 @@
  * Every call takes bytes as they come, of any length, and always ends. Nothing is kept between calls and nothing is
  * allocated; calls are reentrant. Memory is lent for the length of the call: inputs are only read, an output is written
  * at its start and left as it was after that. An output must not overlap an input or another output. A pointer may be
- * NULL where its length is 0; version and mic, which come without a length, must never be NULL.
+ * NULL where its length is 0; version, mic and bindings, which come without a length, must never be NULL.
  *
  * The answer is 0, or the length of what was written, or a refusal. A refusal changes no byte of any output. An output
  * exactly as long as what is written suffices.
@@ -93,7 +93,7 @@ enum {
     DIALTABLE_REFUSED_NO_128_BIT = 20,        /* 128-bit demanded, not in the flags */
     DIALTABLE_REFUSED_NO_SERVER_NAMES = 21,   /* NTLMv2 with integrity or confidentiality: not both pairs 1 and 2 */
     DIALTABLE_REFUSED_TOO_LONG_TO_WRITE = 30, /* a message to write would pass 65,535 bytes */
-    DIALTABLE_REFUSED_ODD_NAME_TO_WRITE = 31, /* UNICODE: the name to write has odd length */
+    DIALTABLE_REFUSED_ODD_NAME_TO_WRITE = 31, /* UNICODE: the name to write has odd length (pair list: field 2) */
     DIALTABLE_REFUSED_WRONG_KEY = 32,         /* a key neither empty nor 16 bytes, or without KEY_EXCH (field 6) */
     DIALTABLE_REFUSED_NO_ROOM = 33,           /* an output is too short */
     DIALTABLE_REFUSED_ZERO_IN_STRING = 34     /* the NL_AUTH string to write holds a zero byte */
@@ -292,6 +292,19 @@ uint64_t dialtable_write_nl_auth_request(uint8_t *out, dialtable_len out_len, ui
                                          dialtable_len c_len, const uint8_t *d, dialtable_len d_len, const uint8_t *e,
                                          dialtable_len e_len);
 uint64_t dialtable_write_nl_auth_response(uint8_t *out, dialtable_len out_len);
+
+/* The pair list that goes back inside the NTLMv2 response: the challenge's pairs in their order, without those of ids
+ * 9 and 10; then pair 10 with the bindings (16 zeros for none), pair 9 with the target name, and the end pair. In the
+ * first flags pair the bits below are set: MIC where a timestamp is there, UNVERIFIED where unverified is not 0 and the
+ * target name is not empty. Where a bit is due and no flags pair came in, one with it stands before pair 10. Without
+ * target info it is the end pair alone. Refuses as reading does, then 31 (field 2) a target name of odd length,
+ * whatever the flags say, 30 and 33. Room: 32 bytes and those of the target info and of the target name. Answers the
+ * list's length. */
+#define DIALTABLE_PAIR_FLAG_MIC 0x2u
+#define DIALTABLE_PAIR_FLAG_UNVERIFIED 0x4u
+uint64_t dialtable_write_response_pairs(uint8_t *out, dialtable_len out_len, const uint8_t *challenge,
+                                        dialtable_len challenge_len, const uint8_t *target_name,
+                                        dialtable_len target_name_len, uint32_t unverified, const uint8_t bindings[16]);
 
 /* ---- Answering a CHALLENGE. Settings are a sum of these bits; other bits are ignored. */
 

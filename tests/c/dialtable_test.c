@@ -460,6 +460,76 @@ static void writes_nl_auth(void)
     CHECK(refused(dialtable_write_nl_auth_response(out, 8), 33, 0));
 }
 
+/* The CHALLENGE of MS-NLMP 4.2.4: the name at 56, and from 68 on pairs 2 and 1 and the end pair. The string's own zero
+ * byte is left out. */
+static const uint8_t ms_nlmp[] = "NTLMSSP\0" "\2\0\0\0" "\x0C\0\x0C\0" "\x38\0\0\0" "\x33\x82\x8A\xE2"
+                                 "\x01\x23\x45\x67\x89\xAB\xCD\xEF" "\0\0\0\0\0\0\0\0" "\x24\0\x24\0" "\x44\0\0\0"
+                                 "\6\0\x70\x17\0\0\0\x0F" "S\0e\0r\0v\0e\0r\0"
+                                 "\2\0\x0C\0" "D\0o\0m\0a\0i\0n\0" "\1\0\x0C\0" "S\0e\0r\0v\0e\0r\0" "\0\0\0\0";
+#define MS_NLMP_LEN (sizeof ms_nlmp - 1)
+
+static void writes_response_pairs(const message_t *challenge)
+{
+    static const uint8_t name[] = {'b', 0, 'o', 0};
+    static const uint8_t flags[] = {6, 0, 4, 0, 4, 0, 0, 0}, ten[] = {10, 0, 16, 0}, end[4] = {0};
+    static const uint8_t nine[] = {9, 0, 4, 0, 'b', 0, 'o', 0};
+    uint64_t numbers[DIALTABLE_FOUND_NUMBERS];
+    uint8_t bindings[16], none[16] = {0}, out[512], short_one[48];
+    uint64_t len;
+
+    memset(bindings, 0xB1, sizeof bindings);
+    /* No timestamp: pairs 2 and 1, pair 10 of zeros, pair 9 without a value; a mark without a name changes nothing. */
+    memset(out, FILL, sizeof out);
+    EQUAL(dialtable_write_response_pairs(out, sizeof out, ms_nlmp, MS_NLMP_LEN, NULL, 0, 1, none), 60);
+    CHECK(memcmp(out, ms_nlmp + 68, 32) == 0);
+    CHECK(memcmp(out + 32, ten, 4) == 0 && memcmp(out + 36, none, 16) == 0);
+    CHECK(memcmp(out + 52, "\x09\0\0\0\0\0\0\0", 8) == 0);
+    CHECK(untouched(out + 60, sizeof out - 60));
+    /* An unverified name: a flags pair is added before pair 10. */
+    EQUAL(dialtable_write_response_pairs(out, 72, ms_nlmp, MS_NLMP_LEN, name, 4, 7, bindings), 72);
+    CHECK(memcmp(out + 32, flags, 8) == 0 && memcmp(out + 40, ten, 4) == 0 && memcmp(out + 44, bindings, 16) == 0);
+    CHECK(memcmp(out + 60, nine, 8) == 0 && memcmp(out + 68, end, 4) == 0);
+    EQUAL(dialtable_write_response_pairs(out, 64, ms_nlmp, MS_NLMP_LEN, name, 4, 0, bindings), 64);
+
+    /* With a timestamp its bit is set, and what was written is a list that passes checks 10 to 13. */
+    len = dialtable_write_response_pairs(out, sizeof out, challenge->bytes, challenge->len, name, 4, 1, bindings);
+    CHECK(!DIALTABLE_IS_REFUSED(len));
+    EQUAL(dialtable_check_pairs(out, len), 0);
+    EQUAL(dialtable_find_pair(out, len, DIALTABLE_PAIR_FLAGS, numbers, DIALTABLE_FOUND_NUMBERS), 0);
+    EQUAL(numbers[DIALTABLE_FOUND_THERE], 1);
+    EQUAL(out[numbers[DIALTABLE_FOUND_PLACE]] & (DIALTABLE_PAIR_FLAG_MIC | DIALTABLE_PAIR_FLAG_UNVERIFIED), 6);
+    EQUAL(dialtable_find_pair(out, len, DIALTABLE_PAIR_CHANNEL_BINDINGS, numbers, DIALTABLE_FOUND_NUMBERS), 0);
+    CHECK(memcmp(out + numbers[DIALTABLE_FOUND_PLACE], bindings, 16) == 0);
+
+    /* TargetInfo doesn't count: the end pair alone. */
+    memcpy(short_one, ms_nlmp, 48);
+    short_one[20] = 1;
+    short_one[22] = 0;
+    memset(out, FILL, sizeof out);
+    EQUAL(dialtable_write_response_pairs(out, 4, short_one, 48, name, 4, 1, bindings), 4);
+    CHECK(memcmp(out, end, 4) == 0 && untouched(out + 4, sizeof out - 4));
+
+    memset(out, FILL, sizeof out);
+    CHECK(refused(dialtable_write_response_pairs(out, 3, ms_nlmp, MS_NLMP_LEN, name, 3, 1, bindings), 31, 2));
+    CHECK(refused(dialtable_write_response_pairs(out, 3, short_one, 48, name, 3, 1, bindings), 31, 2));
+    CHECK(refused(dialtable_write_response_pairs(out, 71, ms_nlmp, MS_NLMP_LEN, name, 4, 1, bindings), 33, 0));
+    CHECK(refused(dialtable_write_response_pairs(out, 3, ms_nlmp, 47, name, 3, 1, bindings), 2, 0));
+    CHECK(untouched(out, sizeof out));
+}
+
+/* The pairs of this challenge have even lengths: a list of 65,534 bytes is written, and one of 65,536 refused. */
+static void writes_the_longest_pairs(void)
+{
+    static uint8_t name[65476], out[65536];
+    static const uint8_t bindings[16] = {0};
+
+    EQUAL(dialtable_write_response_pairs(out, sizeof out, ms_nlmp, MS_NLMP_LEN, name, 65474, 0, bindings), 65534);
+    EQUAL(dialtable_check_pairs(out, 65534), 0);
+    memset(out, FILL, sizeof out);
+    CHECK(refused(dialtable_write_response_pairs(out, 0, ms_nlmp, MS_NLMP_LEN, name, 65476, 0, bindings), 30, 0));
+    CHECK(untouched(out, sizeof out));
+}
+
 static void decides(const message_t *challenge, const message_t *no_timestamp)
 {
     uint64_t numbers[DIALTABLE_DECISION_NUMBERS];
@@ -658,6 +728,8 @@ int main(int argc, char **argv)
     writes_negotiate();
     writes_the_longest_negotiate();
     writes_nl_auth();
+    writes_response_pairs(&challenge);
+    writes_the_longest_pairs();
     decides(&challenge, &no_timestamp);
     finds_domain(&challenge);
     answers(&challenge, &no_timestamp);

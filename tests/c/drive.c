@@ -143,6 +143,7 @@ static void writes(unsigned room)
     CALL(dialtable_write_nl_auth_request(out, room, bits, msg, a % 4, msg + 9, b % 3, msg + 13, c % 4, msg + 8, 0,
                                          msg + 2, a % 3));
     CALL(dialtable_write_nl_auth_response(out, room));
+    CALL(dialtable_write_response_pairs(out, room, msg, len, msg + 11, draw(4) ? b & ~1u : b, draw(3), mic));
 }
 
 static void answers(unsigned room, unsigned places)

@@ -63,6 +63,7 @@ static void measure(const uint8_t *msg, dialtable_len len)
     STACK(write_negotiate, out, sizeof out, 0xA2088207u, zeros, zeros, 5, zeros, 5);
     STACK(write_nl_auth_request, out, sizeof out, 31, msg, 1, msg, 1, msg, 1, msg, 1, msg, 1);
     STACK(write_nl_auth_response, out, sizeof out);
+    STACK(write_response_pairs, out, sizeof out, msg, len, zeros, 8, 1, zeros);
     STACK(decide, DIALTABLE_DEFAULTS | DIALTABLE_INTEGRITY, msg, len, numbers, 16);
     STACK(domain_to_send, NULL, 0, msg, len, out, sizeof out);
     STACK(respond, out, sizeof out, msg, len, DIALTABLE_DEFAULTS, 5, zeros, zeros, zeros, 24, zeros, 24, NAMES, zeros,
