@@ -41,6 +41,7 @@ pub static KIND: Kind<2> = Kind {
         times,
         sizes,
         counts,
+        orders,
         faulty_lists,
         faulty_lists_elsewhere,
         units,
@@ -153,6 +154,53 @@ fn counts(random: &mut Random, messages: &mut Vec<Vec<u8>>) {
         }
         messages.push(with_list(random, &list.ended()));
     }
+}
+
+/// What the list that goes back changes, leaves out or adds: flags, a time, a
+/// target name and bindings, beside a pair that stays. Every sequence of up to
+/// three of them; the four in every order, once, twice, and where TargetInfo
+/// doesn't count.
+pub fn orders(random: &mut Random, messages: &mut Vec<Vec<u8>>) {
+    let ids = [1, 6, TIMESTAMP, 9, 10];
+    let mut sequences: Vec<Vec<u16>> = vec![Vec::new()];
+    for len in 0..3 {
+        let longest: Vec<Vec<u16>> = sequences
+            .iter()
+            .filter(|ids| ids.len() == len)
+            .cloned()
+            .collect();
+        for sequence in longest {
+            sequences.extend(ids.map(|id| [&sequence[..], &[id]].concat()));
+        }
+    }
+    for ids in sequences {
+        let list = List::sound(random, &ids).ended();
+        messages.push(with_list(random, &list));
+    }
+    for order in permutations(&ids[1..]) {
+        for ids in [order.clone(), [&order[..], &[1], &order].concat()] {
+            let list = List::sound(random, &ids).ended();
+            messages.push(with_list(random, &list));
+        }
+        let list = List::sound(random, &order).ended();
+        let message = KIND.of(random, UNICODE | REQUEST_TARGET, PAYLOAD, [&[], &list]);
+        messages.push(message.bytes());
+    }
+}
+
+/// Every order of these ids.
+fn permutations(ids: &[u16]) -> Vec<Vec<u16>> {
+    if ids.is_empty() {
+        return vec![Vec::new()];
+    }
+    let first = |at: usize| {
+        let mut rest = ids.to_vec();
+        let id = rest.remove(at);
+        permutations(&rest)
+            .into_iter()
+            .map(move |rest| [&[id], &rest[..]].concat())
+    };
+    (0..ids.len()).flat_map(first).collect()
 }
 
 /// Every fault at every place of lists of up to four pairs, in every other one
