@@ -64,25 +64,25 @@ or-false : (b : Bool) → (b || false) ≡ b
 or-false true = refl
 or-false false = refl
 
-names-last : (d u w l n k : Bool) → (d && (u && (w && (l && (n && (k && true)))))) ≡ (l && (n && (d && (u && (w && k)))))
-names-last true true true l n k = simp and-true
-names-last true true false true true k = refl
-names-last true true false true false k = refl
-names-last true true false false n k = refl
-names-last true false w true true k = refl
-names-last true false w true false k = refl
-names-last true false w false n k = refl
-names-last false u w true true k = refl
-names-last false u w true false k = refl
-names-last false u w false n k = refl
+and-assoc : (a b c : Bool) → ((a && b) && c) ≡ (a && (b && c))
+and-assoc true b c = refl
+and-assoc false b c = refl
+
+or-assoc : (a b c : Bool) → ((a || b) || c) ≡ (a || (b || c))
+or-assoc true b c = refl
+or-assoc false b c = refl
 
 -- the six fields' test is the definition's
-pub mic-is : (n : ℕ) (f : Fields) →
-    ((begins 88 (f .lm) && (begins 88 (f .nt) && (begins 88 (f .domain) && (begins 88 (f .user) && (begins 88 (f .workstation) && begins 88 (f .key))))))
-    && ((not (isEmpty (f .lm)) || (not (isEmpty (f .nt)) || (not (isEmpty (f .domain)) || (not (isEmpty (f .user)) || (not (isEmpty (f .workstation)) || not (isEmpty (f .key))))))) || leb 88 n))
+pub mic-is : (n : ℕ) (f : Fields) {a b c d e g : Bool} →
+    a ≡ begins 88 (f .lm) → b ≡ begins 88 (f .nt) → c ≡ begins 88 (f .domain) → d ≡ begins 88 (f .user) →
+    e ≡ begins 88 (f .workstation) → g ≡ begins 88 (f .key) →
+    (((((a && b) && c) && d) && e) && g)
+    && ((((((not (isEmpty (f .lm)) || not (isEmpty (f .nt))) || not (isEmpty (f .domain))) || not (isEmpty (f .user)))
+    || not (isEmpty (f .workstation))) || not (isEmpty (f .key))) || leb 88 n)
     ≡ micPresent n f
 unfolding micPresent
-mic-is n f = sym (simp (and-true, or-false) at (lowest 88 (allFields f) n))
+mic-is n f p q r s t u =
+    simp (p, q, r, s, t, u, and-assoc, or-assoc) (sym (simp (and-assoc, or-assoc, and-true, or-false) at (lowest 88 (allFields f) n)))
 
 -- where all fields end inside, the lowest offset is inside
 lowest-inside : (n : ℕ) (fs : List (ℕ × Field)) (d : ℕ) → d ≤ n → overAll (endsInside n) PastEnd fs ≡ Clear → lowestOffset fs d ≤ n
@@ -119,16 +119,6 @@ mic-absent s r a p h = simp (p, h)
 
 pub mic-room : (s : List ℕ) (r : Reading) (a : Authenticate) → r ≡ readingOf s → r ≡ Taken a → a .«mic_present» ≡ true → 88 ≤ length s
 mic-room s r a e p h = (rw p at (mic-inside s r e)) h
-
--- the test by the lowest offset, which goes by the names first
-pub mic-by : (n : ℕ) (f : Fields) (l : ℕ) →
-    ((k : ℕ) → leb k l ≡ (begins k (f .domain) && (begins k (f .user) && (begins k (f .workstation) && (begins k (f .lm) && (begins k (f .nt) && (begins k (f .key) && leb k 0x100000000))))))) →
-    (leb 88 l
-    && ((not (isEmpty (f .lm)) || (not (isEmpty (f .nt)) || (not (isEmpty (f .domain)) || (not (isEmpty (f .user)) || (not (isEmpty (f .workstation)) || not (isEmpty (f .key))))))) || leb 88 n))
-    ≡ micPresent n f
-mic-by n f l h =
-    simp (h 88, names-last (begins 88 (f .domain)) (begins 88 (f .user)) (begins 88 (f .workstation)) (begins 88 (f .lm)) (begins 88 (f .nt)) (begins 88 (f .key)))
-    (mic-is n f)
 
 -- the reading with its MIC is the answer
 pub answered : (s m : List ℕ) (r : Reading) → r ≡ readingOf s → m ≡ micBytes r s → record { reading = r; mic = m } ≡ readAuthenticate s

@@ -1,12 +1,8 @@
 // AUTHENTICATE_MESSAGE (MS-NLMP 2.2.1.3): reading.
 
 ghost use mathlib.Core.Path.{_≡_};
-ghost use mathlib.Core.Bool.{true, _&&_};
-ghost use Prim.Native.Nat.{ℕ, _+_, _≤_};
-ghost use lib.Dec.{leb};
+ghost use Prim.Native.Nat.{_≤_};
 ghost use lib.ListN.{length};
-ghost use Rattle.wire.specs.declared.check.Verdict.the-variants.{Clear};
-ghost use Rattle.field.specs.Field.{begins};
 ghost use Rattle.authenticate.specs.Authenticate.{fieldsAt, checkEnds, checkBegins, checkNames, apart, checkShared, checkFields, micPresent, readingOf, micBytes, readAuthenticate};
 use field::Field;
 use field::field_at;
@@ -59,70 +55,6 @@ fn fields_at(msg: &[u8], flags: NegotiateFlags) -> Fields
         workstation: field_at(msg, 44, true),
         key: field_at(msg, 52, flags.key_exch()),
     }
-}
-
-// The lower of a place and the field's offset, if the field is nonempty: what it is not below, neither of the two is.
-fn lower(f: Field, at: u64) -> u64
-    ensures { λ r. ⌜ ((k : ℕ) → leb k r ≡ (begins k f && leb k at)) ⌝ }
-{
-    if f.len == 0 {
-        return at;
-    }
-    let offset = f.offset as u64;
-    if offset < at {
-        return offset;
-    }
-    at
-}
-
-// The higher of a place and the field's end.
-fn higher(f: Field, at: u64) -> u64
-    ensures { λ r. ⌜ ((k : ℕ) → leb r k ≡ (leb (f .offset + f .len) k && leb at k)) ⌝ }
-{
-    let end = f.offset as u64 + f.len as u64;
-    if at < end {
-        return end;
-    }
-    at
-}
-
-// The lowest offset of a nonempty secret; past every offset if there is none.
-fn lowest_secret(f: Fields) -> u64
-    ensures { λ r. ⌜ ((k : ℕ) → leb k r ≡ (begins k (f .lm) && (begins k (f .nt) && (begins k (f .key) && leb k 0x100000000)))) ⌝ }
-{
-    lower(f.lm, lower(f.nt, lower(f.key, 0x100000000)))
-}
-
-// The lowest offset of a nonempty field.
-fn lowest(f: Fields) -> u64
-    ensures { λ r. ⌜ ((k : ℕ) → leb k r ≡ (begins k (f .domain) && (begins k (f .user) && (begins k (f .workstation) && (begins k (f .lm) && (begins k (f .nt) && (begins k (f .key) && leb k 0x100000000))))))) ⌝ }
-{
-    lower(
-        f.domain,
-        lower(f.user, lower(f.workstation, lowest_secret(f))),
-    )
-}
-
-// Where the last of the names ends.
-fn highest_name(f: Fields) -> u64
-    ensures { λ r. ⌜ ((k : ℕ) → leb r k ≡ (leb (f .domain .offset + f .domain .len) k && (leb (f .user .offset + f .user .len) k && (leb (f .workstation .offset + f .workstation .len) k && leb 0 k)))) ⌝ }
-{
-    higher(f.domain, higher(f.user, higher(f.workstation, 0)))
-}
-
-// Where the last field ends.
-fn highest(f: Fields) -> u64
-    ensures { λ r. ⌜ ((k : ℕ) → leb r k ≡ (leb (f .lm .offset + f .lm .len) k && (leb (f .nt .offset + f .nt .len) k && (leb (f .key .offset + f .key .len) k && (leb (f .domain .offset + f .domain .len) k && (leb (f .user .offset + f .user .len) k && (leb (f .workstation .offset + f .workstation .len) k && leb 0 k))))))) ⌝ }
-{
-    higher(f.lm, higher(f.nt, higher(f.key, highest_name(f))))
-}
-
-// Whether the fields lie after the fixed part and within the message, and every name before every secret, as in most
-// messages. Checks 6, 7 and 9 then hold.
-fn usual_layout(f: Fields, n: u64) -> bool
-    ensures { λ r. ⌜ (r ≡ true → (checkEnds n f ≡ Clear) × (checkBegins f ≡ Clear) × (checkShared f ≡ Clear)) ⌝ }
-{
-    ((highest(f) <= n) & (64 <= lowest(f))) & (highest_name(f) <= lowest_secret(f))
 }
 
 // Check 6, over all fields of a message of `n` bytes.
@@ -218,11 +150,18 @@ pub fn check_shared(f: Fields) -> Verdict
 pub fn mic_present(f: Fields, n: usize) -> bool
     ensures { λ r. ⌜ r ≡ micPresent n f ⌝ }
 {
-    let room = 88 <= lowest(f);
+    let room = f.lm.begins(88)
+        & f.nt.begins(88)
+        & f.domain.begins(88)
+        & f.user.begins(88)
+        & f.workstation.begins(88)
+        & f.key.begins(88);
     let some = (f.lm.len != 0)
-        | ((f.nt.len != 0)
-            | ((f.domain.len != 0)
-                | ((f.user.len != 0) | ((f.workstation.len != 0) | (f.key.len != 0)))));
+        | (f.nt.len != 0)
+        | (f.domain.len != 0)
+        | (f.user.len != 0)
+        | (f.workstation.len != 0)
+        | (f.key.len != 0);
     room & (some | (88 <= n))
 }
 
@@ -230,9 +169,6 @@ pub fn mic_present(f: Fields, n: usize) -> bool
 pub fn check_fields(f: Fields, unicode: bool, n: u64) -> Verdict
     ensures { λ r. ⌜ r ≡ checkFields n unicode f ⌝ }
 {
-    if usual_layout(f, n) {
-        return check_names(f, unicode);
-    }
     let ends = check_ends(f, n);
     let Verdict::Clear = ends else {
         return ends;

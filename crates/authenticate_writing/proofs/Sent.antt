@@ -1,5 +1,5 @@
 -- Laws of what is written: its bytes, its length and its checks.
-use Prim.Native.Nat.{ℕ, _+_, _≤_}
+use Prim.Native.Nat.{ℕ, _+_, _≤_, min}
 use mathlib.Core.Path.{_≡_, refl, sym, _∙_}
 use mathlib.Core.Bool.{Bool, true, false, _||_, _&&_}
 use mathlib.Core.List.{List}
@@ -18,7 +18,6 @@ use Rattle.wire.specs.Check.{checked, after, onClear}
 use Rattle.negotiate_flags.specs.Flags.{unicode, keyExch, charsetHolds}
 use Rattle.wire.proofs.Laws.{chain, groups}
 use Rattle.place.specs.Place.{Wrote}
-use Rattle.place.specs.Written.{counted}
 use Rattle.place.proofs.Numbers.{length-le32}
 use Rattle.place.proofs.Writings.{measured, counted-on}
 use Rattle.field_writing.specs.Writing.{fieldOf}
@@ -73,19 +72,19 @@ module _ (lm nt domain user workstation key : List ℕ) where
 
   -- the fields' lengths, counted one by one in the payload's order
   pub size-is : (a b c d e r : ℕ) →
-      a ≡ counted (88 + length domain) → b ≡ counted (a + length user) → c ≡ counted (b + length workstation) →
-      d ≡ counted (c + length lm) → e ≡ counted (d + length nt) → r ≡ counted (e + length key) →
-      r ≡ counted (sizeToWrite lm nt domain user workstation key)
+      a ≡ min 65536 (88 + length domain) → b ≡ min 65536 (a + length user) → c ≡ min 65536 (b + length workstation) →
+      d ≡ min 65536 (c + length lm) → e ≡ min 65536 (d + length nt) → r ≡ min 65536 (e + length key) →
+      r ≡ min 65536 (sizeToWrite lm nt domain user workstation key)
   size-is a b c d e r p q s t u w =
       let n : ℕ = 88 + length domain in
       let o : ℕ = n + length user in
       let k : ℕ = o + length workstation in
       let i : ℕ = k + length lm in
       let j : ℕ = i + length nt in
-      let on-o : b ≡ counted o = counted-on n (length user) a b p q in
-      let on-k : c ≡ counted k = counted-on o (length workstation) b c on-o s in
-      let on-i : d ≡ counted i = counted-on k (length lm) c d on-k t in
-      let on-j : e ≡ counted j = counted-on i (length nt) d e on-i u in
+      let on-o : b ≡ min 65536 o = counted-on n (length user) a b p q in
+      let on-k : c ≡ min 65536 k = counted-on o (length workstation) b c on-o s in
+      let on-i : d ≡ min 65536 i = counted-on k (length lm) c d on-k t in
+      let on-j : e ≡ min 65536 j = counted-on i (length nt) d e on-i u in
       let sum : j + length key ≡ sizeToWrite lm nt domain user workstation key = omega (arith, length-payload) in
       rw (← sum) (counted-on j (length key) e r on-j w)
 

@@ -1,10 +1,9 @@
 // AUTHENTICATE_MESSAGE (MS-NLMP 2.2.1.3): writing.
 ghost use mathlib.Core.Path.{_≡_};
 ghost use mathlib.Core.List.{_++_};
-ghost use Prim.Native.Nat.{_+_, _≤_};
+ghost use Prim.Native.Nat.{_+_, _≤_, min};
 ghost use lib.ListN.{length};
 ghost use Rattle.place.specs.Place.{Wrote};
-ghost use Rattle.place.specs.Written.{counted};
 ghost use Rattle.field_writing.specs.Writing.{headBytes};
 ghost use Rattle.authenticate_writing.specs.Writing.{fieldsTo, headsBytes, afterHeads, fixedBytes, payloadBytes, authenticateBytes, evenToWrite, checkNamesToWrite, keyHolds, sizeToWrite, checkToWrite, writeAnswer, writeOut};
 use authenticate::Fields;
@@ -62,7 +61,7 @@ fn size_to_write(
     workstation: &[u8],
     key: &[u8],
 ) -> usize
-    ensures { λ r. ⌜ r ≡ counted (sizeToWrite (now (lm .entry)) (now (nt .entry)) (now (domain .entry)) (now (user .entry)) (now (workstation .entry)) (now (key .entry))) ⌝ }
+    ensures { λ r. ⌜ r ≡ min 65536 (sizeToWrite (now (lm .entry)) (now (nt .entry)) (now (domain .entry)) (now (user .entry)) (now (workstation .entry)) (now (key .entry))) ⌝ }
 {
     let n = add_capped(88, domain.len());
     let n = add_capped(n, user.len());

@@ -52,7 +52,6 @@ use Rattle.line_auth.specs.Auth.{authLengths}
 use Rattle.line_auth.proofs.Laws.{auth-fits}
 use Rattle.line_chal.proofs.Laws.{chal-fits}
 use Rattle.line_nego.proofs.Laws.{nego-fits}
-use Rattle.line_nl.specs.Nl.{givenBy}
 use Rattle.line_nl.proofs.Laws.{nl-fits}
 use Rattle.line_refused.specs.Refused.{refusedText, refusedLine}
 use Rattle.line.specs.Line.{negoLine, negotiateLine, authLine, authenticateLine, chalLine, challengeLine, nlLine, nlAuthLine, lineAs, ntlmLine, shownLine}
@@ -118,7 +117,7 @@ auth-short s a h =
     let key = own-len authenticate s 6 (a .fields .key) (o .key) in
     let lengths : length (authLengths (a .fields .lm .len) (a .fields .nt .len) (a .fields .key .len)) ≤ 73 =
     simp length-append (omega (arith, number-bound (ascii " lm=") (a .fields .lm .len) (omega (arith, n, lm)), number-bound (ascii " nt=") (a .fields .nt .len) (omega (arith, n, nt)), number-bound (ascii " key=") (a .fields .key .len) (omega (arith, n, key)))) in
-    let fits = fits-short (length (authLine s (Taken a))) 1000000 (auth-fits (unicode (a .flags)) s a (length (authLengths (a .fields .lm .len) (a .fields .nt .len) (a .fields .key .len))) 1000000 refl (omega (arith, n, lengths, domain, user, workstation))) in
+    let fits = fits-short (length (authLine s (Taken a))) 1000000 (auth-fits s a (length (authLengths (a .fields .lm .len) (a .fields .nt .len) (a .fields .key .len))) 1000000 refl (omega (arith, n, lengths, domain, user, workstation))) in
     omega (arith, fits)
 
 authenticate-short : (s : List ℕ) → length (authenticateLine s) < 0x100000
@@ -253,7 +252,7 @@ nl-short s m h =
     let inside = subst (Inside s) h (nl-inside s) in
     let word = number-bound (ascii "nl type=") (m .«message_type») (omega (arith, inside .1)) in
     let fits = fits-short (length (nlLine s (NlTaken m))) 1000000
-    (nl-fits (givenBy (m .flags)) s m (length (numberWord (ascii "nl type=") (m .«message_type»)))
+    (nl-fits s m (length (numberWord (ascii "nl type=") (m .«message_type»)))
     (4 * (m .strings .«nb_domain» .len + m .strings .«nb_computer» .len + m .strings .«dns_domain» .len + m .strings .«dns_host» .len + m .strings .«utf8_computer» .len))
     1000000 refl refl (omega (arith, n, inside .0, word))) in
     omega (arith, fits)

@@ -1,10 +1,8 @@
 -- The line of a message, by what its reading is known to be.
 use mathlib.Core.Path.{_≡_}
 use Prim.Native.Nat.{ℕ}
-use mathlib.Core.Bool.{Bool}
 use mathlib.Core.List.{List}
 use Rattle.wire.specs.declared.refusal.Refusal.{Refusal}
-use Rattle.negotiate_flags.specs.Flags.{unicode}
 use Rattle.authenticate.specs.declared.Answer.{Answer}
 use Rattle.authenticate.specs.declared.Authenticate.{Authenticate}
 use Rattle.authenticate.specs.declared.Reading.the-variants.{Taken, Refused as NotTaken}
@@ -20,15 +18,14 @@ use Rattle.negotiate.specs.Negotiate.{readNegotiate}
 use Rattle.line_refused.specs.Refused.{refusedLine}
 use Rattle.line_nego.specs.Nego.{negoText}
 use Rattle.line_auth.specs.Auth.{authText}
-use Rattle.line_nl.specs.declared.Given.{Given}
-use Rattle.line_nl.specs.Nl.{givenBy, nlText}
+use Rattle.line_nl.specs.Nl.{nlText}
 use Rattle.line.specs.Line.{negotiateLine, authenticateLine, nlAuthLine}
 
 -- AUTHENTICATE's
 module _ (s : List ℕ) (d : Answer) (g : d ≡ readAuthenticate s) where
-  pub auth-taken : (a : Authenticate) (b : Bool) → d .reading ≡ Taken a → b ≡ unicode (a .flags) → authText b s a ≡ authenticateLine s
+  pub auth-taken : (a : Authenticate) → d .reading ≡ Taken a → authText s a ≡ authenticateLine s
   unfolding authenticateLine
-  auth-taken a b h p = simp (← g, h, p)
+  auth-taken a h = simp (← g, h)
 
   pub auth-refused : (e : Refusal) → d .reading ≡ NotTaken e → refusedLine e ≡ authenticateLine s
   unfolding authenticateLine
@@ -36,9 +33,9 @@ module _ (s : List ℕ) (d : Answer) (g : d ≡ readAuthenticate s) where
 
 -- NL_AUTH's
 module _ (s : List ℕ) (d : NlReading) (g : d ≡ readNlAuth s) where
-  pub nl-taken : (m : NlAuth) (b : Given) → d ≡ NlTaken m → b ≡ givenBy (m .flags) → nlText b s m ≡ nlAuthLine s
+  pub nl-taken : (m : NlAuth) → d ≡ NlTaken m → nlText s m ≡ nlAuthLine s
   unfolding nlAuthLine
-  nl-taken m b h p = simp (← g, h, p)
+  nl-taken m h = simp (← g, h)
 
   pub nl-refused : (e : Refusal) → d ≡ NlRefused e → refusedLine e ≡ nlAuthLine s
   unfolding nlAuthLine

@@ -24,12 +24,12 @@ use Rattle.challenge.specs.Challenge.{readChallenge}
 use Rattle.line_refused.specs.Refused.{refusedLine}
 use Rattle.line_nego.specs.Nego.{negoText}
 use Rattle.line_auth.specs.Auth.{authText}
-use Rattle.line_nl.specs.Nl.{givenBy, nlText}
+use Rattle.line_nl.specs.Nl.{nlText}
 use Rattle.line_chal.specs.Chal.{chalText}
 
 -- the line of a message read as AUTHENTICATE
 abbrev pub authLine : List ℕ → Reading → List ℕ
-authLine s (Taken a) = authText (unicode (a .flags)) s a
+authLine s (Taken a) = authText s a
 authLine s (Refused e) = refusedLine e
 
 unfoldable pub authenticateLine : List ℕ → List ℕ
@@ -37,7 +37,7 @@ authenticateLine s = authLine s (readAuthenticate s .reading)
 
 -- the line of a message read as NL_AUTH
 abbrev pub nlLine : List ℕ → NlReading → List ℕ
-nlLine s (NlTaken m) = nlText (givenBy (m .flags)) s m
+nlLine s (NlTaken m) = nlText s m
 nlLine s (NlRefused e) = refusedLine e
 
 unfoldable pub nlAuthLine : List ℕ → List ℕ

@@ -19,7 +19,7 @@ pub fn authenticate_line(msg: &[u8], out: &mut [u8]) -> Written
     let answer = authenticate::read(msg);
     let reading = answer.reading;
     match reading {
-        Reading::Taken(a) => line_auth::write(out, msg, a, a.flags.unicode()),
+        Reading::Taken(a) => line_auth::write(out, msg, a),
         Reading::Refused(e) => line_refused::write(out, e),
     }
 }
@@ -31,7 +31,7 @@ pub fn nl_auth_line(msg: &[u8], out: &mut [u8]) -> Written
 {
     let reading = nl_auth::read(msg);
     match reading {
-        NlAuthReading::Taken(m) => line_nl::write(out, msg, m, line_nl::given_by(m.flags)),
+        NlAuthReading::Taken(m) => line_nl::write(out, msg, m),
         NlAuthReading::Refused(e) => line_refused::write(out, e),
     }
 }

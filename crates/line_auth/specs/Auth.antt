@@ -5,9 +5,11 @@ use mathlib.Core.List.{List, _++_}
 use Rattle.text.specs.Text.{ascii}
 use Rattle.field.specs.declared.Field.{Field}
 use Rattle.field.specs.Field.{fieldBytes}
+use Rattle.negotiate_flags.specs.Flags.{unicode}
 use Rattle.authenticate.specs.declared.Authenticate.{Authenticate}
 use Rattle.word.specs.Words.{numberWord, nameWord, startText, micWord, kindWord, lineEnd}
 
+-- the names, in units of 16 bits with UNICODE
 unfoldable pub authNames : Bool → List ℕ → Field → Field → Field → List ℕ
 authNames unicode s domain user workstation =
     nameWord (ascii " domain=") unicode (fieldBytes s domain) ++ (
@@ -24,9 +26,9 @@ authLengths lm nt key =
 unfoldable pub authEnd : Bool → ℕ → List ℕ
 authEnd mic nt = micWord mic ++ (kindWord nt ++ lineEnd)
 
-unfoldable pub authText : Bool → List ℕ → Authenticate → List ℕ
-authText unicode s a =
-    startText (ascii "auth") (a .flags) unicode ++ (
-    authNames unicode s (a .fields .domain) (a .fields .user) (a .fields .workstation) ++ (
+unfoldable pub authText : List ℕ → Authenticate → List ℕ
+authText s a =
+    startText (ascii "auth") (a .flags) (unicode (a .flags)) ++ (
+    authNames (unicode (a .flags)) s (a .fields .domain) (a .fields .user) (a .fields .workstation) ++ (
     authLengths (a .fields .lm .len) (a .fields .nt .len) (a .fields .key .len) ++
     authEnd (a .«mic_present») (a .fields .nt .len)))

@@ -2,6 +2,7 @@
 ghost use mathlib.Core.Path.{_≡_};
 ghost use Prim.Native.Nat.{_+_, _≤_};
 ghost use lib.ListN.{length};
+ghost use Rattle.negotiate_flags.specs.Flags.{unicode};
 ghost use Rattle.place.specs.Place.{Wrote};
 ghost use Rattle.place.specs.Written.{roomHolds, bytesAnswer, bytesAfter};
 ghost use Rattle.word.specs.Words.{Room, micWord, kindWord};
@@ -45,8 +46,8 @@ fn kind_size(nt: u16) -> usize
 
 // Check 33. Where there is room for four bytes to each byte of the names, the line has room whatever they hold and need not be
 // measured: 25 for the start, 20 for the labels, 6 for the MIC's word, 10 for the kind's and 1 for the line's end.
-fn fits(msg: &[u8], a: Authenticate, unicode: bool, room: usize) -> Checked
-    ensures { λ r. ⌜ r ≡ roomHolds (length (authText unicode (now (msg .entry)) a)) room ⌝ }
+fn fits(msg: &[u8], a: Authenticate, room: usize) -> Checked
+    ensures { λ r. ⌜ r ≡ roomHolds (length (authText (now (msg .entry)) a)) room ⌝ }
 {
     let f = a.fields;
     let lengths = lengths_size(f.lm.len, f.nt.len, f.key.len);
@@ -54,7 +55,7 @@ fn fits(msg: &[u8], a: Authenticate, unicode: bool, room: usize) -> Checked
     if 62 + lengths + 4 * names_len <= room {
         return Checked::Held;
     }
-    let names = names_size(msg, f.domain, f.user, f.workstation, unicode);
+    let names = names_size(msg, f.domain, f.user, f.workstation, a.flags.unicode());
     room_holds(25 + names + lengths + 6 + kind_size(f.nt.len) + 1, room)
 }
 
@@ -116,25 +117,26 @@ fn put_end(p: Place, out: &mut [u8], mic: bool, nt: u16) -> Place
     p.put_u8(out, b'\n')
 }
 
-fn put(out: &mut [u8], msg: &[u8], a: Authenticate, unicode: bool) -> Place
-    requires { ⌜ Room 0 (authText unicode (now msg) a) (length (now out)) ⌝ }
-    ensures { λ r. ⌜ Wrote (now (out .entry)) (now (out .exit)) 0 (r .at) (authText unicode (now (msg .entry)) a) ⌝ }
+fn put(out: &mut [u8], msg: &[u8], a: Authenticate, wide: bool) -> Place
+    requires { ⌜ wide ≡ unicode (a .flags) ⌝ }
+    requires { ⌜ Room 0 (authText (now msg) a) (length (now out)) ⌝ }
+    ensures { λ r. ⌜ Wrote (now (out .entry)) (now (out .exit)) 0 (r .at) (authText (now (msg .entry)) a) ⌝ }
 {
     let f = a.fields;
-    let p = put_start(out, b"auth", a.flags, unicode);
-    let p = put_names(p, out, msg, f.domain, f.user, f.workstation, unicode);
+    let p = put_start(out, b"auth", a.flags, wide);
+    let p = put_names(p, out, msg, f.domain, f.user, f.workstation, wide);
     let p = put_lengths(p, out, f.lm.len, f.nt.len, f.key.len);
     put_end(p, out, a.mic_present, f.nt.len)
 }
 
-// The line of `a`, which was read from the message; `unicode` is the answer of its flags.
-pub fn write(out: &mut [u8], msg: &[u8], a: Authenticate, unicode: bool) -> Written
-    ensures answer { λ r. ⌜ r ≡ bytesAnswer (authText unicode (now (msg .entry)) a) (now (out .entry)) ⌝ }
-    ensures content { λ _. ⌜ now (out .exit) ≡ bytesAfter (authText unicode (now (msg .entry)) a) (now (out .entry)) ⌝ }
+// The line of `a`, which was read from the message.
+pub fn write(out: &mut [u8], msg: &[u8], a: Authenticate) -> Written
+    ensures answer { λ r. ⌜ r ≡ bytesAnswer (authText (now (msg .entry)) a) (now (out .entry)) ⌝ }
+    ensures content { λ _. ⌜ now (out .exit) ≡ bytesAfter (authText (now (msg .entry)) a) (now (out .entry)) ⌝ }
 {
-    let Checked::Held = fits(msg, a, unicode, out.len()) else {
+    let Checked::Held = fits(msg, a, out.len()) else {
         return Written::Refused(Refusal::NoRoom);
     };
-    let p = put(out, msg, a, unicode);
+    let p = put(out, msg, a, a.flags.unicode());
     Written::Length(p.at)
 }

@@ -1,5 +1,5 @@
 -- Laws of what is written: its bytes, its length and its checks.
-use Prim.Native.Nat.{ℕ, _+_, _≤_}
+use Prim.Native.Nat.{ℕ, _+_, _≤_, min}
 use mathlib.Core.Path.{_≡_, refl, sym, _∙_}
 use mathlib.Core.Bool.{true, _||_, not}
 use mathlib.Core.List.{List, _++_}
@@ -15,7 +15,6 @@ use Rattle.wire.specs.declared.refusal.Refusal.the-variants.{NoCharset, TooLong
 use Rattle.negotiate_flags.specs.Flags.{unicode, oem, withOemDomainSupplied, withOemWorkstationSupplied}
 use Rattle.wire.proofs.Laws.{chain, after-clear}
 use Rattle.place.specs.Place.{Wrote}
-use Rattle.place.specs.Written.{counted}
 use Rattle.place.proofs.Numbers.{length-le32}
 use Rattle.place.proofs.Writings.{measured, counted-on}
 use Rattle.field_writing.specs.Writing.{fieldOf}
@@ -61,8 +60,8 @@ module _ (domain workstation : List ℕ) where
   payload-ends l k p q e w = w .place ∙ rw e refl
 
   -- the names' lengths, counted one after the other
-  pub size-is : (a r : ℕ) → a ≡ counted (40 + length domain) → r ≡ counted (a + length workstation) →
-      r ≡ counted (sizeToWrite domain workstation)
+  pub size-is : (a r : ℕ) → a ≡ min 65536 (40 + length domain) → r ≡ min 65536 (a + length workstation) →
+      r ≡ min 65536 (sizeToWrite domain workstation)
   size-is a r p q =
       let sum : 40 + length domain + length workstation ≡ sizeToWrite domain workstation = omega (arith, length-append domain workstation) in
       rw (← sum) (counted-on (40 + length domain) (length workstation) a r p q)

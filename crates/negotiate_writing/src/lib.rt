@@ -1,10 +1,9 @@
 // NEGOTIATE_MESSAGE (MS-NLMP 2.2.1.1): writing.
 ghost use mathlib.Core.Path.{_≡_};
 ghost use mathlib.Core.List.{_++_};
-ghost use Prim.Native.Nat.{_+_, _≤_};
+ghost use Prim.Native.Nat.{_+_, _≤_, min};
 ghost use lib.ListN.{length};
 ghost use Rattle.place.specs.Place.{Wrote};
-ghost use Rattle.place.specs.Written.{counted};
 ghost use Rattle.negotiate_writing.specs.Writing.{flagsToWrite, fieldsTo, afterType, fixedBytes, negotiateBytes, sizeToWrite, checkToWrite, writeAnswer, writeOut};
 use field_writing::field_to;
 use field_writing::put_at;
@@ -23,7 +22,7 @@ use wire::refusal::Refusal;
 
 // The message's length, as it is counted for check 30.
 fn size_to_write(domain: &[u8], workstation: &[u8]) -> usize
-    ensures { λ r. ⌜ r ≡ counted (sizeToWrite (now (domain .entry)) (now (workstation .entry))) ⌝ }
+    ensures { λ r. ⌜ r ≡ min 65536 (sizeToWrite (now (domain .entry)) (now (workstation .entry))) ⌝ }
 {
     add_capped(add_capped(40, domain.len()), workstation.len())
 }

@@ -1,5 +1,5 @@
 -- Laws of what is written: the strings of set bits, a message's length, and its checks.
-use Prim.Native.Nat.{ℕ, _+_, _-_, _≤_}
+use Prim.Native.Nat.{ℕ, _+_, _-_, _≤_, min}
 use mathlib.Core.Path.{_≡_, refl, sym, _∙_}
 use mathlib.Core.Bool.{Bool, true, false, not}
 use mathlib.Core.List.{List, [], _∷_}
@@ -18,7 +18,7 @@ use Rattle.wire.proofs.Laws.{chain, held-true}
 use Rattle.place.specs.declared.written.Written.{Written}
 use Rattle.place.specs.declared.written.Written.the-variants.{Length}
 use Rattle.place.specs.Place.{Wrote}
-use Rattle.place.specs.Written.{sizeHolds, roomHolds, counted, atFront}
+use Rattle.place.specs.Written.{sizeHolds, roomHolds, atFront}
 use Rattle.place.proofs.Laws.{and-then, nothing, kept}
 use Rattle.place.proofs.Numbers.{length-le32}
 use Rattle.place.proofs.Writings.{whole-length, whole-content}
@@ -43,7 +43,7 @@ module _ (s : List ℕ) (b d : Bool) (q : b ≡ d) (h : b ≡ true) where
   pub set-wrote : (l k : List ℕ) (i p : ℕ) → Wrote l k i p (stringBytes s) → Wrote l k i p (bytesUnder d s)
   set-wrote l k i p w = rw set-bytes w
 
-  pub set-size : (n m r : ℕ) → m ≡ counted (n + length s) → r ≡ counted (m + 1) → r ≡ counted (n + length (bytesUnder d s))
+  pub set-size : (n m r : ℕ) → m ≡ min 65536 (n + length s) → r ≡ min 65536 (m + 1) → r ≡ min 65536 (n + length (bytesUnder d s))
   set-size n m r e f = omega (arith, set-length)
 
   pub set-zero : (n : ℕ) (r : Checked) → n ≡ beforeZero s → r ≡ checked (not (ltb n (length s))) → r ≡ noZero (d, s)
@@ -58,7 +58,7 @@ module _ (s : List ℕ) (b d : Bool) (q : b ≡ d) (h : b ≡ false) where
   pub clear-wrote : (l : List ℕ) (i : ℕ) → Wrote l l i i (bytesUnder d s)
   clear-wrote l i = rw clear-bytes (nothing l i)
 
-  pub clear-size : (n : ℕ) → n ≤ 65536 → n ≡ counted (n + length (bytesUnder d s))
+  pub clear-size : (n : ℕ) → n ≤ 65536 → n ≡ min 65536 (n + length (bytesUnder d s))
   clear-size n l = simp (clear-bytes, add-zero) (omega arith)
 
   pub clear-zero : Held ≡ noZero (d, s)
@@ -85,12 +85,12 @@ module _ (flags : NlAuthFlags) (a b c d e : List ℕ) where
 
   -- the strings' lengths, counted one by one
   pub size-is : (k l m n r : ℕ) →
-      k ≡ counted (8 + length (bytesUnder (nbDomain flags) a)) →
-      l ≡ counted (k + length (bytesUnder (nbComputer flags) b)) →
-      m ≡ counted (l + length (bytesUnder (dnsDomain flags) c)) →
-      n ≡ counted (m + length (bytesUnder (dnsHost flags) d)) →
-      r ≡ counted (n + length (bytesUnder (utf8Computer flags) e)) →
-      r ≡ counted (length (requestBytes flags a b c d e))
+      k ≡ min 65536 (8 + length (bytesUnder (nbDomain flags) a)) →
+      l ≡ min 65536 (k + length (bytesUnder (nbComputer flags) b)) →
+      m ≡ min 65536 (l + length (bytesUnder (dnsDomain flags) c)) →
+      n ≡ min 65536 (m + length (bytesUnder (dnsHost flags) d)) →
+      r ≡ min 65536 (n + length (bytesUnder (utf8Computer flags) e)) →
+      r ≡ min 65536 (length (requestBytes flags a b c d e))
   size-is k l m n r p q s t u = omega (arith, length-request)
 
 -- ---- the checks

@@ -1,9 +1,8 @@
 // NL_AUTH_MESSAGE (MS-NRPC 2.2.1.3.1): writing. The strings of bits A to E are lent as `a` to `e`.
 ghost use mathlib.Core.Path.{_≡_};
-ghost use Prim.Native.Nat.{_+_, _≤_, _<_};
+ghost use Prim.Native.Nat.{_+_, _≤_, _<_, min};
 ghost use lib.ListN.{length};
 ghost use Rattle.place.specs.Place.{Wrote};
-ghost use Rattle.place.specs.Written.{counted};
 ghost use Rattle.wire.specs.Number.{has};
 ghost use Rattle.nl_auth_flags.specs.Flags.{nbDomain, nbComputer, dnsDomain, dnsHost, utf8Computer, known};
 ghost use Rattle.nl_auth_writing.specs.Writing.{headBytes, stringBytes, bytesUnder, utf8Bytes, requestBytes, noZero, checkZeros, checkRequest, requestAnswer, requestOut, responseAnswer, responseOut};
@@ -57,7 +56,7 @@ fn check_zeros(flags: NlAuthFlags, a: &[u8], b: &[u8], c: &[u8], d: &[u8], e: &[
 // A length so far, and with the string of a bit.
 fn size_with(n: usize, flags: NlAuthFlags, mask: u32, string: &[u8]) -> usize
     requires { ⌜ (n ≤ 65536) × (0 < mask) ⌝ }
-    ensures { λ r. ⌜ r ≡ counted (n + length (bytesUnder (has (flags .bits) mask) (now (string .entry)))) ⌝ }
+    ensures { λ r. ⌜ r ≡ min 65536 (n + length (bytesUnder (has (flags .bits) mask) (now (string .entry)))) ⌝ }
 {
     if has(flags.bits, mask) {
         return add_capped(add_capped(n, string.len()), 1);
@@ -67,7 +66,7 @@ fn size_with(n: usize, flags: NlAuthFlags, mask: u32, string: &[u8]) -> usize
 
 // The length of a request, as it is counted for check 30.
 fn request_size(flags: NlAuthFlags, a: &[u8], b: &[u8], c: &[u8], d: &[u8], e: &[u8]) -> usize
-    ensures { λ r. ⌜ r ≡ counted (length (requestBytes flags (now (a .entry)) (now (b .entry)) (now (c .entry)) (now (d .entry)) (now (e .entry)))) ⌝ }
+    ensures { λ r. ⌜ r ≡ min 65536 (length (requestBytes flags (now (a .entry)) (now (b .entry)) (now (c .entry)) (now (d .entry)) (now (e .entry)))) ⌝ }
 {
     let n = size_with(8, flags, NlAuthFlags::NB_DOMAIN, a);
     let n = size_with(n, flags, NlAuthFlags::NB_COMPUTER, b);

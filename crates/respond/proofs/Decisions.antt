@@ -2,6 +2,7 @@
 use mathlib.Core.Path.{_≡_, sym, _∙_}
 use mathlib.Core.Bool.{Bool, false, _||_, _&&_, not}
 use mathlib.Core.List.{List}
+use mathlib.Core.Logic.{_⊎_, inl, inr}
 use Prim.Native.Nat.{ℕ}
 use Rattle.wire.specs.declared.check.Checked.{Checked}
 use Rattle.wire.specs.declared.check.Checked.the-variants.{Held}
@@ -13,15 +14,16 @@ use Rattle.wire.proofs.Laws.{chain}
 use Rattle.challenge.specs.declared.Challenge.{Challenge}
 use Rattle.challenge.specs.declared.Reading.{Reading}
 use Rattle.challenge.specs.declared.Reading.the-variants.{Taken, Refused as Unread}
+use Rattle.challenge.proofs.Laws.{reading-told}
 use Rattle.target_info.specs.declared.ServerNames.{ServerNames}
 use Rattle.target_info.specs.declared.Timestamp.{Timestamp}
-use Rattle.challenge.specs.Challenge.{readingOf, readingRefusal}
+use Rattle.challenge.specs.Challenge.{readingOf}
 use Rattle.target_info.specs.TargetInfo.{timestampIn, serverNamesIn}
 use Rattle.respond.specs.declared.decision.Settings.{Settings}
 use Rattle.respond.specs.declared.decision.Decision.{Decision}
 use Rattle.respond.specs.declared.decision.Decided.{Decided}
 use Rattle.respond.specs.declared.decision.Decided.the-variants.{Taken as Answerable, Refused}
-use Rattle.respond.specs.Decision.{strengthHolds, serverNamesHold, decisionOn, onDecided, decidedRefusal}
+use Rattle.respond.specs.Decision.{strengthHolds, serverNamesHold, decisionOn, onDecided}
 use Rattle.respond.proofs.Domains.{on-taken}
 
 pub strength-is : (settings : Settings) (flags : NegotiateFlags) (b : Bool) (r : Checked) → b ≡ negotiate128 flags →
@@ -51,24 +53,26 @@ pub ruleset decision = (chain, on-taken, of-list, decided-is)
 pub taken-as : (s : List ℕ) (r : Reading) (c : Challenge) → r ≡ readingOf s → r ≡ Taken c → readingOf s ≡ Taken c
 taken-as s r c e h = sym e ∙ h
 
-pub undecided : (settings : Settings) (s : List ℕ) (r : Reading) (e d : Refusal) → r ≡ readingOf s → r ≡ Unread e → d ≡ readingRefusal r →
-    Refused d ≡ decisionOn settings s
+pub undecided : (settings : Settings) (s : List ℕ) (r : Reading) (e d : Refusal) → r ≡ readingOf s → r ≡ Unread e →
+    (r ≡ Unread d) ⊎ ((c : Challenge) × (r ≡ Taken c)) → Refused d ≡ decisionOn settings s
 unfolding decisionOn
-undecided settings s r e d p h q = simp (← p, h, q)
+undecided settings s r e d p h q = simp (← p, reading-told r e d h q)
 
 -- what follows the decision on a challenge that was not taken
 pub unread-stops : {A : Type 0} (settings : Settings) (s : List ℕ) (f : Refusal → A) (r : Reading) (e d : Refusal) (x : Decision → A) (y : A) →
-    r ≡ readingOf s → r ≡ Unread e → d ≡ readingRefusal r → y ≡ f d → y ≡ onDecided f (decisionOn settings s) x
+    r ≡ readingOf s → r ≡ Unread e → (r ≡ Unread d) ⊎ ((c : Challenge) × (r ≡ Taken c)) → y ≡ f d →
+    y ≡ onDecided f (decisionOn settings s) x
 unread-stops settings s f r e d x y p h q z = z ∙ simp (← undecided settings s r e d p h q)
-
-pub refusal-is : (v w : Decided) (e : Refusal) → v ≡ w → e ≡ decidedRefusal w → e ≡ decidedRefusal v
-refusal-is v w e p q = rw p q
 
 -- what follows a challenge that was taken, and one that was refused
 pub with-decided : {A : Type 0} (f : Refusal → A) (k r : Decided) (d : Decision) (x : Decision → A) (y : A) →
     r ≡ k → r ≡ Answerable d → y ≡ x d → y ≡ onDecided f k x
 with-decided f k r d x y p h q = simp (← p, h) q
 
+decided-told : (r : Decided) (e d : Refusal) → r ≡ Refused e → (r ≡ Refused d) ⊎ ((a : Decision) × (r ≡ Answerable a)) → r ≡ Refused d
+decided-told r e d h (inl q) = q
+decided-told r e d h (inr q) = let no : Refused e ≡ Answerable (q .0) = sym h ∙ q .1 in cc
+
 pub decision-stops : {A : Type 0} (f : Refusal → A) (k r : Decided) (e d : Refusal) (x : Decision → A) (y : A) →
-    r ≡ k → r ≡ Refused e → d ≡ decidedRefusal r → y ≡ f d → y ≡ onDecided f k x
-decision-stops f k r e d x y p h q z = z ∙ simp (← p, q, h)
+    r ≡ k → r ≡ Refused e → (r ≡ Refused d) ⊎ ((a : Decision) × (r ≡ Answerable a)) → y ≡ f d → y ≡ onDecided f k x
+decision-stops f k r e d x y p h q z = z ∙ simp (← p, decided-told r e d h q)

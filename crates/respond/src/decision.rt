@@ -1,11 +1,14 @@
 // The decision on a challenge: what the settings want of it, and what of it decides the answer.
 ghost use mathlib.Core.Path.{_≡_};
+ghost use mathlib.Core.Logic.{_⊎_};
 ghost use Rattle.wire.specs.declared.check.Verdict.the-variants.{Clear};
 ghost use Rattle.av_pairs.specs.AvPairs.{checkPairs};
 ghost use Rattle.challenge.specs.declared.Reading.the-variants.{Taken as Read};
 ghost use Rattle.challenge.specs.Challenge.{readingOf};
 ghost use Rattle.target_info.specs.TargetInfo.{serverNamesIn};
-ghost use Rattle.respond.specs.Decision.{defaults, strengthHolds, serverNamesHold, decisionOn, decidedRefusal};
+ghost use Rattle.respond.specs.declared.decision.Decision.{Decision};
+ghost use Rattle.respond.specs.declared.decision.Decided.the-variants.{Taken, Refused};
+ghost use Rattle.respond.specs.Decision.{defaults, strengthHolds, serverNamesHold, decisionOn};
 use challenge::Challenge;
 use challenge::Reading;
 use challenge::read;
@@ -110,7 +113,7 @@ pub fn decide(settings: Settings, challenge: &[u8]) -> Decided
 impl Decided {
     // The refusal of a challenge that was refused; callers ask for it only then.
     pub fn refusal(self) -> Refusal
-        ensures { λ r. ⌜ r ≡ decidedRefusal self ⌝ }
+        ensures { λ r. ⌜ (self ≡ Refused r) ⊎ ((d : Decision) × (self ≡ Taken d)) ⌝ }
     {
         match self {
             Decided::Refused(e) => e,

@@ -1,12 +1,14 @@
 // A name in a log line, unit by unit.
 ghost use mathlib.Core.Path.{_≡_};
+ghost use mathlib.Core.Bool.{cond};
 ghost use Prim.Native.Nat.{_+_, _*_, _≤_, _<_};
-ghost use lib.ListN.{length};
+ghost use lib.ListN.{length, getD};
+ghost use Rattle.wire.specs.Number.{u16At};
 ghost use Rattle.field.specs.Field.{fieldBytes};
 ghost use Rattle.place.specs.Place.{Wrote};
 ghost use mathlib.Core.List.{_∷_};
 ghost use Rattle.word.specs.Digits.{hex};
-ghost use Rattle.word.specs.Name.{plain, unitText, nameText, unitWidth, unitAt};
+ghost use Rattle.word.specs.Name.{plain, unitText, nameText};
 use crate::digits::put_hex;
 use field::Field;
 use place::Place;
@@ -21,7 +23,7 @@ fn is_plain(u: u16) -> bool
 
 // How many bytes a unit has.
 fn unit_width(unicode: bool) -> usize
-    ensures { λ r. ⌜ (r ≡ unitWidth unicode) × ((1 ≤ r) × (r ≤ 2)) ⌝ }
+    ensures { λ r. ⌜ (r ≡ cond unicode 2 1) × ((1 ≤ r) × (r ≤ 2)) ⌝ }
 {
     if unicode {
         return 2;
@@ -31,8 +33,8 @@ fn unit_width(unicode: bool) -> usize
 
 // The unit at a place of a name.
 fn unit_at(name: &[u8], at: usize, unicode: bool) -> u16
-    requires { ⌜ at + unitWidth unicode ≤ length (now name) ⌝ }
-    ensures { λ r. ⌜ r ≡ unitAt unicode (now (name .entry)) at ⌝ }
+    requires { ⌜ at + cond unicode 2 1 ≤ length (now name) ⌝ }
+    ensures { λ r. ⌜ r ≡ cond unicode (u16At (now (name .entry)) at) (getD (now (name .entry)) at 0) ⌝ }
 {
     if unicode {
         return u16_at(name, at);

@@ -1,6 +1,5 @@
 -- `check_fields` makes checks 6 to 9 in their order.
 use borrow.Author.Needs.{needs}
-use Rattle.authenticate.proofs.Bounds.{by-names}
 use Rattle.authenticate.proofs.check_fields.Statement.{statement}
 use Rattle.authenticate.proofs.check_fields.Tie as tie
 use Rattle.authenticate.specs.Authenticate.{checkFields}
@@ -11,7 +10,6 @@ unfolding checkFields
 check-fields-spec =
     tie.close
     (tie.spec
-    (λ c κs. search needs) (λ c κs. search needs) (λ c. search (by-names, c .before .before .usual-layout .ensures))
     (λ c κs. search needs) (λ c. search needs) (λ c. search needs) (λ c. search groups)
     (λ c κs. search needs) (λ c. search needs) (λ c. search needs) (λ c. search groups)
     (λ c κs. search needs) (λ c. search needs) (λ c. search needs) (λ c. search groups)

@@ -1,6 +1,6 @@
 -- `mic_present` is document 01's rule of the lowest offset.
 use borrow.Author.Needs.{needs}
-use Rattle.authenticate.proofs.Mic.{mic-by}
+use Rattle.authenticate.proofs.Mic.{mic-is}
 use Rattle.authenticate.proofs.mic_present.Statement.{statement}
 use Rattle.authenticate.proofs.mic_present.Tie as tie
 
@@ -8,6 +8,10 @@ pub mic-present-spec : {M : Type 1} → statement M
 mic-present-spec =
     tie.close
     (tie.spec
-    (λ c κs. search needs) (λ c.
+    (λ c κs. search needs) (λ c κs. search needs) (λ c κs. search needs) (λ c κs. search needs)
+    (λ c κs. search needs) (λ c κs. search needs) (λ c.
     let d = c .before .before .before .before .before .before in
-    mic-by (d .before .args .n) (d .before .args .f) (d .lowest .result) (d .lowest .ensures)))
+    let e = d .before .before .before in
+    mic-is (e .before .before .before .args .n) (e .before .before .before .args .f)
+    (e .before .before .begins .ensures) (e .before .begins2 .ensures) (e .begins3 .ensures)
+    (d .before .before .begins4 .ensures) (d .before .begins5 .ensures) (d .begins6 .ensures)))

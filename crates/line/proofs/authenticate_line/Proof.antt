@@ -9,6 +9,6 @@ pub authenticate-line-spec : {M : Type 1} → statement M
 authenticate-line-spec =
     tie.close
     (tie.spec
-    (λ c κs. search needs) (λ c. search needs) (λ c κs. search needs) (λ c κs. search needs) (λ c. search needs)
+    (λ c κs. search needs) (λ c. search needs) (λ c κs. search needs) (λ c. search needs)
     (λ c κs. search needs) (λ c. search needs) (λ c. (search (same-line, auth-taken), search (same-line, auth-taken)))
     (λ c. search needs) (λ c. (search (same-line, auth-refused), search (same-line, auth-refused))))

@@ -9,6 +9,6 @@ pub nl-auth-line-spec : {M : Type 1} → statement M
 nl-auth-line-spec =
     tie.close
     (tie.spec
-    (λ c κs. search needs) (λ c. search needs) (λ c κs. search needs) (λ c κs. search needs) (λ c. search needs)
+    (λ c κs. search needs) (λ c. search needs) (λ c κs. search needs) (λ c. search needs)
     (λ c κs. search needs) (λ c. search needs) (λ c. (search (same-line, nl-taken), search (same-line, nl-taken)))
     (λ c. search needs) (λ c. (search (same-line, nl-refused), search (same-line, nl-refused))))

@@ -2,10 +2,10 @@
 use borrow.Author.Needs.{needs}
 use native.Mathlib.Omega.{arith}
 use Rattle.line_nl.proofs.Laws.{nl-room}
-use Rattle.line_nl.proofs.put.Statement.{statement}
-use Rattle.line_nl.proofs.put.Tie as tie
 use Rattle.line_nl.specs.Nl.{nlText}
 use Rattle.place.proofs.Laws.{and-then}
+use Rattle.line_nl.proofs.put.Statement.{statement}
+use Rattle.line_nl.proofs.put.Tie as tie
 
 pub put-spec : {M : Type 1} → statement M
 unfolding nlText
