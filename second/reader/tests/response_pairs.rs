@@ -472,6 +472,25 @@ fn smbclient_sends_this_list() {
 }
 
 #[test]
+fn a_challenge_in_oem_is_answered_the_same_way() {
+    // As smbclient answered it, but for its pair 8. The names in pairs are UTF-16
+    // whatever the flags say, and TargetInfo stands at an odd offset here.
+    let server = utf16("PEERSRV");
+    let expected: [(u16, &[u8]); 8] = [
+        (2, &server),
+        (1, &server),
+        (4, b""),
+        (3, &utf16("vm")),
+        (7, &0x01DD_750F_5CCF_BCFE_u64.to_le_bytes()),
+        (6, &[2, 0, 0, 0]),
+        (10, &[0; 16]),
+        (9, &utf16("cifs/127.0.0.1")),
+    ];
+    let ours = as_others_send(&message("challenge-smbd-oem.bin"), "cifs/127.0.0.1");
+    assert_eq!(ours, list(&expected));
+}
+
+#[test]
 fn libdcerpc_sends_this_list_to_a_domain_controller() {
     // Samba 4.17.12, in answer to `challenge-samba-ad-dc.b64`, with a pair 8 of
     // its own too.
