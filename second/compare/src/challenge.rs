@@ -162,30 +162,29 @@ fn counts(random: &mut Random, messages: &mut Vec<Vec<u8>>) {
 /// doesn't count.
 pub fn orders(random: &mut Random, messages: &mut Vec<Vec<u8>>) {
     let ids = [1, 6, TIMESTAMP, 9, 10];
-    let mut sequences: Vec<Vec<u16>> = vec![Vec::new()];
-    for len in 0..3 {
-        let longest: Vec<Vec<u16>> = sequences
-            .iter()
-            .filter(|ids| ids.len() == len)
-            .cloned()
-            .collect();
-        for sequence in longest {
-            sequences.extend(ids.map(|id| [&sequence[..], &[id]].concat()));
-        }
-    }
-    for ids in sequences {
+    for ids in sequences(&ids, 3) {
         let list = List::sound(random, &ids).ended();
         messages.push(with_list(random, &list));
     }
     for order in permutations(&ids[1..]) {
-        for ids in [order.clone(), [&order[..], &[1], &order].concat()] {
-            let list = List::sound(random, &ids).ended();
-            messages.push(with_list(random, &list));
-        }
-        let list = List::sound(random, &order).ended();
-        let message = KIND.of(random, UNICODE | REQUEST_TARGET, PAYLOAD, [&[], &list]);
-        messages.push(message.bytes());
+        let once = List::sound(random, &order).ended();
+        messages.push(with_list(random, &once));
+        let twice = List::sound(random, &[&order[..], &[1], &order].concat()).ended();
+        messages.push(with_list(random, &twice));
+        let uncounted = KIND.of(random, UNICODE | REQUEST_TARGET, PAYLOAD, [&[], &once]);
+        messages.push(uncounted.bytes());
     }
+}
+
+/// Every sequence of up to so many of these ids.
+fn sequences(ids: &[u16], longest: usize) -> Vec<Vec<u16>> {
+    let mut all = vec![Vec::new()];
+    if longest > 0 {
+        for rest in sequences(ids, longest - 1) {
+            all.extend(ids.iter().map(|&id| [&[id], &rest[..]].concat()));
+        }
+    }
+    all
 }
 
 /// Every order of these ids.

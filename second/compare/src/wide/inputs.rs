@@ -271,8 +271,8 @@ pub fn target_name(random: &mut Random) -> Vec<u8> {
     name(random, set, units)
 }
 
-/// A target name of odd length, or one of either that makes a list of around
-/// 65,535 bytes, or far more, with the `others` that stand beside it.
+/// A short target name of odd length, or one of any length that makes a list of
+/// around 65,535 bytes, or of far more, with the `others` that stand beside it.
 pub fn odd_or_long_name(random: &mut Random, others: usize) -> Vec<u8> {
     let len = if random.one_in(6) {
         let exact = random.pick(&LONG).saturating_sub(others);
