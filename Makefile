@@ -1,26 +1,46 @@
 # make help lists the targets.
-.PHONY: help run lib test compare wide bench
+.PHONY: help run lib lib-small lib-thumb install test test-firmware compare wide bench
 
 MESSAGES ?= messages
-export MESSAGES
+PREFIX ?= /usr/local
+TARGET ?= thumbv7m-none-eabi
+export MESSAGES DESTDIR
 
 help:
-	@echo 'make run      the depot bench: every message in messages/ through the proved program and the second one;'
-	@echo '              MESSAGES=folder for another folder. The status is 0 where all lines are the same'
-	@echo 'make lib      the library for C and Rust: target/staticlib/libexport.a, whose header is include/dialtable.h'
-	@echo 'make test     every proof and every test; the last line is "N passed, 0 failed"'
-	@echo 'make compare  the part of it that holds the two programs against the second reader, on messages from a seed;'
-	@echo '              SEED=number for other messages, N=number for how many are drawn after those at the boundaries'
-	@echo 'make wide     the part of it that holds every call of the library against the second reader; SEED= and N= too'
-	@echo 'make bench    how fast the library is beside the second reader, its instructions and its size'
+	@echo 'make run            the depot bench: every message in messages/ through the proved program and the second one;'
+	@echo '                    MESSAGES=folder for another folder. The status is 0 where all lines are the same'
+	@echo 'make lib            the library for C and Rust: target/staticlib/libdialtable.a, whose header is include/dialtable.h'
+	@echo 'make lib-small      the same with less code: target/small/libdialtable.a'
+	@echo 'make lib-thumb      the same for a small box: target/TARGET/libdialtable.a; TARGET=thumbv7m-none-eabi is understood,'
+	@echo '                    thumbv6m-none-eabi and riscv32-unknown-elf are the others that were tried'
+	@echo 'make install        the header, the library and a file for pkg-config, under PREFIX=/usr/local, with DESTDIR= before it'
+	@echo 'make test           every proof and every test; the last line is "N passed, 0 failed"'
+	@echo 'make test-firmware  every call on an emulated Cortex-M3 and Cortex-M0 and on this machine, with the same answers;'
+	@echo '                    needs qemu-system-arm and gcc-arm-none-eabi'
+	@echo 'make compare        the part of make test that holds the two programs against the second reader, on messages from a'
+	@echo '                    seed; SEED=number for other messages, N=number for how many are drawn after those at the boundaries'
+	@echo 'make wide           the part of it that holds every call of the library against the second reader; SEED= and N= too'
+	@echo 'make bench          how fast the library is beside the second reader, its instructions, its size and its stack'
 
 run:
 	@tools/run "$$MESSAGES"
 
 lib:
-	@tools/need rt && tools/build-lib
-	@echo 'target/staticlib/libexport.a is built; its header is include/dialtable.h. To link a C program with it:'
-	@echo '    gcc -Iinclude program.c target/staticlib/libexport.a -o program'
+	@tools/build-lib
+	@echo 'target/staticlib/libdialtable.a is built; its header is include/dialtable.h. To link a C program with it:'
+	@echo '    gcc -Iinclude program.c target/staticlib/libdialtable.a -o program'
+
+lib-small:
+	@tools/build-lib && tools/build-for small
+	@echo 'target/small/libdialtable.a is built; its header is include/dialtable.h. To link only what a C program calls:'
+	@echo '    gcc -Iinclude program.c target/small/libdialtable.a -Wl,--gc-sections -o program'
+
+lib-thumb:
+	@tools/build-lib && tools/build-for '$(TARGET)'
+	@echo 'target/$(TARGET)/libdialtable.a is built; its header is include/dialtable.h'
+
+install:
+	@tools/install '$(PREFIX)'
 
 compare:
 	@tools/need rt cargo && tools/build-second && tools/build-proved && tools/compare
@@ -33,3 +53,6 @@ bench:
 
 test:
 	@tools/gate
+
+test-firmware:
+	@tools/test-firmware

@@ -1,4 +1,4 @@
-//! Finds the proved library, libexport.a, and has it linked.
+//! Finds the proved library, libdialtable.a, and has it linked.
 
 use std::env;
 use std::path::{Path, PathBuf};
@@ -6,12 +6,12 @@ use std::path::{Path, PathBuf};
 fn main() {
     println!("cargo::rerun-if-env-changed=DIALTABLE_LIB");
     let folder = folder();
-    let archive = folder.join("libexport.a");
+    let archive = folder.join("libdialtable.a");
     println!("cargo::rerun-if-changed={}", archive.display());
     if archive.is_file() {
         println!("cargo::rustc-link-search=native={}", folder.display());
         // Not bundled: the archive goes to the linker as it is.
-        println!("cargo::rustc-link-lib=static:-bundle=export");
+        println!("cargo::rustc-link-lib=static:-bundle=dialtable");
     } else {
         println!(
             "cargo::error={} is missing: run 'make lib', or set DIALTABLE_LIB to the folder that holds it",

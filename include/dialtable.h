@@ -1,12 +1,39 @@
 /*
- * Dialtable: NTLM and NL_AUTH messages read and written, with every call proved against its definition. For x86-64:
+ * Dialtable: NTLM and NL_AUTH messages read and written, with every call proved against its definition.
  *
- *     gcc -Iinclude program.c target/staticlib/libexport.a -o program
+ *     gcc -Iinclude program.c target/staticlib/libdialtable.a -o program
+ *
+ * A sign-in, in the order that it wants: the Time and the flags come before the response is worked out, and the MIC
+ * after the message is written. What is no dialtable_ call here is the box's own; own is the names of its settings.
+ *
+ *     first_len = dialtable_write_negotiate(first, sizeof first, wanted, version, NULL, 0, NULL, 0);
+ *     if (DIALTABLE_IS_REFUSED(first_len)) return first_len;
+ *     challenge_len = exchange(first, first_len, challenge, sizeof challenge);
+ *     answer = dialtable_decide(DIALTABLE_DEFAULTS, challenge, challenge_len, decision, DIALTABLE_DECISION_NUMBERS);
+ *     if (DIALTABLE_IS_REFUSED(answer)) return answer;
+ *     encode(&own, (decision[DIALTABLE_DECISION_FLAGS] & DIALTABLE_FLAG_UNICODE) != 0);
+ *     time = decision[DIALTABLE_DECISION_TIMESTAMP_THERE] ? decision[DIALTABLE_DECISION_TIMESTAMP] : clock;
+ *     work_out(&radio, challenge, challenge_len, time, &own);
+ *     answer = dialtable_respond(out, sizeof out, challenge, challenge_len, DIALTABLE_DEFAULTS, clock, version, zeros,
+ *                                radio.lm, 24, radio.nt, radio.nt_len, own.domain, own.domain_len, own.user,
+ *                                own.user_len, own.workstation, own.workstation_len, radio.key, 16, done,
+ *                                DIALTABLE_RESPONSE_NUMBERS);
+ *     if (DIALTABLE_IS_REFUSED(answer)) return answer;
+ *     if (done[DIALTABLE_RESPONSE_MIC_DUE]) mic_of(&radio, first, first_len, challenge, challenge_len, out, answer,
+ *                                                  out + DIALTABLE_MIC_AT);
+ *     line_len = dialtable_authenticate_line(out, answer, line, sizeof line);
+ *     if (!DIALTABLE_IS_REFUSED(line_len)) log_it(line, line_len);
+ *     return exchange(out, answer, NULL, 0);
+ *
+ * Names go out as they are given: the challenge's UNICODE decides, before the call, whether user, workstation and own
+ * domain must be UTF-16LE or bytes. Where the own domain is empty the server's may be sent: dialtable_domain_to_send
+ * tells it, for a response that is worked out over the domain. Ask for KEY_EXCH only together with SIGN or SEAL: to a
+ * challenge with KEY_EXCH and neither of them no key is sent, and Samba and gss-ntlmssp then refuse the sign-in.
  *
  * Every call takes bytes as they come, of any length, and always ends. Nothing is kept between calls and nothing is
  * allocated; calls are reentrant. Memory is lent for the length of the call: inputs are only read, an output is written
  * at its start and left as it was after that. An output must not overlap an input or another output. A pointer may be
- * NULL where its length is 0.
+ * NULL where its length is 0; version and mic, which come without a length, must never be NULL.
  *
  * The answer is 0, or the length of what was written, or a refusal. A refusal changes no byte of any output. An output
  * exactly as long as what is written suffices.
@@ -15,26 +42,15 @@
  *     if (DIALTABLE_IS_REFUSED(answer))
  *         complain(DIALTABLE_NUMBER(answer), DIALTABLE_FIELD(answer));
  *
- *  1 message over 65,535 bytes               13 a pair of a size that its id forbids (field 2)
- *  2 shorter than its fixed part             14 NL_AUTH request with no bit A to E
- *  3 signature differs                       15 a string without its zero byte (A = 1)
- *  4 type differs                            16 bytes after the last string
- *  5 UNICODE and OEM both clear              17 a response's buffer isn't one zero byte
- *  6 a field ends past the message           20 128-bit demanded, not in the flags
- *  7 a field begins in the fixed part        21 NTLMv2 with integrity or confidentiality: pairs 1 and 2 not both there
- *  8 a name at an odd place or odd length    30 a message to write would pass 65,535 bytes
- *  9 a name shares a byte with a secret      31 a name to write has odd length
- * 10 a pair's value passes the list (2)      32 a key neither empty nor 16 bytes, or without KEY_EXCH (field 6)
- * 11 under 4 bytes where a pair starts (2)   33 an output is too short
- * 12 end pair with length or bytes after (2) 34 an NL_AUTH string to write holds a zero byte (A = 1)
- * The field is 0 where no other is said. AUTHENTICATE: LM response 1, NT response 2, domain 3, user 4, workstation 5,
- * session key 6. CHALLENGE: target name 1, target info 2. NEGOTIATE: domain 1, workstation 2.
- *
  * Numbers come back in an array of uint64_t, at the places that are named below. An array (or a MIC's or a server
  * challenge's bytes) that is too short is refused 33, before anything is read.
  *
- * Flags are those of MS-NLMP 2.2.2.5. Names are UTF-16LE where they have UNICODE (1), else bytes (OEM, 2); those of a
- * NEGOTIATE are always bytes. Times are the 64-bit numbers of the timestamp pair.
+ * Names are UTF-16LE where the flags have UNICODE, else bytes (OEM); those of a NEGOTIATE are always bytes. Times are
+ * the 64-bit numbers of the timestamp pair.
+ *
+ * Proved is the module that the library is compiled from, for every input, in the language's own abstract machine. The
+ * compiler's work after that is not proved: it is tested, for x86-64 built fast and built small in 'make test', for
+ * Cortex-M3 and Cortex-M0 in 'make test-firmware'.
  */
 #ifndef DIALTABLE_H
 #define DIALTABLE_H
@@ -46,9 +62,59 @@
 extern "C" {
 #endif
 
+/* Every length has 64 bits, on a box with 32-bit pointers too. A length must be that of memory which is there. */
+typedef uint64_t dialtable_len;
+
 #define DIALTABLE_IS_REFUSED(answer) ((int)((uint64_t)(answer) >> 63))
 #define DIALTABLE_NUMBER(answer) ((unsigned)((uint64_t)(answer) >> 8 & 0xffu))
 #define DIALTABLE_FIELD(answer) ((unsigned)((uint64_t)(answer) & 0xffu))
+
+/* The numbers of refusals. The field is 0 where no other is said. AUTHENTICATE: LM response 1, NT response 2, domain 3,
+ * user 4, workstation 5, session key 6. CHALLENGE: target name 1, target info 2. NEGOTIATE: domain 1, workstation 2.
+ * NL_AUTH: strings A to E are 1 to 5. */
+enum {
+    DIALTABLE_REFUSED_TOO_LONG = 1,           /* message over 65,535 bytes */
+    DIALTABLE_REFUSED_TOO_SHORT = 2,          /* shorter than its fixed part */
+    DIALTABLE_REFUSED_WRONG_SIGNATURE = 3,    /* signature differs */
+    DIALTABLE_REFUSED_WRONG_TYPE = 4,         /* type differs */
+    DIALTABLE_REFUSED_NO_CHARSET = 5,         /* UNICODE and OEM both clear */
+    DIALTABLE_REFUSED_PAST_END = 6,           /* the field ends past the message */
+    DIALTABLE_REFUSED_IN_FIXED_PART = 7,      /* the field begins in the fixed part */
+    DIALTABLE_REFUSED_ODD_NAME = 8,           /* UNICODE: the name is at an odd place or of odd length */
+    DIALTABLE_REFUSED_NAME_OVER_SECRET = 9,   /* the name shares a byte with a secret */
+    DIALTABLE_REFUSED_PAIR_PAST_END = 10,     /* a pair's value passes the end of the list (field 2) */
+    DIALTABLE_REFUSED_PAIR_MISSING = 11,      /* under 4 bytes left where a pair should start (field 2) */
+    DIALTABLE_REFUSED_WRONG_END_PAIR = 12,    /* end pair with nonzero length, or bytes after it (field 2) */
+    DIALTABLE_REFUSED_WRONG_PAIR_SIZE = 13,   /* a pair of a size that its id forbids (field 2) */
+    DIALTABLE_REFUSED_NO_STRINGS = 14,        /* NL_AUTH request with no bit A to E */
+    DIALTABLE_REFUSED_UNTERMINATED = 15,      /* the string has no zero byte */
+    DIALTABLE_REFUSED_BYTES_LEFT = 16,        /* bytes after the last string */
+    DIALTABLE_REFUSED_WRONG_RESPONSE = 17,    /* a response's buffer isn't one zero byte */
+    DIALTABLE_REFUSED_NO_128_BIT = 20,        /* 128-bit demanded, not in the flags */
+    DIALTABLE_REFUSED_NO_SERVER_NAMES = 21,   /* NTLMv2 with integrity or confidentiality: not both pairs 1 and 2 */
+    DIALTABLE_REFUSED_TOO_LONG_TO_WRITE = 30, /* a message to write would pass 65,535 bytes */
+    DIALTABLE_REFUSED_ODD_NAME_TO_WRITE = 31, /* UNICODE: the name to write has odd length */
+    DIALTABLE_REFUSED_WRONG_KEY = 32,         /* a key neither empty nor 16 bytes, or without KEY_EXCH (field 6) */
+    DIALTABLE_REFUSED_NO_ROOM = 33,           /* an output is too short */
+    DIALTABLE_REFUSED_ZERO_IN_STRING = 34     /* the NL_AUTH string to write holds a zero byte */
+};
+
+/* Flags of MS-NLMP 2.2.2.5: those that the library goes by. The others are read and written as they are. UNICODE wins
+ * over OEM. */
+#define DIALTABLE_FLAG_UNICODE 0x1u
+#define DIALTABLE_FLAG_OEM 0x2u
+#define DIALTABLE_FLAG_REQUEST_TARGET 0x4u
+#define DIALTABLE_FLAG_SIGN 0x10u
+#define DIALTABLE_FLAG_SEAL 0x20u
+#define DIALTABLE_FLAG_DOMAIN_SUPPLIED 0x1000u
+#define DIALTABLE_FLAG_WORKSTATION_SUPPLIED 0x2000u
+#define DIALTABLE_FLAG_TARGET_INFO 0x800000u
+#define DIALTABLE_FLAG_VERSION 0x2000000u
+#define DIALTABLE_FLAG_128 0x20000000u
+#define DIALTABLE_FLAG_KEY_EXCH 0x40000000u
+
+/* Where the sixteen bytes of the MIC stand in an AUTHENTICATE that is written. */
+#define DIALTABLE_MIC_AT 72
 
 /* ---- Reading. A field that is empty or doesn't count has length 0 and offset 0. Offsets are from the message's
  * start. */
@@ -71,8 +137,8 @@ enum {
     DIALTABLE_AUTHENTICATE_NUMBERS
 };
 /* 16 bytes of mic: the MIC, or zeros where there is none. Answers 0. */
-uint64_t dialtable_read_authenticate(const uint8_t *msg, size_t msg_len, uint64_t *numbers, size_t numbers_len,
-                                     uint8_t *mic, size_t mic_len);
+uint64_t dialtable_read_authenticate(const uint8_t *msg, dialtable_len msg_len, uint64_t *numbers,
+                                     dialtable_len numbers_len, uint8_t *mic, dialtable_len mic_len);
 
 enum {
     DIALTABLE_CHALLENGE_FLAGS,
@@ -83,8 +149,9 @@ enum {
     DIALTABLE_CHALLENGE_NUMBERS
 };
 /* 8 bytes of server_challenge. Answers 0. */
-uint64_t dialtable_read_challenge(const uint8_t *msg, size_t msg_len, uint64_t *numbers, size_t numbers_len,
-                                  uint8_t *server_challenge, size_t server_challenge_len);
+uint64_t dialtable_read_challenge(const uint8_t *msg, dialtable_len msg_len, uint64_t *numbers,
+                                  dialtable_len numbers_len, uint8_t *server_challenge,
+                                  dialtable_len server_challenge_len);
 
 enum {
     DIALTABLE_TIMESTAMP_THERE, /* 0 or 1 */
@@ -92,7 +159,8 @@ enum {
     DIALTABLE_TIMESTAMP_NUMBERS
 };
 /* The first timestamp pair of a CHALLENGE. Answers 0. */
-uint64_t dialtable_read_timestamp(const uint8_t *msg, size_t msg_len, uint64_t *numbers, size_t numbers_len);
+uint64_t dialtable_read_timestamp(const uint8_t *msg, dialtable_len msg_len, uint64_t *numbers,
+                                  dialtable_len numbers_len);
 
 enum {
     DIALTABLE_SERVER_NAMES_NB_COMPUTER, /* 0 or 1: pair 1 is there */
@@ -100,18 +168,20 @@ enum {
     DIALTABLE_SERVER_NAMES_NUMBERS
 };
 /* Whether a CHALLENGE has pairs 1 and 2. Answers 0. */
-uint64_t dialtable_read_server_names(const uint8_t *msg, size_t msg_len, uint64_t *numbers, size_t numbers_len);
+uint64_t dialtable_read_server_names(const uint8_t *msg, dialtable_len msg_len, uint64_t *numbers,
+                                     dialtable_len numbers_len);
 
 enum {
     DIALTABLE_NEGOTIATE_FLAGS,
-    DIALTABLE_NEGOTIATE_DOMAIN_OFFSET, /* a domain counts with 0x1000 only */
+    DIALTABLE_NEGOTIATE_DOMAIN_OFFSET, /* counts with DOMAIN_SUPPLIED only */
     DIALTABLE_NEGOTIATE_DOMAIN_LEN,
-    DIALTABLE_NEGOTIATE_WORKSTATION_OFFSET, /* a workstation counts with 0x2000 only */
+    DIALTABLE_NEGOTIATE_WORKSTATION_OFFSET, /* counts with WORKSTATION_SUPPLIED only */
     DIALTABLE_NEGOTIATE_WORKSTATION_LEN,
     DIALTABLE_NEGOTIATE_NUMBERS
 };
 /* Answers 0. */
-uint64_t dialtable_read_negotiate(const uint8_t *msg, size_t msg_len, uint64_t *numbers, size_t numbers_len);
+uint64_t dialtable_read_negotiate(const uint8_t *msg, dialtable_len msg_len, uint64_t *numbers,
+                                  dialtable_len numbers_len);
 
 enum {
     DIALTABLE_NL_AUTH_TYPE,  /* 0 request, 1 response */
@@ -129,23 +199,36 @@ enum {
     DIALTABLE_NL_AUTH_NUMBERS
 };
 /* Answers 0. */
-uint64_t dialtable_read_nl_auth(const uint8_t *msg, size_t msg_len, uint64_t *numbers, size_t numbers_len);
+uint64_t dialtable_read_nl_auth(const uint8_t *msg, dialtable_len msg_len, uint64_t *numbers,
+                                dialtable_len numbers_len);
 
 /* Copies a field's own bytes out of this message. Answers how many. An offset and length that don't fit this message, so
  * that offset + len is more than msg_len, are refused 6 with field 0, before 33; those of a message that was taken fit it.
  * (Its bytes also stand at msg + offset.) */
-uint64_t dialtable_field_bytes(const uint8_t *msg, size_t msg_len, uint32_t offset, uint16_t len, uint8_t *out,
-                               size_t out_len);
+uint64_t dialtable_field_bytes(const uint8_t *msg, dialtable_len msg_len, uint32_t offset, uint16_t len, uint8_t *out,
+                               dialtable_len out_len);
 
-/* ---- TargetInfo, the pair list of a CHALLENGE, lent by itself: of any length. Places are from the list's start.
- * Ids: 1 NetBIOS computer, 2 NetBIOS domain, 3 DNS computer, 4 DNS domain, 5 DNS tree, 6 flags, 7 timestamp, 8 single
- * host, 9 target name, 10 channel bindings. */
+/* ---- TargetInfo, the pair list of a CHALLENGE, lent by itself: of any length. Places are from the list's start. */
+
+enum {
+    DIALTABLE_PAIR_NB_COMPUTER = 1,
+    DIALTABLE_PAIR_NB_DOMAIN = 2,
+    DIALTABLE_PAIR_DNS_COMPUTER = 3,
+    DIALTABLE_PAIR_DNS_DOMAIN = 4,
+    DIALTABLE_PAIR_DNS_TREE = 5,
+    DIALTABLE_PAIR_FLAGS = 6,
+    DIALTABLE_PAIR_TIMESTAMP = 7,
+    DIALTABLE_PAIR_SINGLE_HOST = 8,
+    DIALTABLE_PAIR_TARGET_NAME = 9,
+    DIALTABLE_PAIR_CHANNEL_BINDINGS = 10
+};
 
 /* Checks 10 to 13 over the whole list. Answers 0. */
-uint64_t dialtable_check_pairs(const uint8_t *list, size_t list_len);
+uint64_t dialtable_check_pairs(const uint8_t *list, dialtable_len list_len);
 
 /* numbers[0]: how many pairs, the end pair left out. Answers 0. */
-uint64_t dialtable_count_pairs(const uint8_t *list, size_t list_len, uint64_t *numbers, size_t numbers_len);
+uint64_t dialtable_count_pairs(const uint8_t *list, dialtable_len list_len, uint64_t *numbers,
+                               dialtable_len numbers_len);
 
 enum {
     DIALTABLE_FOUND_THERE, /* 0 or 1; the next two are 0 where it is 0 */
@@ -154,7 +237,8 @@ enum {
     DIALTABLE_FOUND_NUMBERS
 };
 /* The first pair with this id, after checks 10 to 13 over the whole list. Answers 0. */
-uint64_t dialtable_find_pair(const uint8_t *list, size_t list_len, uint16_t id, uint64_t *numbers, size_t numbers_len);
+uint64_t dialtable_find_pair(const uint8_t *list, dialtable_len list_len, uint16_t id, uint64_t *numbers,
+                             dialtable_len numbers_len);
 
 enum {
     DIALTABLE_NEXT_THERE, /* 1: a pair; 0: the end, and the next three are 0 */
@@ -165,48 +249,56 @@ enum {
     DIALTABLE_NEXT_NUMBERS
 };
 /* A walk: ask at 0, then at numbers[DIALTABLE_NEXT_AT]. At a fault the answer is its refusal. Answers 0. */
-uint64_t dialtable_next_pair(const uint8_t *list, size_t list_len, size_t at, uint64_t *numbers, size_t numbers_len);
+uint64_t dialtable_next_pair(const uint8_t *list, dialtable_len list_len, dialtable_len at, uint64_t *numbers,
+                             dialtable_len numbers_len);
 
 /* ---- Log lines, each with its 0A at the end. A refused message has a line too. Answers the line's length, or 33.
- * Room: 128 bytes, and four for each byte of the names, always suffice. */
+ * Room: 128 bytes, and four for each byte of the names, always suffice. mic=1 tells that bytes 72 to 87 are a MIC's,
+ * and not what they are: it is shown for sixteen zeros too. */
 
-uint64_t dialtable_authenticate_line(const uint8_t *msg, size_t msg_len, uint8_t *out, size_t out_len);
-uint64_t dialtable_challenge_line(const uint8_t *msg, size_t msg_len, uint8_t *out, size_t out_len);
-uint64_t dialtable_negotiate_line(const uint8_t *msg, size_t msg_len, uint8_t *out, size_t out_len);
-uint64_t dialtable_nl_auth_line(const uint8_t *msg, size_t msg_len, uint8_t *out, size_t out_len);
+uint64_t dialtable_authenticate_line(const uint8_t *msg, dialtable_len msg_len, uint8_t *out, dialtable_len out_len);
+uint64_t dialtable_challenge_line(const uint8_t *msg, dialtable_len msg_len, uint8_t *out, dialtable_len out_len);
+uint64_t dialtable_negotiate_line(const uint8_t *msg, dialtable_len msg_len, uint8_t *out, dialtable_len out_len);
+uint64_t dialtable_nl_auth_line(const uint8_t *msg, dialtable_len msg_len, uint8_t *out, dialtable_len out_len);
 /* NEGOTIATE where 12 bytes are there and the type is 1, CHALLENGE where it is 2, else AUTHENTICATE. */
-uint64_t dialtable_ntlm_line(const uint8_t *msg, size_t msg_len, uint8_t *out, size_t out_len);
+uint64_t dialtable_ntlm_line(const uint8_t *msg, dialtable_len msg_len, uint8_t *out, dialtable_len out_len);
 /* What the programs print: the line, or that of 33 where it has no room. */
-uint64_t dialtable_ntlm_program_line(const uint8_t *msg, size_t msg_len, uint8_t *out, size_t out_len);
-uint64_t dialtable_nl_auth_program_line(const uint8_t *msg, size_t msg_len, uint8_t *out, size_t out_len);
+uint64_t dialtable_ntlm_program_line(const uint8_t *msg, dialtable_len msg_len, uint8_t *out, dialtable_len out_len);
+uint64_t dialtable_nl_auth_program_line(const uint8_t *msg, dialtable_len msg_len, uint8_t *out, dialtable_len out_len);
 
 /* ---- Writing. Answers the message's length. */
 
-/* Room: 88 bytes and those of the six fields. Version is written with VERSION (0x2000000), else zeros; a key wants
- * KEY_EXCH (0x40000000). */
-uint64_t dialtable_write_authenticate(uint8_t *out, size_t out_len, uint32_t flags, const uint8_t version[8],
-                                      const uint8_t mic[16], const uint8_t *lm, size_t lm_len, const uint8_t *nt,
-                                      size_t nt_len, const uint8_t *domain, size_t domain_len, const uint8_t *user,
-                                      size_t user_len, const uint8_t *workstation, size_t workstation_len,
-                                      const uint8_t *key, size_t key_len);
-/* Room: 40 bytes and those of both names. A name that isn't empty sets its bit in the flags written (domain 0x1000,
- * workstation 0x2000) and an empty one clears it; other bits are written as they are. Version as above. */
-uint64_t dialtable_write_negotiate(uint8_t *out, size_t out_len, uint32_t flags, const uint8_t version[8],
-                                   const uint8_t *domain, size_t domain_len, const uint8_t *workstation,
-                                   size_t workstation_len);
-/* Strings of bits A to E (1, 2, 4, 8, 16); bits above are dropped, and a clear bit's string is passed over. Room: 8
- * bytes and, for each string written, its own and one more. */
-uint64_t dialtable_write_nl_auth_request(uint8_t *out, size_t out_len, uint32_t flags, const uint8_t *a, size_t a_len,
-                                         const uint8_t *b, size_t b_len, const uint8_t *c, size_t c_len,
-                                         const uint8_t *d, size_t d_len, const uint8_t *e, size_t e_len);
-uint64_t dialtable_write_nl_auth_response(uint8_t *out, size_t out_len);
+/* Room: 88 bytes and those of the six fields. Version is written with VERSION, else zeros; a key wants KEY_EXCH. */
+uint64_t dialtable_write_authenticate(uint8_t *out, dialtable_len out_len, uint32_t flags, const uint8_t version[8],
+                                      const uint8_t mic[16], const uint8_t *lm, dialtable_len lm_len, const uint8_t *nt,
+                                      dialtable_len nt_len, const uint8_t *domain, dialtable_len domain_len,
+                                      const uint8_t *user, dialtable_len user_len, const uint8_t *workstation,
+                                      dialtable_len workstation_len, const uint8_t *key, dialtable_len key_len);
+/* Room: 40 bytes and those of both names. A name that isn't empty sets its bit in the flags written
+ * (DOMAIN_SUPPLIED, WORKSTATION_SUPPLIED) and an empty one clears it; other bits are written as they are. Version as
+ * above. */
+uint64_t dialtable_write_negotiate(uint8_t *out, dialtable_len out_len, uint32_t flags, const uint8_t version[8],
+                                   const uint8_t *domain, dialtable_len domain_len, const uint8_t *workstation,
+                                   dialtable_len workstation_len);
+/* Strings of the bits below; bits above are dropped, and a clear bit's string is passed over. Room: 8 bytes and, for
+ * each string written, its own and one more. */
+#define DIALTABLE_NL_AUTH_BIT_A 0x1u
+#define DIALTABLE_NL_AUTH_BIT_B 0x2u
+#define DIALTABLE_NL_AUTH_BIT_C 0x4u
+#define DIALTABLE_NL_AUTH_BIT_D 0x8u
+#define DIALTABLE_NL_AUTH_BIT_E 0x10u
+uint64_t dialtable_write_nl_auth_request(uint8_t *out, dialtable_len out_len, uint32_t flags, const uint8_t *a,
+                                         dialtable_len a_len, const uint8_t *b, dialtable_len b_len, const uint8_t *c,
+                                         dialtable_len c_len, const uint8_t *d, dialtable_len d_len, const uint8_t *e,
+                                         dialtable_len e_len);
+uint64_t dialtable_write_nl_auth_response(uint8_t *out, dialtable_len out_len);
 
 /* ---- Answering a CHALLENGE. Settings are a sum of these bits; other bits are ignored. */
 
-#define DIALTABLE_DEMAND_128 1u /* refuse (20) a challenge without 128-bit */
-#define DIALTABLE_NTLMV2 2u
-#define DIALTABLE_INTEGRITY 4u
-#define DIALTABLE_CONFIDENTIALITY 8u
+#define DIALTABLE_DEMAND_128 1u      /* refuse (20) a challenge without 128-bit */
+#define DIALTABLE_NTLMV2 2u          /* a timestamp in the challenge is the Time, and the LM response then zeros */
+#define DIALTABLE_INTEGRITY 4u       /* with NTLMV2: refuse (21) a challenge that has not both pairs 1 and 2 */
+#define DIALTABLE_CONFIDENTIALITY 8u /* the same */
 #define DIALTABLE_DEFAULTS DIALTABLE_NTLMV2
 
 enum {
@@ -215,14 +307,15 @@ enum {
     DIALTABLE_DECISION_TIMESTAMP,       /* 0 where there is none */
     DIALTABLE_DECISION_NUMBERS
 };
-/* Reading, 20, 21. Answers 0. */
-uint64_t dialtable_decide(uint32_t settings, const uint8_t *challenge, size_t challenge_len, uint64_t *numbers,
-                          size_t numbers_len);
+/* Reading, 20, 21. The Time for the response is the timestamp where one is there and NTLMV2 is set, else the box's
+ * clock. Answers 0. */
+uint64_t dialtable_decide(uint32_t settings, const uint8_t *challenge, dialtable_len challenge_len, uint64_t *numbers,
+                          dialtable_len numbers_len);
 
 /* Copies the domain to send: own, or where that is empty and UNICODE is set, the challenge's first pair 2. Answers its
  * length. */
-uint64_t dialtable_domain_to_send(const uint8_t *own, size_t own_len, const uint8_t *challenge, size_t challenge_len,
-                                  uint8_t *out, size_t out_len);
+uint64_t dialtable_domain_to_send(const uint8_t *own, dialtable_len own_len, const uint8_t *challenge,
+                                  dialtable_len challenge_len, uint8_t *out, dialtable_len out_len);
 
 enum {
     DIALTABLE_RESPONSE_TIME,    /* the server's timestamp, or the clock */
@@ -232,31 +325,34 @@ enum {
 /* Writes the AUTHENTICATE that answers a challenge, with the challenge's flags and the domain to send. With a timestamp
  * and NTLMV2 the LM response written is 24 zero bytes; a MIC that is not due is written as zeros; the key is written
  * with KEY_EXCH and SIGN or SEAL, else passed over. Answers its length. */
-uint64_t dialtable_respond(uint8_t *out, size_t out_len, const uint8_t *challenge, size_t challenge_len,
+uint64_t dialtable_respond(uint8_t *out, dialtable_len out_len, const uint8_t *challenge, dialtable_len challenge_len,
                            uint32_t settings, uint64_t clock, const uint8_t version[8], const uint8_t mic[16],
-                           const uint8_t *lm, size_t lm_len, const uint8_t *nt, size_t nt_len, const uint8_t *domain,
-                           size_t domain_len, const uint8_t *user, size_t user_len, const uint8_t *workstation,
-                           size_t workstation_len, const uint8_t *key, size_t key_len, uint64_t *numbers,
-                           size_t numbers_len);
+                           const uint8_t *lm, dialtable_len lm_len, const uint8_t *nt, dialtable_len nt_len,
+                           const uint8_t *domain, dialtable_len domain_len, const uint8_t *user, dialtable_len user_len,
+                           const uint8_t *workstation, dialtable_len workstation_len, const uint8_t *key,
+                           dialtable_len key_len, uint64_t *numbers, dialtable_len numbers_len);
 /* The same with the default settings: for the bench, for old servers, for the relay. */
-uint64_t dialtable_respond_for_bench(uint8_t *out, size_t out_len, const uint8_t *challenge, size_t challenge_len,
-                                     uint64_t clock, const uint8_t version[8], const uint8_t mic[16],
-                                     const uint8_t *lm, size_t lm_len, const uint8_t *nt, size_t nt_len,
-                                     const uint8_t *domain, size_t domain_len, const uint8_t *user, size_t user_len,
-                                     const uint8_t *workstation, size_t workstation_len, const uint8_t *key,
-                                     size_t key_len, uint64_t *numbers, size_t numbers_len);
-uint64_t dialtable_respond_to_old_server(uint8_t *out, size_t out_len, const uint8_t *challenge, size_t challenge_len,
-                                         uint64_t clock, const uint8_t version[8], const uint8_t mic[16],
-                                         const uint8_t *lm, size_t lm_len, const uint8_t *nt, size_t nt_len,
-                                         const uint8_t *domain, size_t domain_len, const uint8_t *user,
-                                         size_t user_len, const uint8_t *workstation, size_t workstation_len,
-                                         const uint8_t *key, size_t key_len, uint64_t *numbers, size_t numbers_len);
-uint64_t dialtable_respond_for_relay(uint8_t *out, size_t out_len, const uint8_t *challenge, size_t challenge_len,
-                                     uint64_t clock, const uint8_t version[8], const uint8_t mic[16],
-                                     const uint8_t *lm, size_t lm_len, const uint8_t *nt, size_t nt_len,
-                                     const uint8_t *domain, size_t domain_len, const uint8_t *user, size_t user_len,
-                                     const uint8_t *workstation, size_t workstation_len, const uint8_t *key,
-                                     size_t key_len, uint64_t *numbers, size_t numbers_len);
+uint64_t dialtable_respond_for_bench(uint8_t *out, dialtable_len out_len, const uint8_t *challenge,
+                                     dialtable_len challenge_len, uint64_t clock, const uint8_t version[8],
+                                     const uint8_t mic[16], const uint8_t *lm, dialtable_len lm_len, const uint8_t *nt,
+                                     dialtable_len nt_len, const uint8_t *domain, dialtable_len domain_len,
+                                     const uint8_t *user, dialtable_len user_len, const uint8_t *workstation,
+                                     dialtable_len workstation_len, const uint8_t *key, dialtable_len key_len,
+                                     uint64_t *numbers, dialtable_len numbers_len);
+uint64_t dialtable_respond_to_old_server(uint8_t *out, dialtable_len out_len, const uint8_t *challenge,
+                                         dialtable_len challenge_len, uint64_t clock, const uint8_t version[8],
+                                         const uint8_t mic[16], const uint8_t *lm, dialtable_len lm_len,
+                                         const uint8_t *nt, dialtable_len nt_len, const uint8_t *domain,
+                                         dialtable_len domain_len, const uint8_t *user, dialtable_len user_len,
+                                         const uint8_t *workstation, dialtable_len workstation_len, const uint8_t *key,
+                                         dialtable_len key_len, uint64_t *numbers, dialtable_len numbers_len);
+uint64_t dialtable_respond_for_relay(uint8_t *out, dialtable_len out_len, const uint8_t *challenge,
+                                     dialtable_len challenge_len, uint64_t clock, const uint8_t version[8],
+                                     const uint8_t mic[16], const uint8_t *lm, dialtable_len lm_len, const uint8_t *nt,
+                                     dialtable_len nt_len, const uint8_t *domain, dialtable_len domain_len,
+                                     const uint8_t *user, dialtable_len user_len, const uint8_t *workstation,
+                                     dialtable_len workstation_len, const uint8_t *key, dialtable_len key_len,
+                                     uint64_t *numbers, dialtable_len numbers_len);
 
 #ifdef __cplusplus
 }

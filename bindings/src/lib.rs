@@ -13,6 +13,7 @@
 //! # Ok::<_, Box<dyn std::error::Error>>(())
 //! ```
 
+#![no_std]
 #![warn(missing_docs)]
 #![warn(
     clippy::indexing_slicing,
@@ -20,6 +21,11 @@
     clippy::expect_used,
     clippy::panic
 )]
+
+// The library's lengths have 64 bits in every build, and are handed over here
+// as `usize`.
+#[cfg(not(target_pointer_width = "64"))]
+compile_error!("the bindings are for targets whose usize has 64 bits");
 
 mod answering;
 mod lines;

@@ -1,7 +1,7 @@
 //! Refusals: a number and a field.
 
-use std::error::Error;
-use std::fmt;
+use core::error::Error;
+use core::fmt;
 
 /// Each reason once: its number, its name and what is wrong.
 macro_rules! reasons {

@@ -28,7 +28,9 @@ static void equal(uint64_t got, uint64_t expected, int line, const char *what)
 {
     check(got == expected, line, what);
     if (got != expected)
-        printf("    got %lx, expected %lx\n", (unsigned long)got, (unsigned long)expected);
+        printf("    got %08lx%08lx, expected %08lx%08lx\n", (unsigned long)(got >> 32),
+               (unsigned long)(got & 0xFFFFFFFFu), (unsigned long)(expected >> 32),
+               (unsigned long)(expected & 0xFFFFFFFFu));
 }
 
 static int refused(uint64_t answer, unsigned number, unsigned field)
@@ -38,7 +40,7 @@ static int refused(uint64_t answer, unsigned number, unsigned field)
 
 /* Whether all of these bytes are the byte that every output is filled with first. */
 #define FILL 0xEE
-static int untouched(const uint8_t *bytes, size_t len)
+static int untouched(const uint8_t *bytes, dialtable_len len)
 {
     while (len > 0)
         if (bytes[--len] != FILL)
@@ -48,7 +50,7 @@ static int untouched(const uint8_t *bytes, size_t len)
 
 typedef struct {
     uint8_t bytes[1024];
-    size_t len;
+    dialtable_len len;
 } message_t;
 
 static void read_file(const char *path, message_t *message)
@@ -259,7 +261,7 @@ static void reads_pairs(const message_t *challenge)
     static const unsigned ids[] = {2, 1, 4, 3, 7};
     const uint8_t *list = challenge->bytes + 70;
     uint64_t numbers[DIALTABLE_NEXT_NUMBERS];
-    size_t at = 0, pair;
+    dialtable_len at = 0, pair;
 
     EQUAL(dialtable_check_pairs(list, 64), 0);
     EQUAL(dialtable_check_pairs(NULL, 0), 0);
@@ -287,7 +289,7 @@ static void reads_pairs(const message_t *challenge)
         EQUAL(numbers[DIALTABLE_NEXT_ID], ids[pair]);
         EQUAL(numbers[DIALTABLE_NEXT_PLACE], at + 4);
         EQUAL(numbers[DIALTABLE_NEXT_AT], at + 4 + numbers[DIALTABLE_NEXT_LEN]);
-        at = (size_t)numbers[DIALTABLE_NEXT_AT];
+        at = numbers[DIALTABLE_NEXT_AT];
     }
     EQUAL(numbers[DIALTABLE_NEXT_LEN], 8);
     EQUAL(at, 60);
@@ -300,10 +302,10 @@ static void reads_pairs(const message_t *challenge)
     CHECK(refused(dialtable_next_pair(list, 64, 61, numbers, DIALTABLE_NEXT_NUMBERS), 11, 2));
 }
 
-typedef uint64_t line_call(const uint8_t *msg, size_t msg_len, uint8_t *out, size_t out_len);
+typedef uint64_t line_call(const uint8_t *msg, dialtable_len msg_len, uint8_t *out, dialtable_len out_len);
 
 /* The line at exactly its room, with bytes after it, and with one byte less. */
-static void has_line(line_call *call, const uint8_t *msg, size_t msg_len, const char *expected)
+static void has_line(line_call *call, const uint8_t *msg, dialtable_len msg_len, const char *expected)
 {
     uint8_t out[256];
     size_t len = strlen(expected);
@@ -353,10 +355,10 @@ static const uint8_t lm[24] = {0x11, 0x12};
 static const uint8_t nt[40] = {0x21, 0x22};
 static const uint8_t work[6] = {'P', 0, 'I', 0, 'T', 0};
 static const uint8_t key[16] = {0x61, 0x62};
-#define FLAGS 0x42000001u /* KEY_EXCH, VERSION, UNICODE */
+#define FLAGS (DIALTABLE_FLAG_KEY_EXCH | DIALTABLE_FLAG_VERSION | DIALTABLE_FLAG_UNICODE)
 
 /* Whether a field that was read has these bytes. */
-static int is_field(const uint8_t *msg, const uint64_t *numbers, int place, const uint8_t *bytes, size_t len)
+static int is_field(const uint8_t *msg, const uint64_t *numbers, int place, const uint8_t *bytes, dialtable_len len)
 {
     return numbers[place + 1] == len && (len == 0 || memcmp(msg + numbers[place], bytes, len) == 0);
 }
@@ -422,12 +424,16 @@ static void writes_negotiate(void)
     CHECK(untouched(out, sizeof out));
 }
 
-/* A message of 65,535 bytes is written, and one more is refused. */
+/* A message of 65,535 bytes is written and read, and one more is refused. */
 static void writes_the_longest_negotiate(void)
 {
     static uint8_t name[65496], out[65536];
+    uint64_t numbers[DIALTABLE_NEGOTIATE_NUMBERS];
 
     EQUAL(dialtable_write_negotiate(out, sizeof out, 2, version, name, 65495, NULL, 0), 65535);
+    EQUAL(dialtable_read_negotiate(out, 65535, numbers, DIALTABLE_NEGOTIATE_NUMBERS), 0);
+    EQUAL(numbers[DIALTABLE_NEGOTIATE_DOMAIN_LEN], 65495);
+    CHECK(refused(dialtable_read_negotiate(out, 65536, numbers, DIALTABLE_NEGOTIATE_NUMBERS), 1, 0));
     EQUAL(dialtable_write_negotiate(out, sizeof out, 2, version, name, 65494, name, 1), 65535);
     memset(out, FILL, sizeof out);
     CHECK(refused(dialtable_write_negotiate(out, sizeof out, 2, version, name, 65496, NULL, 0), 30, 0));
@@ -553,27 +559,28 @@ static void answers(const message_t *challenge, const message_t *no_timestamp)
     CHECK(untouched(out, sizeof out));
 }
 
-/* A caller may leave anything in a register above a number of 32 bits: these hand on their own registers as they are. */
-__attribute__((noinline)) static uint64_t decide_wide(uint64_t settings, const uint8_t *challenge, size_t challenge_len,
-                                                      uint64_t *numbers, size_t numbers_len)
+/* A caller may leave anything in a register above a number of 32 bits: these hand on their registers as they are. */
+__attribute__((noinline)) static uint64_t decide_wide(uint64_t settings, const uint8_t *challenge,
+                                                      dialtable_len challenge_len, uint64_t *numbers,
+                                                      dialtable_len numbers_len)
 {
     return dialtable_decide((uint32_t)settings, challenge, challenge_len, numbers, numbers_len);
 }
 
-__attribute__((noinline)) static uint64_t field_wide(const uint8_t *msg, size_t msg_len, uint64_t offset, uint64_t len,
-                                                     uint8_t *out, size_t out_len)
+__attribute__((noinline)) static uint64_t field_wide(const uint8_t *msg, dialtable_len msg_len, uint64_t offset,
+                                                     uint64_t len, uint8_t *out, dialtable_len out_len)
 {
     return dialtable_field_bytes(msg, msg_len, (uint32_t)offset, (uint16_t)len, out, out_len);
 }
 
-__attribute__((noinline)) static uint64_t find_wide(const uint8_t *list, size_t list_len, uint64_t id, uint64_t *numbers,
-                                                    size_t numbers_len)
+__attribute__((noinline)) static uint64_t find_wide(const uint8_t *list, dialtable_len list_len, uint64_t id,
+                                                    uint64_t *numbers, dialtable_len numbers_len)
 {
     return dialtable_find_pair(list, list_len, (uint16_t)id, numbers, numbers_len);
 }
 
-__attribute__((noinline)) static uint64_t open_wide(uint8_t *out, size_t out_len, uint64_t flags,
-                                                    const uint8_t *domain, size_t domain_len)
+__attribute__((noinline)) static uint64_t open_wide(uint8_t *out, dialtable_len out_len, uint64_t flags,
+                                                    const uint8_t *domain, dialtable_len domain_len)
 {
     return dialtable_write_negotiate(out, out_len, (uint32_t)flags, version, domain, domain_len, NULL, 0);
 }
@@ -595,6 +602,37 @@ static void takes_numbers_in_wide_registers(const message_t *p1, const message_t
     EQUAL(open_wide(out, sizeof out, above | 1, NULL, 0), 40);
     CHECK(memcmp(out + 12, "\1\0\0\0" "\0\0\0\0" "\x28\0\0\0", 12) == 0);
     CHECK(refused(open_wide(out, sizeof out, above, NULL, 0), 5, 0));
+}
+
+/* The names of refusals, flags, pair ids and NL_AUTH's bits have the numbers of document 01. */
+static void names_numbers(void)
+{
+    static const uint32_t named[] = {
+        DIALTABLE_REFUSED_TOO_LONG, DIALTABLE_REFUSED_TOO_SHORT, DIALTABLE_REFUSED_WRONG_SIGNATURE,
+        DIALTABLE_REFUSED_WRONG_TYPE, DIALTABLE_REFUSED_NO_CHARSET, DIALTABLE_REFUSED_PAST_END,
+        DIALTABLE_REFUSED_IN_FIXED_PART, DIALTABLE_REFUSED_ODD_NAME, DIALTABLE_REFUSED_NAME_OVER_SECRET,
+        DIALTABLE_REFUSED_PAIR_PAST_END, DIALTABLE_REFUSED_PAIR_MISSING, DIALTABLE_REFUSED_WRONG_END_PAIR,
+        DIALTABLE_REFUSED_WRONG_PAIR_SIZE, DIALTABLE_REFUSED_NO_STRINGS, DIALTABLE_REFUSED_UNTERMINATED,
+        DIALTABLE_REFUSED_BYTES_LEFT, DIALTABLE_REFUSED_WRONG_RESPONSE, DIALTABLE_REFUSED_NO_128_BIT,
+        DIALTABLE_REFUSED_NO_SERVER_NAMES, DIALTABLE_REFUSED_TOO_LONG_TO_WRITE, DIALTABLE_REFUSED_ODD_NAME_TO_WRITE,
+        DIALTABLE_REFUSED_WRONG_KEY, DIALTABLE_REFUSED_NO_ROOM, DIALTABLE_REFUSED_ZERO_IN_STRING,
+        DIALTABLE_FLAG_UNICODE, DIALTABLE_FLAG_OEM, DIALTABLE_FLAG_REQUEST_TARGET, DIALTABLE_FLAG_SIGN,
+        DIALTABLE_FLAG_SEAL, DIALTABLE_FLAG_DOMAIN_SUPPLIED, DIALTABLE_FLAG_WORKSTATION_SUPPLIED,
+        DIALTABLE_FLAG_TARGET_INFO, DIALTABLE_FLAG_VERSION, DIALTABLE_FLAG_128, DIALTABLE_FLAG_KEY_EXCH,
+        DIALTABLE_PAIR_NB_COMPUTER, DIALTABLE_PAIR_NB_DOMAIN, DIALTABLE_PAIR_DNS_COMPUTER, DIALTABLE_PAIR_DNS_DOMAIN,
+        DIALTABLE_PAIR_DNS_TREE, DIALTABLE_PAIR_FLAGS, DIALTABLE_PAIR_TIMESTAMP, DIALTABLE_PAIR_SINGLE_HOST,
+        DIALTABLE_PAIR_TARGET_NAME, DIALTABLE_PAIR_CHANNEL_BINDINGS, DIALTABLE_NL_AUTH_BIT_A, DIALTABLE_NL_AUTH_BIT_B,
+        DIALTABLE_NL_AUTH_BIT_C, DIALTABLE_NL_AUTH_BIT_D, DIALTABLE_NL_AUTH_BIT_E};
+    static const uint32_t expected[] = {
+        1, 2, 3, 4, 5, 6, 7, 8, 9, 10, 11, 12, 13, 14, 15, 16, 17, 20, 21, 30, 31, 32, 33, 34,
+        0x1, 0x2, 0x4, 0x10, 0x20, 0x1000, 0x2000, 0x800000, 0x2000000, 0x20000000, 0x40000000,
+        1, 2, 3, 4, 5, 6, 7, 8, 9, 10, 0x1, 0x2, 0x4, 0x8, 0x10};
+    unsigned i;
+
+    EQUAL(sizeof named, sizeof expected);
+    for (i = 0; i < sizeof named / sizeof *named; i++)
+        EQUAL(named[i], expected[i]);
+    EQUAL(sizeof(dialtable_len), 8);
 }
 
 int main(int argc, char **argv)
@@ -624,6 +662,7 @@ int main(int argc, char **argv)
     finds_domain(&challenge);
     answers(&challenge, &no_timestamp);
     takes_numbers_in_wide_registers(&p1, &challenge);
+    names_numbers();
 
     printf("%d passed, %d failed\n", passed, failed);
     return failed != 0;

@@ -1,4 +1,4 @@
--- The calls of the C interface that hand out numbers, by what their contracts in `crates/export/src/lib.rt` name: the room
+-- The calls of the C interface that hand out numbers, by what their contracts in `crates/dialtable/src/lib.rt` name: the room
 -- that each asks for, and its outcome.
 use Prim.Native.Nat.{ℕ}
 use mathlib.Core.List.{List}

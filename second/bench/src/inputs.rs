@@ -1,5 +1,8 @@
 //! The messages that both sides are given.
 
+use std::fs;
+use std::path::Path;
+
 use reader::{
     write_authenticate, write_negotiate, AuthenticateParts, NegotiateFlags, NegotiateParts,
     MAX_MESSAGE,
@@ -202,4 +205,25 @@ pub fn nl_auth(len: usize) -> Vec<u8> {
     message.resize(len - 1, b'x');
     message.push(0);
     message
+}
+
+/// Messages of Samba, gss-ntlmssp, impacket and winpr, as files of messages/.
+pub const CAPTURED: [&str; 10] = [
+    "challenge-smbd.bin",
+    "challenge-samba-ad-dc.b64",
+    "authenticate-smbclient.bin",
+    "authenticate-gssntlmssp-no-key.bin",
+    "authenticate-impacket-long-name.bin",
+    "negotiate-smbclient.bin",
+    "negotiate-gssntlmssp.bin",
+    "negotiate-impacket.bin",
+    "negotiate-winpr.b64",
+    "nl-request-samba.bin",
+];
+
+/// The message in a file, which is raw or text.
+pub fn captured(folder: &Path, file: &str) -> Result<Vec<u8>, String> {
+    let content = fs::read(folder.join(file)).map_err(|error| format!("{file}: {error}"))?;
+    let (_, message) = depot::form::read(content).map_err(|error| format!("{file}: {error}"))?;
+    Ok(message)
 }

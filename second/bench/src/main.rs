@@ -6,7 +6,8 @@ mod inputs;
 use std::env;
 use std::hint::black_box;
 use std::io::{self, Write};
-use std::process::ExitCode;
+use std::path::Path;
+use std::process::{Command, ExitCode, Stdio};
 use std::time::{Duration, Instant};
 
 use dialtable::raw;
@@ -18,7 +19,7 @@ use reader::{
 
 use inputs::{Account, Opening, BEFORE_LIST, FLAGS, TIMESTAMP};
 
-const USAGE: &str = "usage: bench time | bench calls | bench once CALL";
+const USAGE: &str = "usage: bench time | round | calls MESSAGES, or bench once MESSAGES PLACE";
 
 /// Sizes of messages, up to the longest.
 const SIZES: [usize; 4] = [100, 1_000, 10_000, 65_535];
@@ -47,12 +48,19 @@ macro_rules! repeat {
 fn main() -> ExitCode {
     let args: Vec<String> = env::args().skip(1).collect();
     let words: Vec<&str> = args.iter().map(String::as_str).collect();
-    let done = match words.as_slice() {
-        ["time"] => time(&mut io::stdout().lock()),
-        ["calls"] => usual()
-            .iter()
-            .try_for_each(|call| writeln!(io::stdout(), "{}", call.name)),
-        ["once", name] => return once(name),
+    let [what, folder, place @ ..] = words.as_slice() else {
+        return fail(USAGE);
+    };
+    let captured = match captured(Path::new(folder)) {
+        Ok(captured) => captured,
+        Err(error) => return fail(&error),
+    };
+    let mut out = io::stdout().lock();
+    let done = match (*what, place) {
+        ("time", []) => time(&mut out, folder, captured),
+        ("round", []) => round(&mut out, captured),
+        ("calls", []) => calls(&mut out, captured),
+        ("once", [place]) => return once(captured, place),
         _ => return fail(USAGE),
     };
     match done {
@@ -67,9 +75,17 @@ fn fail(message: &str) -> ExitCode {
     ExitCode::from(2)
 }
 
+/// The calls that instructions are counted of: its place, its name, and what it
+/// is given.
+fn calls(out: &mut impl Write, captured: Vec<Measured>) -> io::Result<()> {
+    let mut calls = usual().into_iter().chain(captured).enumerate();
+    calls.try_for_each(|(place, call)| writeln!(out, "{place} {} {}", call.name, call.on))
+}
+
 /// Makes exactly one call of each side, for a program that counts instructions.
-fn once(name: &str) -> ExitCode {
-    let Some(mut call) = usual().into_iter().find(|call| call.name == name) else {
+fn once(captured: Vec<Measured>, place: &str) -> ExitCode {
+    let mut calls = usual().into_iter().chain(captured);
+    let Some(mut call) = place.parse().ok().and_then(|place| calls.nth(place)) else {
         return fail(USAGE);
     };
     (call.proved)(1);
@@ -84,68 +100,117 @@ extern "C" fn bench_second_once(call: &mut Box<dyn FnMut(u64)>) {
     call(1);
 }
 
-fn time(out: &mut impl Write) -> io::Result<()> {
-    writeln!(out, "nanoseconds for one call, both on the same input in one run; the median of {ROUNDS} rounds, taken in")?;
-    writeln!(
-        out,
-        "turn. Outputs are lent as the call before left them. The aim is a ratio of at most 1.0."
-    )?;
-    heading(out, "the usual messages")?;
-    for mut call in usual() {
-        row(out, &mut call)?;
+/// All calls that are timed, under the names of their tables.
+fn tables(captured: Vec<Measured>) -> [(&'static str, Vec<Measured>); 3] {
+    [
+        (
+            "the usual messages, as our own writer lays them out",
+            usual(),
+        ),
+        ("captured messages", captured),
+        ("how time grows with the message", growing()),
+    ]
+}
+
+fn time(out: &mut impl Write, folder: &str, captured: Vec<Measured>) -> io::Result<()> {
+    let tables = tables(captured);
+    let mut least = vec![[f64::INFINITY; 2]; tables.iter().map(|(_, calls)| calls.len()).sum()];
+    for _ in 0..PROCESSES {
+        for (least, found) in least.iter_mut().zip(another_process(folder)?) {
+            *least = [least[0].min(found[0]), least[1].min(found[1])];
+        }
     }
-    heading(out, "how time grows with the message")?;
-    for mut call in growing() {
-        row(out, &mut call)?;
+    writeln!(out, "nanoseconds for one call, both on the same input: the least of {ROUNDS} rounds in each of {PROCESSES} processes, in which")?;
+    writeln!(out, "both sides of all calls take turns. Outputs are lent as the call before left them. The aim is a ratio of at most 1.0.")?;
+    let mut least = least.into_iter();
+    for (what, calls) in &tables {
+        heading(out, what)?;
+        for (call, least) in calls.iter().zip(&mut least) {
+            row(out, call, least)?;
+        }
     }
     Ok(())
 }
 
+/// How many processes measure. Where a process has its memory can make one side
+/// take half as long again, in all its rounds.
+const PROCESSES: usize = 8;
+
+/// What another process of this program measured.
+fn another_process(folder: &str) -> io::Result<Vec<[f64; 2]>> {
+    let said = Command::new(env::current_exe()?)
+        .args(["round", folder])
+        .stderr(Stdio::inherit())
+        .output()?;
+    let number = |word: Option<&str>| word.and_then(|word| word.parse().ok());
+    let read = |line: &str| {
+        let mut words = line.split(' ');
+        Some([number(words.next())?, number(words.next())?])
+    };
+    let said = String::from_utf8_lossy(&said.stdout);
+    let found: Option<_> = said.lines().map(read).collect();
+    found.ok_or_else(|| io::Error::other("a process that measured broke off"))
+}
+
+/// Measures in this process, and prints both sides of each call.
+fn round(out: &mut impl Write, captured: Vec<Measured>) -> io::Result<()> {
+    let mut tables = tables(captured);
+    let calls = tables.iter_mut().flat_map(|(_, calls)| calls);
+    measure(calls)
+        .iter()
+        .try_for_each(|[proved, second]| writeln!(out, "{proved} {second}"))
+}
+
 fn heading(out: &mut impl Write, what: &str) -> io::Result<()> {
     let columns = ["proved", "second", "ratio"];
-    write!(out, "\n  {what:<52}")?;
+    write!(out, "\n  {what:<68}")?;
     for column in columns {
         write!(out, "{column:>10}")?;
     }
     writeln!(out)
 }
 
-fn row(out: &mut impl Write, call: &mut Measured) -> io::Result<()> {
-    let [proved, second] = measure(call);
+fn row(out: &mut impl Write, call: &Measured, found: [f64; 2]) -> io::Result<()> {
+    let [proved, second] = found;
     let ratio = proved / second;
     let aim = if ratio > 1.0 { "  over the aim" } else { "" };
     let what = format!("{} {}", call.name, call.on);
     writeln!(
         out,
-        "  {what:<52}{proved:>10.1}{second:>10.1}{ratio:>10.2}{aim}"
+        "  {what:<68}{proved:>10.1}{second:>10.1}{ratio:>10.2}{aim}"
     )
 }
 
-/// How often each side is measured.
-const ROUNDS: usize = 15;
-/// How long one side runs in a round.
-const ROUND: Duration = Duration::from_millis(4);
+/// How often each side of each call is measured.
+const ROUNDS: usize = 20;
+/// How long one side runs in a round: short, so that on a busy machine some
+/// rounds of each side find it free.
+const ROUND: Duration = Duration::from_micros(400);
 
-/// The medians of both sides, in nanoseconds for one call.
-fn measure(call: &mut Measured) -> [f64; 2] {
-    let times = [&mut call.proved, &mut call.second].map(|side| times_in_a_round(side));
-    let mut found = [const { Vec::new() }; 2];
+/// The least of both sides of each call, in nanoseconds for one call. All calls
+/// have a round before the next round starts, so that each is measured over
+/// the whole time.
+fn measure<'a>(calls: impl Iterator<Item = &'a mut Measured>) -> Vec<[f64; 2]> {
+    let mut sides: Vec<_> = calls
+        .map(|call| {
+            let sides = [&mut call.proved, &mut call.second];
+            sides.map(|run| {
+                let times = times_in_a_round(run);
+                (run, times, f64::INFINITY)
+            })
+        })
+        .collect();
     for round in 0..ROUNDS {
-        for turn in 0..2 {
-            // Neither side always goes first.
-            let side = (round + turn) % 2;
-            let run = if side == 0 {
-                &mut call.proved
-            } else {
-                &mut call.second
-            };
-            found[side].push(nanoseconds(run, times[side]));
+        for sides in &mut sides {
+            for turn in 0..2 {
+                // Neither side always goes first.
+                let (run, times, least) = &mut sides[(round + turn) % 2];
+                *least = least.min(nanoseconds(run, *times));
+            }
         }
     }
-    found.map(|mut found| {
-        found.sort_by(f64::total_cmp);
-        found[ROUNDS / 2]
-    })
+    let least = |sides: [_; 2]| sides.map(|(_, _, least)| least);
+    sides.into_iter().map(least).collect()
 }
 
 fn nanoseconds(run: &mut dyn FnMut(u64), times: u64) -> f64 {
@@ -189,6 +254,32 @@ fn usual() -> Vec<Measured> {
         open(opening),
         respond(challenge, account),
     ]
+}
+
+/// The same on messages of other programs, whose fields stand in another order.
+fn captured(folder: &Path) -> Result<Vec<Measured>, String> {
+    let mut calls = Vec::new();
+    for file in inputs::CAPTURED {
+        let message = inputs::captured(folder, file)?;
+        let made: &[fn(Vec<u8>) -> Measured] = match message.get(8) {
+            Some(1) => &[read_negotiate, line_of_negotiate],
+            Some(2) => &[
+                |message| read_challenge(message, ""),
+                line_of_challenge,
+                |message| respond(message, Account::usual()),
+            ],
+            Some(3) => &[read_authenticate, |message| {
+                line_of_authenticate(message, "")
+            }],
+            _ => &[read_nl_auth, line_of_nl_auth],
+        };
+        calls.extend(made.iter().map(|make| {
+            let call = make(message.clone());
+            let on = format!("{file} {}", call.on.trim_start());
+            Measured { on, ..call }
+        }));
+    }
+    Ok(calls)
 }
 
 /// The same for longer and longer messages.

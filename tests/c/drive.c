@@ -1,0 +1,191 @@
+/*
+ * Every call of dialtable.h on CASES mutated messages. It prints one number, over all answers and all lent memory: two
+ * builds of the library that give the same number have answered alike. How often each refusal was given stands behind
+ * it. messages.h is made from messages/ by tools/drive.
+ */
+#include <stdio.h>
+#include <string.h>
+
+#include "dialtable.h"
+#include "messages.h"
+
+/* xorshift64. Two draws never stand in one expression, since a compiler may choose which of them comes first. */
+static uint64_t state = 88172645463325252u;
+static uint32_t draw(uint32_t below)
+{
+    state ^= state << 13;
+    state ^= state >> 7;
+    state ^= state << 17;
+    return (uint32_t)(state >> 16) % below;
+}
+static uint32_t draw_32(void)
+{
+    uint32_t high = draw(65536);
+    return high << 16 | draw(65536);
+}
+
+/* What is lent to be written: an output, numbers, and the bytes of a MIC or of a server challenge, filled before each
+ * call. */
+static uint8_t out[1024], bytes[24];
+static uint64_t numbers[16];
+static uint64_t all = 1469598103934665603u;
+static unsigned long refusals[256];
+
+static void mix(const void *from, unsigned len)
+{
+    const uint8_t *at = (const uint8_t *)from;
+    uint64_t word;
+
+    for (; len >= 8; len -= 8, at += 8) {
+        memcpy(&word, at, 8);
+        all = (all ^ word) * 1099511628211u;
+        all ^= all >> 29;
+    }
+}
+
+static void fill(void)
+{
+    memset(out, 0xEE, sizeof out);
+    memset(bytes, 0xEE, sizeof bytes);
+    memset(numbers, 0xEE, sizeof numbers);
+}
+
+static void take(uint64_t answer)
+{
+    if (DIALTABLE_IS_REFUSED(answer))
+        refusals[DIALTABLE_NUMBER(answer)]++;
+    mix(&answer, sizeof answer);
+    mix(out, sizeof out);
+    mix(bytes, sizeof bytes);
+    mix(numbers, sizeof numbers);
+}
+#define CALL(call) do { fill(); take(call); } while (0)
+
+/* A message of messages/ with up to three bytes changed, mostly in its head, and sometimes cut or lengthened. */
+static uint8_t msg[1200];
+static unsigned len;
+
+static void draw_message(void)
+{
+    unsigned which = draw(sizeof messages / sizeof *messages), changes = draw(4), at, small;
+
+    len = messages[which].len < 1100 ? messages[which].len : 1100;
+    memset(msg, 0, sizeof msg);
+    memcpy(msg, messages[which].bytes, len);
+    while (changes-- > 0) {
+        at = draw(len < 96 || draw(3) == 0 ? len : 96);
+        small = draw(2) ? 60 : 0;
+        small += draw(5);
+        msg[at] = (uint8_t)(draw(3) == 0 ? draw(256) : small);
+    }
+    if (draw(4) == 0)
+        len -= draw(len < 40 ? len : 40);
+    else if (draw(8) == 0)
+        len += draw(40);
+}
+
+static void reads(unsigned room, unsigned places, unsigned bytes_room)
+{
+    uint32_t offset = draw(400);
+    uint16_t size = (uint16_t)draw(100);
+
+    CALL(dialtable_read_authenticate(msg, len, numbers, places, bytes, bytes_room));
+    CALL(dialtable_read_challenge(msg, len, numbers, places, bytes, bytes_room));
+    CALL(dialtable_read_timestamp(msg, len, numbers, places));
+    CALL(dialtable_read_server_names(msg, len, numbers, places));
+    CALL(dialtable_read_negotiate(msg, len, numbers, places));
+    CALL(dialtable_read_nl_auth(msg, len, numbers, places));
+    CALL(dialtable_field_bytes(msg, len, offset, size, out, room));
+}
+
+static void walks(unsigned places)
+{
+    /* The list is what stands behind the fixed part; sometimes that of a whole TargetInfo. */
+    unsigned start = len <= 48 ? 0 : draw(3) == 0 ? 70 : 48;
+    const uint8_t *list;
+    uint16_t id = (uint16_t)draw(12);
+    dialtable_len list_len, at = draw(200), far = (uint64_t)draw_32() << 31;
+
+    if (start > len)
+        start = 48;
+    list = msg + start;
+    list_len = len - start;
+    CALL(dialtable_check_pairs(list, list_len));
+    CALL(dialtable_count_pairs(list, list_len, numbers, places));
+    CALL(dialtable_find_pair(list, list_len, id, numbers, places));
+    CALL(dialtable_next_pair(list, list_len, 0, numbers, places));
+    CALL(dialtable_next_pair(list, list_len, at, numbers, places));
+    CALL(dialtable_next_pair(list, list_len, far, numbers, places));
+}
+
+static void prints(unsigned room)
+{
+    CALL(dialtable_authenticate_line(msg, len, out, room));
+    CALL(dialtable_challenge_line(msg, len, out, room));
+    CALL(dialtable_negotiate_line(msg, len, out, room));
+    CALL(dialtable_nl_auth_line(msg, len, out, room));
+    CALL(dialtable_ntlm_line(msg, len, out, room));
+    CALL(dialtable_ntlm_program_line(msg, len, out, room));
+    CALL(dialtable_nl_auth_program_line(msg, len, out, room));
+}
+
+static const uint8_t version[8] = {6, 1, 0xB1, 0x1D, 0, 0, 0, 15};
+static uint8_t mic[16];
+
+static void writes(unsigned room)
+{
+    uint32_t flags = draw(2) ? 0xE28A8215u : draw_32(), bits = draw(64);
+    unsigned a = draw(30), b = draw(30), c = draw(30), key_len = 16 * draw(2);
+
+    CALL(dialtable_write_authenticate(out, room, flags, version, mic, msg, a, msg + 1, b, msg + 3, c, msg + 7, a & ~1u,
+                                      msg + 9, b & ~1u, mic, key_len));
+    CALL(dialtable_write_negotiate(out, room, flags, version, msg, a, msg + 5, b));
+    CALL(dialtable_write_nl_auth_request(out, room, bits, msg, a % 4, msg + 9, b % 3, msg + 13, c % 4, msg + 8, 0,
+                                         msg + 2, a % 3));
+    CALL(dialtable_write_nl_auth_response(out, room));
+}
+
+static void answers(unsigned room, unsigned places)
+{
+    uint32_t settings = draw(16);
+    uint64_t clock = (uint64_t)draw_32() << 24;
+    unsigned a = draw(30), b = draw(30), own = draw(2) ? draw(30) & ~1u : 0, key_len = 16 * draw(2);
+
+    CALL(dialtable_decide(settings, msg, len, numbers, places));
+    CALL(dialtable_domain_to_send(msg, own % 5, msg, len, out, room));
+    CALL(dialtable_respond(out, room, msg, len, settings, clock, version, mic, msg + 2, a, msg + 1, b, msg + 4, own,
+                           msg + 6, a & ~1u, msg + 8, b & ~1u, mic, key_len, numbers, places));
+#define THIN(call) CALL(call(out, room, msg, len, clock, version, mic, msg + 2, a, msg + 1, b, msg + 4, own, msg + 6, \
+                             8, msg + 8, 4, mic, 16, numbers, places))
+    THIN(dialtable_respond_for_bench);
+    THIN(dialtable_respond_to_old_server);
+    THIN(dialtable_respond_for_relay);
+}
+
+int main(void)
+{
+    unsigned long cases;
+    unsigned i, room, places, bytes_room;
+
+    for (cases = 0; cases < CASES; cases++) {
+        draw_message();
+        for (i = 0; i < sizeof mic; i++)
+            mic[i] = (uint8_t)draw(256);
+        room = draw(3) ? sizeof out : draw(300);
+        places = draw(6) ? 16 : draw(16);
+        bytes_room = draw(6) ? sizeof bytes : draw(20);
+        reads(room, places, bytes_room);
+        walks(places);
+        prints(room);
+        writes(room);
+        answers(room, places);
+        mix(msg, sizeof msg);
+        mix(mic, sizeof mic);
+    }
+    printf("%08lX%08lX, refused", (unsigned long)(all >> 32), (unsigned long)(all & 0xFFFFFFFFu));
+    for (i = 0; i < 256; i++)
+        if (refusals[i] > 0)
+            printf(" %u:%lu", i, refusals[i]);
+    puts("");
+    return 0;
+}

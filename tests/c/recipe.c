@@ -1,0 +1,164 @@
+/*
+ * The recipe at the top of dialtable.h as a program: tools/test-c takes its lines out of the header, as recipe.inc.
+ * recipe TIMESTAMP NO_TIMESTAMP OEM REFUSED: signs in to four servers, each of which sends the message of one file. The
+ * last line is 'N passed, M failed'.
+ */
+#include <stdio.h>
+#include <stdlib.h>
+#include <string.h>
+
+#include "dialtable.h"
+
+#define SERVER_TIME 0x01DD750F3F7F2C5Cu
+#define CLOCK 0x0123456789ABCDEFu
+
+static int passed, failed;
+#define CHECK(claim) check((claim) != 0, __LINE__, #claim)
+
+static void check(int holds, int line, const char *what)
+{
+    if (holds) {
+        passed++;
+    } else {
+        failed++;
+        printf("%s:%d: failed: %s\n", __FILE__, line, what);
+    }
+}
+
+/* The box's names, and what its radio module works out. */
+struct names {
+    const uint8_t *domain, *user, *workstation;
+    dialtable_len domain_len, user_len, workstation_len;
+};
+struct module {
+    uint8_t lm[24], nt[60], key[16];
+    dialtable_len nt_len;
+    uint64_t time;
+};
+
+static const uint8_t version[8] = {10, 0, 0x61, 0x4A, 0, 0, 0, 15}, zeros[16] = {0};
+static const uint32_t wanted = DIALTABLE_FLAG_UNICODE | DIALTABLE_FLAG_OEM | DIALTABLE_FLAG_REQUEST_TARGET |
+                               DIALTABLE_FLAG_SIGN | DIALTABLE_FLAG_VERSION | DIALTABLE_FLAG_128 |
+                               DIALTABLE_FLAG_KEY_EXCH;
+static const uint64_t clock_now = CLOCK;
+
+static const char *server;        /* the file that the server sends */
+static uint8_t first_sent[64], sent[1024];
+static dialtable_len first_sent_len, sent_len;
+static struct module radio;
+static char logged[512];
+
+/* Sends a message, and where there is room for it receives the server's. */
+static dialtable_len exchange(const uint8_t *msg, dialtable_len msg_len, uint8_t *in, dialtable_len in_len)
+{
+    FILE *file;
+    dialtable_len got;
+
+    if (in_len == 0) {
+        memcpy(sent, msg, (size_t)msg_len);
+        sent_len = msg_len;
+        return 0;
+    }
+    memcpy(first_sent, msg, (size_t)msg_len);
+    first_sent_len = msg_len;
+    file = fopen(server, "rb");
+    if (file == NULL) {
+        printf("%s can't be opened: give the path of a message\n0 passed, 1 failed\n", server);
+        exit(1);
+    }
+    got = fread(in, 1, (size_t)in_len, file);
+    fclose(file);
+    return got;
+}
+
+static void encode(struct names *own, int unicode)
+{
+    static const uint8_t wide[] = {'b', 0, 'o', 0, 'x', 0, '7', 0}, narrow[] = {'b', 'o', 'x', '7'};
+
+    own->domain = own->workstation = NULL;
+    own->domain_len = own->workstation_len = 0;
+    own->user = unicode ? wide : narrow;
+    own->user_len = unicode ? sizeof wide : sizeof narrow;
+}
+
+/* In the place of the real work: bytes that can be seen again. */
+static void work_out(struct module *module, const uint8_t *challenge, dialtable_len challenge_len, uint64_t time,
+                     const struct names *own)
+{
+    CHECK(challenge != NULL && challenge_len > 0 && own->user_len > 0);
+    memset(module->lm, 0x11, sizeof module->lm);
+    memset(module->nt, 0x22, sizeof module->nt);
+    memset(module->key, 0x66, sizeof module->key);
+    module->nt_len = sizeof module->nt;
+    module->time = time;
+}
+
+/* The MIC is over the three messages, the last with zeros in its place. */
+static void mic_of(struct module *module, const uint8_t *first, dialtable_len first_len, const uint8_t *challenge,
+                   dialtable_len challenge_len, const uint8_t *last, dialtable_len last_len, uint8_t *mic)
+{
+    CHECK(module->nt_len > 0 && first_len == 40 && first[8] == 1 && challenge_len > 0 && challenge[8] == 2);
+    CHECK(last_len > 88 && last[8] == 3 && memcmp(last + DIALTABLE_MIC_AT, zeros, 16) == 0);
+    memset(mic, 0x77, 16);
+}
+
+static void log_it(const uint8_t *line, dialtable_len len)
+{
+    memcpy(logged, line, (size_t)len);
+    logged[len] = 0;
+}
+
+static uint64_t sign_in(void)
+{
+    uint8_t first[64], challenge[1024], out[1024], line[500];
+    dialtable_len first_len, challenge_len, line_len;
+    uint64_t answer, time, clock = clock_now;
+    uint64_t decision[DIALTABLE_DECISION_NUMBERS], done[DIALTABLE_RESPONSE_NUMBERS];
+    struct names own;
+
+    sent_len = 0;
+    logged[0] = 0;
+#include "recipe.inc"
+}
+
+int main(int argc, char **argv)
+{
+    uint64_t answer;
+    uint8_t mic[16];
+
+    if (argc != 5) {
+        puts("usage: recipe TIMESTAMP NO_TIMESTAMP OEM REFUSED\n0 passed, 1 failed");
+        return 2;
+    }
+    memset(mic, 0x77, sizeof mic);
+
+    /* The server's time, its domain, a MIC, and no LM response of the box's own. */
+    server = argv[1];
+    CHECK(sign_in() == 0);
+    CHECK(first_sent_len == 40 && memcmp(first_sent, "NTLMSSP\0" "\1", 9) == 0);
+    CHECK(radio.time == SERVER_TIME);
+    CHECK(sent_len == 88 + 14 + 8 + 24 + 60 + 16 && memcmp(sent + DIALTABLE_MIC_AT, mic, 16) == 0);
+    CHECK(strcmp(logged, "auth flags=628A8215 set=U domain=PEERSRV user=box7 work= lm=24 nt=60 key=16 mic=1 kind=v2\n")
+          == 0);
+
+    /* The box's own clock, and zeros for the MIC; its line says mic=1 all the same. */
+    server = argv[2];
+    CHECK(sign_in() == 0);
+    CHECK(radio.time == CLOCK);
+    CHECK(memcmp(sent + DIALTABLE_MIC_AT, zeros, 16) == 0);
+    CHECK(strstr(logged, " mic=1 ") != NULL && strstr(logged, " user=box7 ") != NULL);
+
+    /* Names in bytes. */
+    server = argv[3];
+    CHECK(sign_in() == 0);
+    CHECK(strstr(logged, " set=O ") != NULL && strstr(logged, " user=box7 ") != NULL);
+
+    /* No challenge: nothing is sent but the NEGOTIATE, and nothing is logged. */
+    server = argv[4];
+    answer = sign_in();
+    CHECK(DIALTABLE_IS_REFUSED(answer) && DIALTABLE_NUMBER(answer) == DIALTABLE_REFUSED_WRONG_TYPE);
+    CHECK(sent_len == 0 && logged[0] == 0);
+
+    printf("%d passed, %d failed\n", passed, failed);
+    return failed != 0;
+}

@@ -1,0 +1,85 @@
+/*
+ * The stack that each call of dialtable.h takes on a Cortex-M: bytes below the caller's own frame, the most over all
+ * messages of messages.h. The stack is painted before a call, and what is no longer paint was used.
+ */
+#include <stdio.h>
+
+#include "dialtable.h"
+#include "messages.h"
+
+#define DEEP 4096u
+#define PAINT 0xA5A5A5A5u
+
+static uint8_t out[1024], bytes[16], zeros[24];
+static uint64_t numbers[16];
+
+static struct {
+    const char *name;
+    unsigned most;
+} calls[64];
+
+#define STACK(call_, ...) \
+    do { \
+        uintptr_t top; \
+        volatile uint32_t *at; \
+        __asm__ volatile("mov %0, sp" : "=r"(top)); \
+        for (at = (volatile uint32_t *)(top - DEEP); (uintptr_t)at < top; at++) \
+            *at = PAINT; \
+        dialtable_##call_(__VA_ARGS__); \
+        for (at = (volatile uint32_t *)(top - DEEP); (uintptr_t)at < top && *at == PAINT; at++) \
+            ; \
+        calls[place].name = #call_; \
+        if (top - (uintptr_t)at > calls[place].most) \
+            calls[place].most = (unsigned)(top - (uintptr_t)at); \
+        place++; \
+    } while (0)
+
+#define NAMES zeros, 0, zeros, 8, zeros, 8
+
+/* A caller's arguments that have no register lie in its own frame. */
+static void measure(const uint8_t *msg, dialtable_len len)
+{
+    unsigned place = 0;
+
+    STACK(read_authenticate, msg, len, numbers, 16, bytes, 16);
+    STACK(read_challenge, msg, len, numbers, 16, bytes, 16);
+    STACK(read_timestamp, msg, len, numbers, 16);
+    STACK(read_server_names, msg, len, numbers, 16);
+    STACK(read_negotiate, msg, len, numbers, 16);
+    STACK(read_nl_auth, msg, len, numbers, 16);
+    STACK(field_bytes, msg, len, 12, 8, out, sizeof out);
+    STACK(check_pairs, msg, len);
+    STACK(count_pairs, msg, len, numbers, 16);
+    STACK(find_pair, msg, len, DIALTABLE_PAIR_TIMESTAMP, numbers, 16);
+    STACK(next_pair, msg, len, 0, numbers, 16);
+    STACK(authenticate_line, msg, len, out, sizeof out);
+    STACK(challenge_line, msg, len, out, sizeof out);
+    STACK(negotiate_line, msg, len, out, sizeof out);
+    STACK(nl_auth_line, msg, len, out, sizeof out);
+    STACK(ntlm_line, msg, len, out, sizeof out);
+    STACK(ntlm_program_line, msg, len, out, sizeof out);
+    STACK(nl_auth_program_line, msg, len, out, sizeof out);
+    STACK(write_authenticate, out, sizeof out, 0xE28A8215u, zeros, zeros, zeros, 24, zeros, 24, NAMES, zeros, 16);
+    STACK(write_negotiate, out, sizeof out, 0xA2088207u, zeros, zeros, 5, zeros, 5);
+    STACK(write_nl_auth_request, out, sizeof out, 31, msg, 1, msg, 1, msg, 1, msg, 1, msg, 1);
+    STACK(write_nl_auth_response, out, sizeof out);
+    STACK(decide, DIALTABLE_DEFAULTS | DIALTABLE_INTEGRITY, msg, len, numbers, 16);
+    STACK(domain_to_send, NULL, 0, msg, len, out, sizeof out);
+    STACK(respond, out, sizeof out, msg, len, DIALTABLE_DEFAULTS, 5, zeros, zeros, zeros, 24, zeros, 24, NAMES, zeros,
+          16, numbers, 16);
+#define THIN out, sizeof out, msg, len, 5, zeros, zeros, zeros, 24, zeros, 24, NAMES, zeros, 16, numbers, 16
+    STACK(respond_for_bench, THIN);
+    STACK(respond_to_old_server, THIN);
+    STACK(respond_for_relay, THIN);
+}
+
+int main(void)
+{
+    unsigned i;
+
+    for (i = 0; i < sizeof messages / sizeof *messages; i++)
+        measure(messages[i].bytes, messages[i].len);
+    for (i = 0; calls[i].name != NULL; i++)
+        printf("%s %u\n", calls[i].name, calls[i].most);
+    return 0;
+}
