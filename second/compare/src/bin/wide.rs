@@ -7,7 +7,7 @@ use std::process::ExitCode;
 
 use compare::command::{fail, finish, seed_and_count, NOT_NUMBERS};
 use compare::wide::call::{Call, Line, Parts, Respond};
-use compare::wide::{run, second};
+use compare::wide::run;
 use depot::folder::Folder;
 use dialtable::raw;
 use reader::NegotiateParts;
@@ -83,8 +83,12 @@ fn library(call: &Call<'_>, out: &mut [u8], numbers: &mut [u64]) -> u64 {
             raw::write_nl_auth_request(out, flags, strings)
         }
         Call::WriteNlAuthResponse => raw::write_nl_auth_response(out),
-        // Until the library has the call, nothing is held for it.
-        Call::WriteResponsePairs { .. } => second(call, out, numbers),
+        Call::WriteResponsePairs {
+            challenge,
+            target_name,
+            unverified,
+            ref bindings,
+        } => raw::write_response_pairs(out, challenge, target_name, unverified, bindings),
         Call::Decide {
             settings,
             challenge,
