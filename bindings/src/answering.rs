@@ -69,6 +69,23 @@ pub fn domain_to_send<'a>(
     written(raw::domain_to_send(own, challenge, out), out)
 }
 
+/// Writes the pair list that goes back in the answer: the challenge's pairs
+/// without its 9 and 10, the bits of the flags pair that a timestamp and a name
+/// marked unverified ask for, then `bindings` as pair 10 and the name as pair 9.
+/// An empty name is no name. Where the challenge has no pair list, the end pair
+/// alone is written.
+pub fn write_response_pairs<'a>(
+    out: &'a mut [u8],
+    challenge: &[u8],
+    target_name: &[u8],
+    unverified: bool,
+    bindings: &[u8; 16],
+) -> Result<&'a [u8], Refusal> {
+    let mark = u32::from(unverified);
+    let answer = raw::write_response_pairs(out, challenge, target_name, mark, bindings);
+    written(answer, out)
+}
+
 /// The answer to a challenge.
 #[derive(Clone, Copy, Debug, PartialEq, Eq)]
 pub struct Answer<'a> {

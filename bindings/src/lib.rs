@@ -37,7 +37,7 @@ mod writing;
 
 pub use answering::{
     decide, domain_to_send, respond, respond_for_bench, respond_for_relay, respond_to_old_server,
-    Answer, Decision, Settings,
+    write_response_pairs, Answer, Decision, Settings,
 };
 pub use lines::{
     authenticate_line, challenge_line, negotiate_line, nl_auth_line, nl_auth_program_line,

@@ -102,6 +102,10 @@ mod c {
                                                b: *const u8, b_len: usize, c: *const u8, c_len: usize,
                                                d: *const u8, d_len: usize, e: *const u8, e_len: usize) -> u64;
         pub fn dialtable_write_nl_auth_response(out: *mut u8, out_len: usize) -> u64;
+        pub fn dialtable_write_response_pairs(out: *mut u8, out_len: usize, challenge: *const u8,
+                                              challenge_len: usize, target_name: *const u8,
+                                              target_name_len: usize, unverified: u32,
+                                              bindings: *const u8) -> u64;
 
         pub fn dialtable_decide(settings: u32, challenge: *const u8, challenge_len: usize, numbers: *mut u64,
                                 numbers_len: usize) -> u64;
@@ -339,6 +343,29 @@ pub fn write_nl_auth_request(out: &mut [u8], flags: u32, strings: &[&[u8]; 5]) -
 /// Writes an NL_AUTH response.
 pub fn write_nl_auth_response(out: &mut [u8]) -> u64 {
     unsafe { c::dialtable_write_nl_auth_response(out.as_mut_ptr(), out.len()) }
+}
+
+/// Writes the pair list that goes back in the answer to a challenge; the name is
+/// marked unverified by anything but 0.
+pub fn write_response_pairs(
+    out: &mut [u8],
+    challenge: &[u8],
+    target_name: &[u8],
+    unverified: u32,
+    bindings: &[u8; 16],
+) -> u64 {
+    unsafe {
+        c::dialtable_write_response_pairs(
+            out.as_mut_ptr(),
+            out.len(),
+            challenge.as_ptr(),
+            challenge.len(),
+            target_name.as_ptr(),
+            target_name.len(),
+            unverified,
+            bindings.as_ptr(),
+        )
+    }
 }
 
 /// The decision on a challenge.

@@ -7,8 +7,9 @@ use dialtable::{
     negotiate_line, nl_auth_line, nl_auth_program_line, ntlm_line, ntlm_program_line,
     read_authenticate, read_challenge, read_negotiate, read_nl_auth, read_server_names,
     read_timestamp, respond, respond_for_bench, respond_for_relay, respond_to_old_server,
-    write_authenticate, write_negotiate, write_nl_auth_request, write_nl_auth_response, Answer,
-    Decision, Field, Negotiate, NlAuth, Pair, Parts, Reason, Refusal, ServerNames, Settings, Walk,
+    write_authenticate, write_negotiate, write_nl_auth_request, write_nl_auth_response,
+    write_response_pairs, Answer, Decision, Field, Negotiate, NlAuth, Pair, Parts, Reason, Refusal,
+    ServerNames, Settings, Walk,
 };
 
 const UNICODE: u32 = 0x1;
@@ -442,6 +443,77 @@ fn domains_to_send() {
     assert_eq!(refusal(domain_to_send(b"own", &[], &mut out[..2])), (33, 0));
 }
 
+/// Pairs that go back after what came in: flags, bindings, name and the end.
+fn going_back(came: &[u8], flags: &[u8], bindings: &[u8; 16], name: &[u8]) -> Vec<u8> {
+    let mut list = came.strip_suffix(&[0; 4]).expect("an end pair").to_vec();
+    if !flags.is_empty() {
+        list.extend([6, 0, 4, 0]);
+        list.extend(flags);
+    }
+    list.extend([10, 0, 16, 0]);
+    list.extend(bindings);
+    list.extend([9, 0, name.len() as u8, 0]);
+    list.extend(name);
+    list.extend([0; 4]);
+    list
+}
+
+#[test]
+fn pairs_go_back() {
+    let (name, bindings) = (&b"c\0i\0"[..], &[0xB1; 16]);
+    let message = challenge();
+    let came = &message[70..];
+    for (name, unverified, flags) in [
+        (name, false, &[2, 0, 0, 0]),
+        (name, true, &[6, 0, 0, 0]),
+        (&[], true, &[2, 0, 0, 0]),
+    ] {
+        let expected = going_back(came, flags, bindings, name);
+        let mut out = [0xEE; 200];
+        let list = write_response_pairs(&mut out, &message, name, unverified, bindings);
+        assert_eq!(list, Ok(&expected[..]));
+        assert_eq!(check_pairs(&expected), Ok(()));
+        assert!(out[expected.len()..].iter().all(|&byte| byte == 0xEE));
+    }
+    // No timestamp: no flags pair unless the name is marked.
+    let message = no_timestamp();
+    let came = read_challenge(&message).expect("taken").target_info;
+    let expected = going_back(came.bytes(&message), &[], bindings, b"");
+    let mut out = [0xEE; 200];
+    let list = write_response_pairs(&mut out, &message, b"", true, bindings);
+    assert_eq!(list, Ok(&expected[..]));
+    // TargetInfo no longer counts.
+    let mut bare = challenge();
+    bare[22] &= !0x80;
+    let list = write_response_pairs(&mut out, &bare, name, true, bindings);
+    assert_eq!(list, Ok(&[0; 4][..]));
+}
+
+#[test]
+fn pairs_that_cannot_go_back_are_refused_and_change_nothing() {
+    let message = challenge();
+    let bindings = &[0; 16];
+    let mut out = [0xEE; 95];
+    let mut write = |challenge: &[u8], name: &[u8]| {
+        refusal(write_response_pairs(
+            &mut out, challenge, name, false, bindings,
+        ))
+    };
+    // 60 bytes that came, 8 of flags, 20 of bindings, 4 and the name, 4.
+    assert_eq!(write(&message, b""), (33, 0));
+    let long = vec![b'x'; 65_440];
+    assert_eq!(write(&message, &long), (30, 0));
+    assert_eq!(write(&message, &long[..65_438]), (33, 0));
+    assert_eq!(write(&message, &long[1..]), (31, 2));
+    assert_eq!(write(&message[..47], b"odd"), (2, 0));
+    let cut = file("messages/challenge-list-runs-out.bin");
+    assert_eq!(write(&cut, b"odd"), (11, 2));
+    assert_eq!(out, [0xEE; 95]);
+    let mut exact = [0xEE; 96];
+    let list = write_response_pairs(&mut exact, &message, b"", false, bindings);
+    assert_eq!(list.map(<[u8]>::len), Ok(96));
+}
+
 #[test]
 fn a_challenge_is_answered() {
     let message = challenge();
@@ -545,5 +617,6 @@ fn any_bytes_are_answered() {
         assert!(ntlm_line(message, &mut room).is_ok());
         assert!(nl_auth_program_line(message, &mut room).is_ok());
         let _ = respond_for_bench(&mut room, message, CLOCK, &parts());
+        let _ = write_response_pairs(&mut room, message, b"n\0", true, &[1; 16]);
     }
 }

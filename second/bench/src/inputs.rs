@@ -5,7 +5,7 @@ use std::path::Path;
 
 use reader::{
     write_authenticate, write_negotiate, AuthenticateParts, NegotiateFlags, NegotiateParts,
-    MAX_MESSAGE,
+    ResponsePairs, MAX_MESSAGE,
 };
 
 const UNICODE: u32 = 0x1;
@@ -162,12 +162,17 @@ pub fn six_pairs() -> Vec<u8> {
     list
 }
 
-/// A list of `len` bytes, of pairs of 20 bytes as long as there is room for
-/// them, and a timestamp at its end.
+/// A list of `len` bytes, of target names as long as there is room for them, and
+/// a timestamp at its end.
 pub fn long_list(len: usize) -> Vec<u8> {
+    long_list_of(9, len)
+}
+
+/// The same of names with this id, each pair of 20 bytes.
+pub fn long_list_of(id: u16, len: usize) -> Vec<u8> {
     let mut list = Vec::new();
     while list.len() + 20 + 4 + 12 + 4 <= len {
-        put_pair(&mut list, 9, &utf16("computer"));
+        put_pair(&mut list, id, &utf16("computer"));
     }
     let rest = len - list.len() - 4 - 12 - 4;
     put_pair(&mut list, 8, &vec![0x20; rest]);
@@ -194,6 +199,31 @@ pub fn challenge(list: &[u8]) -> Vec<u8> {
     message.extend(target);
     message.extend(list);
     message
+}
+
+/// What goes back beside the pairs of a challenge.
+#[derive(Clone, Debug)]
+pub struct Target {
+    pub name: Vec<u8>,
+    pub bindings: [u8; 16],
+}
+
+impl Target {
+    pub fn usual() -> Self {
+        Self {
+            name: utf16("cifs/box7dc"),
+            bindings: [0xB1; 16],
+        }
+    }
+
+    /// The name is marked.
+    pub const fn parts(&self) -> ResponsePairs<'_> {
+        ResponsePairs {
+            target_name: self.name.as_slice(),
+            unverified: true,
+            bindings: self.bindings,
+        }
+    }
 }
 
 /// Bytes of a CHALLENGE before its list.

@@ -13,11 +13,11 @@ use std::time::{Duration, Instant};
 use dialtable::raw;
 use reader::{
     answer_for_bench, authenticate_line, challenge_line, negotiate_line, nl_auth_line,
-    write_authenticate, write_negotiate, Authenticate, AvId, Challenge, Negotiate, NlAuth, Refusal,
-    Secrets, TargetInfo,
+    write_authenticate, write_negotiate, write_response_pairs, Authenticate, AvId, Challenge,
+    Negotiate, NlAuth, Refusal, Secrets, TargetInfo,
 };
 
-use inputs::{Account, Opening, BEFORE_LIST, FLAGS, TIMESTAMP};
+use inputs::{Account, Opening, Target, BEFORE_LIST, FLAGS, TIMESTAMP};
 
 const USAGE: &str = "usage: bench time | round | calls MESSAGES, or bench once MESSAGES PLACE";
 
@@ -252,6 +252,7 @@ fn usual() -> Vec<Measured> {
         find_pair(inputs::six_pairs(), "the last of six pairs"),
         write(account.clone()),
         open(opening),
+        go_back(challenge.clone(), "six pairs"),
         respond(challenge, account),
     ]
 }
@@ -266,6 +267,7 @@ fn captured(folder: &Path) -> Result<Vec<Measured>, String> {
             Some(2) => &[
                 |message| read_challenge(message, ""),
                 line_of_challenge,
+                |message| go_back(message, ""),
                 |message| respond(message, Account::usual()),
             ],
             Some(3) => &[read_authenticate, |message| {
@@ -302,6 +304,14 @@ fn growing() -> Vec<Measured> {
     each(|len| find_pair(inputs::long_list(len), "the last pair"));
     each(|len| write(Account::of_message(len)));
     each(|len| open(Opening::of_message(len)));
+    each(|len| {
+        let list = inputs::long_list_of(1, len - BEFORE_LIST);
+        go_back(inputs::challenge(&list), "pairs that stay")
+    });
+    each(|len| {
+        let list = inputs::long_list(len - BEFORE_LIST);
+        go_back(inputs::challenge(&list), "pairs left out")
+    });
     each(|len| {
         let list = inputs::long_list(len - BEFORE_LIST);
         respond(inputs::challenge(&list), Account::usual())
@@ -495,6 +505,31 @@ fn open(opening: Opening) -> Measured {
     }
 }
 
+fn go_back(challenge: Vec<u8>, what: &str) -> Measured {
+    let (other, target) = (challenge.clone(), Target::usual());
+    let other_target = target.clone();
+    let (mut out, mut other_out) = (room(), room());
+    Measured {
+        name: "write_response_pairs",
+        on: format!("{what} {}", bytes(&challenge)),
+        proved: repeat!({
+            let parts = black_box(target.parts());
+            raw::write_response_pairs(
+                &mut out,
+                black_box(&challenge),
+                parts.target_name,
+                u32::from(parts.unverified),
+                &parts.bindings,
+            )
+        }),
+        second: repeat!(write_response_pairs(
+            black_box(&other),
+            black_box(&other_target.parts()),
+            &mut other_out
+        )),
+    }
+}
+
 fn respond(challenge: Vec<u8>, account: Account) -> Measured {
     let (other, other_account) = (challenge.clone(), account.clone());
     let (mut out, mut other_out) = (room(), room());
@@ -555,6 +590,14 @@ mod tests {
             let challenge = inputs::challenge(&list);
             assert_eq!(challenge.len(), len);
             assert!(Challenge::read(&challenge).is_ok());
+            let target = Target::usual();
+            // Without the names: the timestamp, the rest, flags, bindings, name, end.
+            let back = write_response_pairs(&challenge, &target.parts(), &mut out);
+            assert!(back.is_ok_and(|back| back < 110), "{back:?}");
+            let list = inputs::long_list_of(1, len - BEFORE_LIST);
+            let challenge = inputs::challenge(&list);
+            let back = write_response_pairs(&challenge, &target.parts(), &mut out);
+            assert_eq!(back, Ok(list.len() + 8 + 20 + 4 + target.name.len()));
             assert_eq!(inputs::nl_auth(len).len(), len);
             assert!(NlAuth::read(&inputs::nl_auth(len)).is_ok());
             assert_eq!(inputs::authenticate_with_name(len).len(), len);

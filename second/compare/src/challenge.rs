@@ -41,6 +41,7 @@ pub static KIND: Kind<2> = Kind {
         times,
         sizes,
         counts,
+        orders,
         faulty_lists,
         faulty_lists_elsewhere,
         units,
@@ -153,6 +154,52 @@ fn counts(random: &mut Random, messages: &mut Vec<Vec<u8>>) {
         }
         messages.push(with_list(random, &list.ended()));
     }
+}
+
+/// What the list that goes back changes, leaves out or adds: flags, a time, a
+/// target name and bindings, beside a pair that stays. Every sequence of up to
+/// three of them; the four in every order, once, twice, and where TargetInfo
+/// doesn't count.
+pub fn orders(random: &mut Random, messages: &mut Vec<Vec<u8>>) {
+    let ids = [1, 6, TIMESTAMP, 9, 10];
+    for ids in sequences(&ids, 3) {
+        let list = List::sound(random, &ids).ended();
+        messages.push(with_list(random, &list));
+    }
+    for order in permutations(&ids[1..]) {
+        let once = List::sound(random, &order).ended();
+        messages.push(with_list(random, &once));
+        let twice = List::sound(random, &[&order[..], &[1], &order].concat()).ended();
+        messages.push(with_list(random, &twice));
+        let uncounted = KIND.of(random, UNICODE | REQUEST_TARGET, PAYLOAD, [&[], &once]);
+        messages.push(uncounted.bytes());
+    }
+}
+
+/// Every sequence of up to so many of these ids.
+fn sequences(ids: &[u16], longest: usize) -> Vec<Vec<u16>> {
+    let mut all = vec![Vec::new()];
+    if longest > 0 {
+        for rest in sequences(ids, longest - 1) {
+            all.extend(ids.iter().map(|&id| [&[id], &rest[..]].concat()));
+        }
+    }
+    all
+}
+
+/// Every order of these ids.
+fn permutations(ids: &[u16]) -> Vec<Vec<u16>> {
+    if ids.is_empty() {
+        return vec![Vec::new()];
+    }
+    let first = |at: usize| {
+        let mut rest = ids.to_vec();
+        let id = rest.remove(at);
+        permutations(&rest)
+            .into_iter()
+            .map(move |rest| [&[id], &rest[..]].concat())
+    };
+    (0..ids.len()).flat_map(first).collect()
 }
 
 /// Every fault at every place of lists of up to four pairs, in every other one

@@ -1,7 +1,7 @@
 //! NTLM and NL_AUTH messages by the rules of document 01, with those of
 //! document 02 that have landed: reading NEGOTIATE, CHALLENGE, AUTHENTICATE,
 //! NL_AUTH and TargetInfo, the log line of each message, answering a challenge,
-//! and writing NEGOTIATE, AUTHENTICATE and NL_AUTH.
+//! and writing NEGOTIATE, AUTHENTICATE, NL_AUTH and the pair list of an answer.
 //!
 //! Reading borrows from the message and allocates nothing. Every call ends
 //! for any input, takes time linear in what it is lent, and does not panic.
@@ -27,6 +27,7 @@ mod nl_auth;
 mod output;
 mod program;
 mod refusal;
+mod response_pairs;
 mod target_info;
 mod wire;
 mod write_authenticate;
@@ -45,6 +46,7 @@ pub use negotiate::Negotiate;
 pub use nl_auth::{NlAuth, NlAuthType};
 pub use program::{Program, LINE_LIMIT};
 pub use refusal::{Reason, Refusal};
+pub use response_pairs::{write_response_pairs, ResponsePairs};
 pub use target_info::{AvId, AvPair, Summary, TargetInfo, Walk};
 pub use wire::{field_bytes, Field, MAX_MESSAGE};
 pub use write_authenticate::{write_authenticate, AuthenticateParts};

@@ -7,9 +7,10 @@ use std::ops::Range;
 use common::*;
 use reader::{
     answer, authenticate_line, challenge_line, domain_to_send, negotiate_line, nl_auth_line,
-    ntlm_line, write_authenticate, write_negotiate, write_nl_auth_request, Account, Authenticate,
-    AuthenticateParts, AvId, Challenge, Negotiate, NegotiateFlags, NegotiateParts, NlAuth,
-    NlAuthFlags, Policy, Refusal, Secrets, Settings, TargetInfo,
+    ntlm_line, write_authenticate, write_negotiate, write_nl_auth_request, write_response_pairs,
+    Account, Authenticate, AuthenticateParts, AvId, Challenge, Negotiate, NegotiateFlags,
+    NegotiateParts, NlAuth, NlAuthFlags, Policy, Refusal, ResponsePairs, Secrets, Settings,
+    TargetInfo,
 };
 
 /// SplitMix64.
@@ -234,6 +235,12 @@ fn no_bytes_make_a_call_panic() {
             workstation: other,
         };
         let _ = write_negotiate(&parts, &mut out[..room]);
+        let parts = ResponsePairs {
+            target_name: part,
+            unverified: random.coin(),
+            bindings: [4; 16],
+        };
+        let _ = write_response_pairs(&message, &parts, &mut out[..room]);
     }
 }
 
@@ -619,4 +626,85 @@ fn a_list_agrees_with_its_walk() {
         }
     }
     assert!(taken > 5000 && faulty > 1000, "{taken} {faulty}");
+}
+
+/// The pairs of a list, without the end pair.
+fn pairs_of(list: &[u8]) -> Vec<(u16, Vec<u8>)> {
+    let mut walk = TargetInfo(list).walk();
+    let mut pairs = Vec::new();
+    while let Some(pair) = walk.ask().expect("a sound list") {
+        pairs.push((pair.id.0, pair.value.to_vec()));
+    }
+    pairs
+}
+
+/// The value of the first flags pair, or 0.
+fn first_flags(pairs: &[(u16, Vec<u8>)]) -> u32 {
+    let value = pairs.iter().find(|(id, _)| *id == 6);
+    value.map_or(0, |(_, value)| {
+        u32::from_le_bytes(value.as_slice().try_into().unwrap())
+    })
+}
+
+/// The pairs without the value of the first flags pair.
+fn but_first_flags(mut pairs: Vec<(u16, Vec<u8>)>) -> Vec<(u16, Vec<u8>)> {
+    if let Some((_, value)) = pairs.iter_mut().find(|(id, _)| *id == 6) {
+        value.clear();
+    }
+    pairs
+}
+
+/// That `went` answers `came`, part by part.
+fn goes_back(came: Vec<(u16, Vec<u8>)>, went: &[(u16, Vec<u8>)], parts: &ResponsePairs<'_>) {
+    // The two that are always added, last.
+    let (kept, added) = went.split_at(went.len() - 2);
+    let name = parts.target_name;
+    assert_eq!(added, [(10, parts.bindings.to_vec()), (9, name.to_vec())]);
+    assert!(kept.iter().all(|(id, _)| *id != 9 && *id != 10));
+
+    // The bits, each for its own reason.
+    let mark = parts.unverified && !name.is_empty();
+    let time = came.iter().any(|(id, _)| *id == 7);
+    let due = u32::from(time) << 1 | u32::from(mark) << 2;
+    assert_eq!(first_flags(kept), first_flags(&came) | due);
+
+    // What came, in order, and a flags pair where bits had none to go to.
+    let had_flags = came.iter().any(|(id, _)| *id == 6);
+    let mut expected = came;
+    expected.retain(|(id, _)| *id != 9 && *id != 10);
+    if !had_flags && due != 0 {
+        expected.push((6, Vec::new()));
+    }
+    assert_eq!(but_first_flags(kept.to_vec()), but_first_flags(expected));
+}
+
+#[test]
+fn a_pair_list_that_goes_back_reads_back() {
+    let mut random = Random(8);
+    let mut taken = 0;
+    for _ in 0..20_000 {
+        let message = random.challenge();
+        let Ok(challenge) = Challenge::read(&message) else {
+            continue;
+        };
+        let name_len = 2 * random.below(5);
+        let name = random.bytes(name_len);
+        let parts = ResponsePairs {
+            target_name: &name,
+            unverified: random.coin(),
+            bindings: random.bytes(16).try_into().unwrap(),
+        };
+        let mut out = [0xEE; 400];
+        let len = write_response_pairs(&message, &parts, &mut out).expect("room enough");
+        let (written, after) = out.split_at(len);
+        assert!(after.iter().all(|&byte| byte == 0xEE));
+        let list = challenge.target_info.bytes;
+        if list.is_empty() {
+            assert_eq!(written, [0; 4]);
+        } else {
+            goes_back(pairs_of(list), &pairs_of(written), &parts);
+            taken += 1;
+        }
+    }
+    assert!(taken > 5000, "{taken}");
 }

@@ -83,6 +83,12 @@ fn library(call: &Call<'_>, out: &mut [u8], numbers: &mut [u64]) -> u64 {
             raw::write_nl_auth_request(out, flags, strings)
         }
         Call::WriteNlAuthResponse => raw::write_nl_auth_response(out),
+        Call::WriteResponsePairs {
+            challenge,
+            target_name,
+            unverified,
+            ref bindings,
+        } => raw::write_response_pairs(out, challenge, target_name, unverified, bindings),
         Call::Decide {
             settings,
             challenge,

@@ -128,6 +128,12 @@ pub enum Call<'a> {
         strings: [&'a [u8]; 5],
     },
     WriteNlAuthResponse,
+    WriteResponsePairs {
+        challenge: &'a [u8],
+        target_name: &'a [u8],
+        unverified: u32,
+        bindings: [u8; 16],
+    },
     Decide {
         settings: u32,
         challenge: &'a [u8],
@@ -145,7 +151,7 @@ pub enum Call<'a> {
 }
 
 /// The names of the calls, without `dialtable_`, by [`Call::index`].
-pub const NAMES: [&str; 28] = [
+pub const NAMES: [&str; 29] = [
     "read_authenticate",
     "read_challenge",
     "read_timestamp",
@@ -168,6 +174,7 @@ pub const NAMES: [&str; 28] = [
     "write_negotiate",
     "write_nl_auth_request",
     "write_nl_auth_response",
+    "write_response_pairs",
     "decide",
     "domain_to_send",
     "respond",
@@ -214,6 +221,7 @@ impl Call<'_> {
             Self::WriteNegotiate { .. } => const { place_of("write_negotiate") },
             Self::WriteNlAuthRequest { .. } => const { place_of("write_nl_auth_request") },
             Self::WriteNlAuthResponse => const { place_of("write_nl_auth_response") },
+            Self::WriteResponsePairs { .. } => const { place_of("write_response_pairs") },
             Self::Decide { .. } => const { place_of("decide") },
             Self::DomainToSend { .. } => const { place_of("domain_to_send") },
             Self::Respond { how, .. } => how.index(),
@@ -287,6 +295,16 @@ impl Call<'_> {
                 names.zip(strings.iter().copied()).collect()
             }
             Self::WriteNlAuthResponse => Vec::new(),
+            Self::WriteResponsePairs {
+                challenge,
+                target_name,
+                bindings,
+                ..
+            } => vec![
+                ("challenge", challenge),
+                ("target_name", target_name),
+                ("bindings", bindings),
+            ],
             Self::Decide { challenge, .. } => vec![("challenge", challenge)],
             Self::DomainToSend { own, challenge } => vec![("own", own), ("challenge", challenge)],
             Self::Respond {
@@ -305,6 +323,7 @@ impl Call<'_> {
             Self::WriteAuthenticate { flags, .. } | Self::WriteNlAuthRequest { flags, .. } => {
                 format!(" flags={flags:08X}")
             }
+            Self::WriteResponsePairs { unverified, .. } => format!(" unverified={unverified:X}"),
             Self::Decide { settings, .. } => format!(" settings={settings:X}"),
             Self::Respond { how, clock, .. } => match how {
                 Respond::With { settings } => format!(" settings={settings:X} clock={clock:016X}"),

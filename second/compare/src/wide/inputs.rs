@@ -264,6 +264,31 @@ pub fn opening_names(random: &mut Random) -> [Vec<u8>; 2] {
     names
 }
 
+/// A target name of even length that isn't empty, in either character set.
+pub fn target_name(random: &mut Random) -> Vec<u8> {
+    let set = random.pick(&[Set::Unicode, Set::Oem]);
+    let units = 2 * random.pick(&[1, 1, 2, 7, 15]);
+    name(random, set, units)
+}
+
+/// A short target name of odd length, or one of any length that makes a list of
+/// around 65,535 bytes, or of far more, with the `others` that stand beside it.
+pub fn odd_or_long_name(random: &mut Random, others: usize) -> Vec<u8> {
+    let len = if random.one_in(6) {
+        let exact = random.pick(&LONG).saturating_sub(others);
+        let even = exact - exact % 2;
+        random.pick(&[exact, even, even, MAX_MESSAGE, 0x1_0000, 0x1_0002, 0x2_0000])
+    } else {
+        random.pick(&[1, 3, 9, 15, 31, 255, 257])
+    };
+    vec![random.byte(); len]
+}
+
+/// A mark that a name is unverified: anything but 0.
+pub fn mark(random: &mut Random) -> u32 {
+    random.pick(&[1, 2, 4, 0x100, 0x1_0000, 0x8000_0000, 0xFFFF_FFFF])
+}
+
 /// Any flags of an NL_AUTH request, mostly with a bit A to E.
 pub fn nl_auth_flags(random: &mut Random) -> u32 {
     let flags = u32::from_le_bytes(random.array());

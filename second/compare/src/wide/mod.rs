@@ -133,6 +133,7 @@ impl<L: Library> Run<L> {
         self.writing();
         let challenge = inputs::challenge(&mut self.random, message);
         self.answering(&challenge);
+        self.going_back(&challenge);
         self.secrets_read(message);
         self.secrets_answered(&challenge);
     }
@@ -285,6 +286,34 @@ impl<L: Library> Run<L> {
         for own in [&[], parts.account.domain] {
             self.hold_rooms(&Call::DomainToSend { own, challenge });
         }
+    }
+
+    /// The pair list that goes back: without and with a name, each without and
+    /// with a mark, then with a name of odd length or a long one.
+    fn going_back(&mut self, challenge: &[u8]) {
+        let bindings = self.random.array();
+        let mark = inputs::mark(&mut self.random);
+        let name = inputs::target_name(&mut self.random);
+        let call = |target_name, unverified| Call::WriteResponsePairs {
+            challenge,
+            target_name,
+            unverified,
+            bindings,
+        };
+        for unverified in [0, mark] {
+            self.hold_rooms(&call(&[], unverified));
+            self.hold_rooms(&call(&name, unverified));
+            // The end pair has four bytes.
+            for room in [3, 4] {
+                let lent = Lent { room, numbers: 0 };
+                self.holder.hold(&call(&name, unverified), lent);
+            }
+        }
+        let unverified = self.random.pick(&[0, mark]);
+        let with_name = self.holder.measure(&call(&name, unverified));
+        let others = with_name.map_or(0, |len| len.saturating_sub(name.len()));
+        let other = inputs::odd_or_long_name(&mut self.random, others);
+        self.hold_rooms(&call(&other, unverified));
     }
 
     /// Two sums of the four settings, one with bits that are ignored.

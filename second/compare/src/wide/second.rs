@@ -3,9 +3,10 @@
 use reader::{
     answer, answer_for_bench, answer_for_old_servers, answer_for_relay, authenticate_line,
     challenge_line, domain_to_send, field_bytes, negotiate_line, nl_auth_line, ntlm_line,
-    write_authenticate, write_negotiate, write_nl_auth_request, write_nl_auth_response, Answer,
-    Authenticate, AuthenticateParts, AvId, Challenge, Field, Negotiate, NegotiateFlags, NlAuth,
-    NlAuthFlags, Policy, Program, Reason, Refusal, Settings, TargetInfo,
+    write_authenticate, write_negotiate, write_nl_auth_request, write_nl_auth_response,
+    write_response_pairs, Answer, Authenticate, AuthenticateParts, AvId, Challenge, Field,
+    Negotiate, NegotiateFlags, NlAuth, NlAuthFlags, Policy, Program, Reason, Refusal,
+    ResponsePairs, Settings, TargetInfo,
 };
 
 use super::call::{refused, Call, Line, Parts, Respond};
@@ -51,6 +52,20 @@ fn call_of(call: &Call<'_>, out: &mut [u8], numbers: &mut [u64]) -> Result<usize
             write_nl_auth_request(NlAuthFlags::new(flags), &strings, out)
         }
         Call::WriteNlAuthResponse => write_nl_auth_response(out),
+        Call::WriteResponsePairs {
+            challenge,
+            target_name,
+            unverified,
+            bindings,
+        } => {
+            // "0 or anything else."
+            let parts = ResponsePairs {
+                target_name,
+                unverified: unverified != 0,
+                bindings,
+            };
+            write_response_pairs(challenge, &parts, out)
+        }
         Call::Decide {
             settings,
             challenge,

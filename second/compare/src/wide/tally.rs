@@ -11,14 +11,14 @@ const OF_WRITING: [Refusals; 6] = [
     (20, &[0]),
     (21, &[0]),
     (30, &[0]),
-    (31, &[3, 4, 5]),
+    (31, &[2, 3, 4, 5]),
     (32, &[6]),
     (34, &[1, 2, 3, 4, 5]),
 ];
 
 /// Numbers, their fields and the readings and writings that can refuse by them:
 /// each must have done so itself, since kinds of message share numbers.
-const OF_CALLS: [(&[u8], &[u8], &[&str]); 16] = [
+const OF_CALLS: [(&[u8], &[u8], &[&str]); 18] = [
     (
         &[1, 2, 4, 33],
         &[0],
@@ -27,18 +27,32 @@ const OF_CALLS: [(&[u8], &[u8], &[&str]); 16] = [
             "read_challenge",
             "read_negotiate",
             "read_nl_auth",
+            "write_response_pairs",
         ],
     ),
     (
         &[3, 5],
         &[0],
-        &["read_authenticate", "read_challenge", "read_negotiate"],
+        &[
+            "read_authenticate",
+            "read_challenge",
+            "read_negotiate",
+            "write_response_pairs",
+        ],
     ),
     (&[6, 7], &[1, 2, 3, 4, 5, 6], &["read_authenticate"]),
-    (&[6, 7], &[1, 2], &["read_challenge", "read_negotiate"]),
+    (
+        &[6, 7],
+        &[1, 2],
+        &["read_challenge", "read_negotiate", "write_response_pairs"],
+    ),
     (&[8, 9], &[3, 4, 5], &["read_authenticate"]),
-    (&[8], &[1], &["read_challenge"]),
-    (&[10, 11, 12, 13], &[2], &["read_challenge"]),
+    (&[8], &[1], &["read_challenge", "write_response_pairs"]),
+    (
+        &[10, 11, 12, 13],
+        &[2],
+        &["read_challenge", "write_response_pairs"],
+    ),
     (&[14, 16, 17], &[0], &["read_nl_auth"]),
     (&[15], &[1, 2, 3, 4, 5], &["read_nl_auth"]),
     (
@@ -51,6 +65,8 @@ const OF_CALLS: [(&[u8], &[u8], &[&str]); 16] = [
     (&[14, 30, 33], &[0], &["write_nl_auth_request"]),
     (&[34], &[1, 2, 3, 4, 5], &["write_nl_auth_request"]),
     (&[33], &[0], &["write_nl_auth_response"]),
+    (&[31], &[2], &["write_response_pairs"]),
+    (&[30], &[0], &["write_response_pairs"]),
     (&[6, 33], &[0], &["field_bytes"]),
 ];
 

@@ -1,3 +1,5 @@
+mod response_pairs;
+
 use std::io::sink;
 
 use reader::NegotiateParts;
