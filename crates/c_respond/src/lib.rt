@@ -3,7 +3,7 @@ ghost use mathlib.Core.Path.{_≡_};
 ghost use Prim.Native.Nat.{_≤_};
 ghost use lib.ListN.{length};
 ghost use Rattle.respond.specs.Answer.{respondAnswer, respondOut};
-ghost use Rattle.respond.specs.Decision.{defaults, decisionOn};
+ghost use Rattle.respond.specs.Decision.{decisionOn};
 ghost use Rattle.c_number.specs.Outcome.{callNumber, callOut};
 ghost use Rattle.c_respond.specs.Settings.{settingsOf};
 ghost use Rattle.c_respond.specs.Respond.{decisionNumbers, decidedOutcome, answeredNumber, answeredOut, respondedNumber, respondedNumbers, respondedOut};
@@ -99,112 +99,4 @@ pub fn respond<'a>(
         key,
     );
     give_answer(numbers, answered)
-}
-
-// With the defaults, for the bench.
-pub fn respond_for_bench<'a>(
-    out: &mut [u8],
-    challenge: &'a [u8],
-    clock: u64,
-    version: &[u8; 8],
-    mic: &[u8; 16],
-    lm: &[u8],
-    nt: &[u8],
-    domain: &'a [u8],
-    user: &[u8],
-    workstation: &[u8],
-    key: &[u8],
-    numbers: &mut [u64],
-) -> u64
-    ensures answer { λ r. ⌜ r ≡ respondedNumber (respondAnswer (length (now (out .entry))) (now (challenge .entry)) defaults clock (now (version .entry)) (now (mic .entry)) (now (lm .entry)) (now (nt .entry)) (now (domain .entry)) (now (user .entry)) (now (workstation .entry)) (now (key .entry))) (length (now (numbers .entry))) ⌝ }
-    ensures content { λ _. ⌜ now (out .exit) ≡ respondedOut (respondOut (now (out .entry)) (now (challenge .entry)) defaults (now (version .entry)) (now (mic .entry)) (now (lm .entry)) (now (nt .entry)) (now (domain .entry)) (now (user .entry)) (now (workstation .entry)) (now (key .entry))) (length (now (numbers .entry))) (now (out .entry)) ⌝ }
-    ensures beside { λ _. ⌜ now (numbers .exit) ≡ respondedNumbers (respondAnswer (length (now (out .entry))) (now (challenge .entry)) defaults clock (now (version .entry)) (now (mic .entry)) (now (lm .entry)) (now (nt .entry)) (now (domain .entry)) (now (user .entry)) (now (workstation .entry)) (now (key .entry))) (now (numbers .entry)) ⌝ }
-{
-    respond(
-        out,
-        challenge,
-        SettingsBits::DEFAULTS,
-        clock,
-        version,
-        mic,
-        lm,
-        nt,
-        domain,
-        user,
-        workstation,
-        key,
-        numbers,
-    )
-}
-
-// With the defaults, for old servers.
-pub fn respond_to_old_server<'a>(
-    out: &mut [u8],
-    challenge: &'a [u8],
-    clock: u64,
-    version: &[u8; 8],
-    mic: &[u8; 16],
-    lm: &[u8],
-    nt: &[u8],
-    domain: &'a [u8],
-    user: &[u8],
-    workstation: &[u8],
-    key: &[u8],
-    numbers: &mut [u64],
-) -> u64
-    ensures answer { λ r. ⌜ r ≡ respondedNumber (respondAnswer (length (now (out .entry))) (now (challenge .entry)) defaults clock (now (version .entry)) (now (mic .entry)) (now (lm .entry)) (now (nt .entry)) (now (domain .entry)) (now (user .entry)) (now (workstation .entry)) (now (key .entry))) (length (now (numbers .entry))) ⌝ }
-    ensures content { λ _. ⌜ now (out .exit) ≡ respondedOut (respondOut (now (out .entry)) (now (challenge .entry)) defaults (now (version .entry)) (now (mic .entry)) (now (lm .entry)) (now (nt .entry)) (now (domain .entry)) (now (user .entry)) (now (workstation .entry)) (now (key .entry))) (length (now (numbers .entry))) (now (out .entry)) ⌝ }
-    ensures beside { λ _. ⌜ now (numbers .exit) ≡ respondedNumbers (respondAnswer (length (now (out .entry))) (now (challenge .entry)) defaults clock (now (version .entry)) (now (mic .entry)) (now (lm .entry)) (now (nt .entry)) (now (domain .entry)) (now (user .entry)) (now (workstation .entry)) (now (key .entry))) (now (numbers .entry)) ⌝ }
-{
-    respond(
-        out,
-        challenge,
-        SettingsBits::DEFAULTS,
-        clock,
-        version,
-        mic,
-        lm,
-        nt,
-        domain,
-        user,
-        workstation,
-        key,
-        numbers,
-    )
-}
-
-// With the defaults, for the relay.
-pub fn respond_for_relay<'a>(
-    out: &mut [u8],
-    challenge: &'a [u8],
-    clock: u64,
-    version: &[u8; 8],
-    mic: &[u8; 16],
-    lm: &[u8],
-    nt: &[u8],
-    domain: &'a [u8],
-    user: &[u8],
-    workstation: &[u8],
-    key: &[u8],
-    numbers: &mut [u64],
-) -> u64
-    ensures answer { λ r. ⌜ r ≡ respondedNumber (respondAnswer (length (now (out .entry))) (now (challenge .entry)) defaults clock (now (version .entry)) (now (mic .entry)) (now (lm .entry)) (now (nt .entry)) (now (domain .entry)) (now (user .entry)) (now (workstation .entry)) (now (key .entry))) (length (now (numbers .entry))) ⌝ }
-    ensures content { λ _. ⌜ now (out .exit) ≡ respondedOut (respondOut (now (out .entry)) (now (challenge .entry)) defaults (now (version .entry)) (now (mic .entry)) (now (lm .entry)) (now (nt .entry)) (now (domain .entry)) (now (user .entry)) (now (workstation .entry)) (now (key .entry))) (length (now (numbers .entry))) (now (out .entry)) ⌝ }
-    ensures beside { λ _. ⌜ now (numbers .exit) ≡ respondedNumbers (respondAnswer (length (now (out .entry))) (now (challenge .entry)) defaults clock (now (version .entry)) (now (mic .entry)) (now (lm .entry)) (now (nt .entry)) (now (domain .entry)) (now (user .entry)) (now (workstation .entry)) (now (key .entry))) (now (numbers .entry)) ⌝ }
-{
-    respond(
-        out,
-        challenge,
-        SettingsBits::DEFAULTS,
-        clock,
-        version,
-        mic,
-        lm,
-        nt,
-        domain,
-        user,
-        workstation,
-        key,
-        numbers,
-    )
 }

@@ -32,11 +32,15 @@ use c_number::copy;
 use c_number::line_number;
 use c_number::verdict_number;
 use c_number::written_number;
+use c_respond::settings::SettingsBits;
 use negotiate_flags::NegotiateFlags;
 use nl_auth_flags::NlAuthFlags;
 use nl_auth_writing::write_request;
 use nl_auth_writing::write_response;
 use respond::domain::domain_to_send;
+
+// What the three thin calls go by.
+const DEFAULTS: u32 = SettingsBits::DEFAULTS;
 
 #[no_mangle]
 pub extern "C" fn dialtable_read_negotiate(msg: &[u8], numbers: &mut [u64]) -> u64
@@ -180,9 +184,10 @@ pub extern "C" fn dialtable_respond_for_bench<'a>(
     ensures content { λ _. ⌜ now (out .exit) ≡ respondedOut (respondOut (now (out .entry)) (now (challenge .entry)) defaults (now (version .entry)) (now (mic .entry)) (now (lm .entry)) (now (nt .entry)) (now (domain .entry)) (now (user .entry)) (now (workstation .entry)) (now (key .entry))) (length (now (numbers .entry))) (now (out .entry)) ⌝ }
     ensures beside { λ _. ⌜ now (numbers .exit) ≡ respondedNumbers (respondAnswer (length (now (out .entry))) (now (challenge .entry)) defaults clock (now (version .entry)) (now (mic .entry)) (now (lm .entry)) (now (nt .entry)) (now (domain .entry)) (now (user .entry)) (now (workstation .entry)) (now (key .entry))) (now (numbers .entry)) ⌝ }
 {
-    c_respond::respond_for_bench(
+    c_respond::respond(
         out,
         challenge,
+        DEFAULTS,
         clock,
         version,
         mic,
@@ -215,9 +220,10 @@ pub extern "C" fn dialtable_respond_to_old_server<'a>(
     ensures content { λ _. ⌜ now (out .exit) ≡ respondedOut (respondOut (now (out .entry)) (now (challenge .entry)) defaults (now (version .entry)) (now (mic .entry)) (now (lm .entry)) (now (nt .entry)) (now (domain .entry)) (now (user .entry)) (now (workstation .entry)) (now (key .entry))) (length (now (numbers .entry))) (now (out .entry)) ⌝ }
     ensures beside { λ _. ⌜ now (numbers .exit) ≡ respondedNumbers (respondAnswer (length (now (out .entry))) (now (challenge .entry)) defaults clock (now (version .entry)) (now (mic .entry)) (now (lm .entry)) (now (nt .entry)) (now (domain .entry)) (now (user .entry)) (now (workstation .entry)) (now (key .entry))) (now (numbers .entry)) ⌝ }
 {
-    c_respond::respond_to_old_server(
+    c_respond::respond(
         out,
         challenge,
+        DEFAULTS,
         clock,
         version,
         mic,
@@ -250,9 +256,10 @@ pub extern "C" fn dialtable_respond_for_relay<'a>(
     ensures content { λ _. ⌜ now (out .exit) ≡ respondedOut (respondOut (now (out .entry)) (now (challenge .entry)) defaults (now (version .entry)) (now (mic .entry)) (now (lm .entry)) (now (nt .entry)) (now (domain .entry)) (now (user .entry)) (now (workstation .entry)) (now (key .entry))) (length (now (numbers .entry))) (now (out .entry)) ⌝ }
     ensures beside { λ _. ⌜ now (numbers .exit) ≡ respondedNumbers (respondAnswer (length (now (out .entry))) (now (challenge .entry)) defaults clock (now (version .entry)) (now (mic .entry)) (now (lm .entry)) (now (nt .entry)) (now (domain .entry)) (now (user .entry)) (now (workstation .entry)) (now (key .entry))) (now (numbers .entry)) ⌝ }
 {
-    c_respond::respond_for_relay(
+    c_respond::respond(
         out,
         challenge,
+        DEFAULTS,
         clock,
         version,
         mic,
