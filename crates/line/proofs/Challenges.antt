@@ -1,6 +1,6 @@
 -- CHALLENGE's line, by what its checks 1 to 8 are known to say.
 use Prim.Native.Nat.{ℕ}
-use mathlib.Core.Path.{_≡_, refl, ap, _∙_}
+use mathlib.Core.Path.{_≡_, refl, sym, ap, _∙_}
 use mathlib.Core.List.{List}
 use Rattle.wire.specs.declared.check.Verdict.{Verdict}
 use Rattle.wire.specs.declared.check.Verdict.the-variants.{Clear, Refused as Not}
@@ -16,6 +16,9 @@ use Rattle.line_chal.specs.Chal.{chalText}
 use Rattle.line.specs.Line.{chalLine, challengeLine}
 
 module _ (s : List ℕ) (r : Reading) (p : r ≡ fieldsOf s) where
+  pub chal-read : (c : Challenge) → r ≡ Taken c → fieldsOf s ≡ Taken c
+  chal-read c h = sym p ∙ h
+
   pub chal-refused : (e : Refusal) → r ≡ Refused e → refusedLine e ≡ challengeLine s
   unfolding challengeLine readChallenge readingOf
   chal-refused e h = simp (← p, h)

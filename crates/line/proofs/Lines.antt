@@ -1,5 +1,5 @@
 -- The line of a message, by what its reading is known to be.
-use mathlib.Core.Path.{_≡_}
+use mathlib.Core.Path.{_≡_, sym, _∙_}
 use Prim.Native.Nat.{ℕ}
 use mathlib.Core.List.{List}
 use Rattle.wire.specs.declared.refusal.Refusal.{Refusal}
@@ -23,6 +23,9 @@ use Rattle.line.specs.Line.{negotiateLine, authenticateLine, nlAuthLine}
 
 -- AUTHENTICATE's
 module _ (s : List ℕ) (d : Answer) (g : d ≡ readAuthenticate s) where
+  pub auth-read : (a : Authenticate) → d .reading ≡ Taken a → readAuthenticate s .reading ≡ Taken a
+  auth-read a h = simp (← g) h
+
   pub auth-taken : (a : Authenticate) → d .reading ≡ Taken a → authText s a ≡ authenticateLine s
   unfolding authenticateLine
   auth-taken a h = simp (← g, h)
@@ -33,6 +36,9 @@ module _ (s : List ℕ) (d : Answer) (g : d ≡ readAuthenticate s) where
 
 -- NL_AUTH's
 module _ (s : List ℕ) (d : NlReading) (g : d ≡ readNlAuth s) where
+  pub nl-read : (m : NlAuth) → d ≡ NlTaken m → readNlAuth s ≡ NlTaken m
+  nl-read m h = sym g ∙ h
+
   pub nl-taken : (m : NlAuth) → d ≡ NlTaken m → nlText s m ≡ nlAuthLine s
   unfolding nlAuthLine
   nl-taken m h = simp (← g, h)
@@ -43,6 +49,9 @@ module _ (s : List ℕ) (d : NlReading) (g : d ≡ readNlAuth s) where
 
 -- NEGOTIATE's
 module _ (s : List ℕ) (d : NegoReading) (g : d ≡ readNegotiate s) where
+  pub nego-read : (m : Negotiate) → d ≡ NegoTaken m → readNegotiate s ≡ NegoTaken m
+  nego-read m h = sym g ∙ h
+
   pub nego-taken : (m : Negotiate) → d ≡ NegoTaken m → negoText s m ≡ negotiateLine s
   unfolding negotiateLine
   nego-taken m h = simp (← g, h)

@@ -3,6 +3,8 @@ ghost use mathlib.Core.Path.{_≡_};
 ghost use Prim.Native.Nat.{_+_, _≤_};
 ghost use lib.ListN.{length};
 ghost use Rattle.negotiate_flags.specs.Flags.{unicode};
+ghost use Rattle.authenticate.specs.declared.Reading.the-variants.{Taken};
+ghost use Rattle.authenticate.specs.Authenticate.{readAuthenticate};
 ghost use Rattle.place.specs.Place.{Wrote};
 ghost use Rattle.place.specs.Written.{roomHolds, bytesAnswer, bytesAfter};
 ghost use Rattle.word.specs.Words.{Room, micWord, kindWord};
@@ -129,8 +131,9 @@ fn put(out: &mut [u8], msg: &[u8], a: Authenticate, wide: bool) -> Place
     put_end(p, out, a.mic_present, f.nt.len)
 }
 
-// The line of `a`, which was read from the message.
+// The line of `a`, which was read from the message: a record that wasn't could show a secret's bytes as a name's.
 pub fn write(out: &mut [u8], msg: &[u8], a: Authenticate) -> Written
+    requires { ⌜ readAuthenticate (now msg) .reading ≡ Taken a ⌝ }
     ensures answer { λ r. ⌜ r ≡ bytesAnswer (authText (now (msg .entry)) a) (now (out .entry)) ⌝ }
     ensures content { λ _. ⌜ now (out .exit) ≡ bytesAfter (authText (now (msg .entry)) a) (now (out .entry)) ⌝ }
 {

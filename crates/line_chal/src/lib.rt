@@ -5,6 +5,8 @@ ghost use lib.ListN.{length};
 ghost use Rattle.place.specs.Place.{Wrote};
 ghost use Rattle.place.specs.Written.{roomHolds, bytesAnswer, bytesAfter};
 ghost use Rattle.word.specs.Words.{Room};
+ghost use Rattle.challenge.specs.declared.Reading.the-variants.{Taken};
+ghost use Rattle.challenge.specs.Challenge.{fieldsOf};
 ghost use Rattle.line_chal.specs.Chal.{timeText, timeWord, chalEnd, chalWords, chalText};
 use av_pairs::Count;
 use av_pairs::count_pairs;
@@ -117,6 +119,7 @@ fn write_words(
 
 // The line of `c`, which was read from the message: checks 10 to 13 on its list, and then the words or the line of the refusal.
 pub fn write(out: &mut [u8], msg: &[u8], c: Challenge) -> Written
+    requires { ⌜ fieldsOf (now msg) ≡ Taken c ⌝ }
     ensures answer { λ r. ⌜ r ≡ bytesAnswer (chalText (now (msg .entry)) c) (now (out .entry)) ⌝ }
     ensures content { λ _. ⌜ now (out .exit) ≡ bytesAfter (chalText (now (msg .entry)) c) (now (out .entry)) ⌝ }
 {

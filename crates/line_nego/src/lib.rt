@@ -5,6 +5,8 @@ ghost use lib.ListN.{length};
 ghost use Rattle.place.specs.Place.{Wrote};
 ghost use Rattle.place.specs.Written.{roomHolds, bytesAnswer, bytesAfter};
 ghost use Rattle.word.specs.Words.{Room};
+ghost use Rattle.negotiate.specs.declared.Reading.the-variants.{Taken};
+ghost use Rattle.negotiate.specs.Negotiate.{readNegotiate};
 ghost use Rattle.line_nego.specs.Nego.{negoNames, negoText};
 use negotiate::Negotiate;
 use place::Place;
@@ -58,6 +60,7 @@ fn put(out: &mut [u8], msg: &[u8], m: Negotiate) -> Place
 
 // The line of `m`, which was read from the message.
 pub fn write(out: &mut [u8], msg: &[u8], m: Negotiate) -> Written
+    requires { ⌜ readNegotiate (now msg) ≡ Taken m ⌝ }
     ensures answer { λ r. ⌜ r ≡ bytesAnswer (negoText (now (msg .entry)) m) (now (out .entry)) ⌝ }
     ensures content { λ _. ⌜ now (out .exit) ≡ bytesAfter (negoText (now (msg .entry)) m) (now (out .entry)) ⌝ }
 {

@@ -7,6 +7,8 @@ ghost use Rattle.place.specs.Place.{Wrote};
 ghost use Rattle.place.specs.Written.{roomHolds, bytesAnswer, bytesAfter};
 ghost use Rattle.wire.specs.Number.{has};
 ghost use Rattle.word.specs.Words.{Room, stringWord};
+ghost use Rattle.nl_auth.specs.declared.Reading.the-variants.{Taken};
+ghost use Rattle.nl_auth.specs.NlAuth.{readNlAuth};
 ghost use Rattle.line_nl.specs.Nl.{nlStart, nlOem, nlUtf8, nlText};
 use field::Field;
 use nl_auth::NlAuth;
@@ -193,6 +195,7 @@ fn put(out: &mut [u8], msg: &[u8], m: NlAuth) -> Place
 
 // The line of `m`, which was read from the message.
 pub fn write(out: &mut [u8], msg: &[u8], m: NlAuth) -> Written
+    requires { ⌜ readNlAuth (now msg) ≡ Taken m ⌝ }
     ensures answer { λ r. ⌜ r ≡ bytesAnswer (nlText (now (msg .entry)) m) (now (out .entry)) ⌝ }
     ensures content { λ _. ⌜ now (out .exit) ≡ bytesAfter (nlText (now (msg .entry)) m) (now (out .entry)) ⌝ }
 {

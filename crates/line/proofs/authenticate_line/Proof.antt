@@ -1,7 +1,7 @@
 -- `authenticate_line` writes the line of a message that is taken, and that of its refusal.
 use borrow.Author.Needs.{needs}
 use Rattle.word.proofs.Calls.{same-line}
-use Rattle.line.proofs.Lines.{auth-taken, auth-refused}
+use Rattle.line.proofs.Lines.{auth-read, auth-taken, auth-refused}
 use Rattle.line.proofs.authenticate_line.Statement.{statement}
 use Rattle.line.proofs.authenticate_line.Tie as tie
 
@@ -9,6 +9,6 @@ pub authenticate-line-spec : {M : Type 1} → statement M
 authenticate-line-spec =
     tie.close
     (tie.spec
-    (λ c κs. search needs) (λ c. search needs) (λ c κs. search needs) (λ c. search needs)
+    (λ c κs. search needs) (λ c. search needs) (λ c κs. search auth-read) (λ c. search needs)
     (λ c κs. search needs) (λ c. search needs) (λ c. (search (same-line, auth-taken), search (same-line, auth-taken)))
     (λ c. search needs) (λ c. (search (same-line, auth-refused), search (same-line, auth-refused))))
