@@ -53,3 +53,4 @@ pub mod Told
 pub mod SmallFields
 pub mod LineShort
 pub mod Answers
+pub mod LineBounds
