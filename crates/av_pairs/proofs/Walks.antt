@@ -98,6 +98,20 @@ enough-pairs (suc k) m s at a b = go m (stepAt s at) refl b (λ n i. enough-pair
   go m End e b later = refl
   go m (Refused f) e b later = refl
 
+few-from : (k : ℕ) (s : List ℕ) (at : ℕ) → length (pairsFrom k s at) ≤ length s - at
+few-from zero s at = omega arith
+few-from (suc k) s at = go (stepAt s at) refl (λ i. few-from k s i) where
+  go : (r : Step) → stepAt s at ≡ r → ((i : ℕ) → length (pairsFrom k s i) ≤ length s - i) →
+      length (onStep r (λ p. p ∷ pairsFrom k s (endOf p)) (λ v. [])) ≤ length s - at
+  go (Pair p) e later = omega (arith, later (endOf p), falls s at (Pair p) (sym e) p refl)
+  go End e later = omega arith
+  go (Refused f) e later = omega arith
+
+-- so there are no more pairs than bytes
+pub few-pairs : (s : List ℕ) → length (pairsOf s) ≤ length s
+unfolding pairsOf
+few-pairs s = omega (arith, few-from (suc (length s)) s 0)
+
 -- at the start, all is left
 pub pairs-start : (s : List ℕ) → pairsAt s 0 ≡ pairsOf s
 unfolding pairsAt pairsOf

@@ -56,3 +56,4 @@ pub mod Answers
 pub mod Printed
 pub mod PairsBack
 pub mod ResponsePairs
+pub mod LineBounds

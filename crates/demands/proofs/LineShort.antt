@@ -1,8 +1,8 @@
 -- A line has under 2^20 bytes.
-use Prim.Native.Nat.{ℕ, zero, suc, _+_, _*_, _≤_, _<_}
+use Prim.Native.Nat.{ℕ, _+_, _≤_, _<_}
 use mathlib.Core.Path.{_≡_, refl, sym, subst}
 use mathlib.Core.Bool.{Bool, true, false, cond}
-use mathlib.Core.List.{List, [], _∷_}
+use mathlib.Core.List.{List}
 use native.Mathlib.Omega.{arith}
 use lib.Dec.{leb, eqb}
 use lib.ListN.{length, drop, length-append}
@@ -14,7 +14,6 @@ use Rattle.wire.specs.declared.refusal.Refusal.{Refusal}
 use Rattle.wire.specs.declared.refusal.Refusal.the-variants.{TooLong, TooShort, WrongType, NoStrings, Unterminated, BytesLeft, WrongResponse, NoRoom}
 use Rattle.wire.specs.Check.{checked, after, onClear}
 use Rattle.wire.specs.Refusal.{numberOf, fieldOf}
-use Rattle.wire.proofs.Laws.{held-true}
 use Rattle.place.specs.Written.{roomHolds}
 use Rattle.field.specs.declared.Field.{Field}
 use Rattle.field.specs.Field.{noField}
@@ -23,9 +22,8 @@ use Rattle.authenticate.specs.declared.Authenticate.{Authenticate}
 use Rattle.authenticate.specs.declared.Reading.{Reading}
 use Rattle.authenticate.specs.declared.Reading.the-variants.{Taken, Refused}
 use Rattle.authenticate.specs.Authenticate.{readAuthenticate}
-use Rattle.av_pairs.specs.declared.Step.{Step}
-use Rattle.av_pairs.specs.declared.Step.the-variants.{Pair, End, Refused as Faulty}
-use Rattle.av_pairs.specs.AvPairs.{stepAt, onStep, endOf, pairsFrom, pairsOf, checkPairs}
+use Rattle.av_pairs.specs.AvPairs.{pairsOf, checkPairs}
+use Rattle.av_pairs.proofs.Walks.{few-pairs}
 use Rattle.challenge.specs.declared.Challenge.{Challenge}
 use Rattle.challenge.specs.declared.Reading.{Reading as ChallengeReading}
 use Rattle.challenge.specs.declared.Reading.the-variants.{Taken as ChallengeTaken, Refused as ChallengeRefused}
@@ -49,10 +47,6 @@ use Rattle.word.specs.Words.{numberWord}
 use Rattle.word.proofs.Names.{field-small}
 use Rattle.word.proofs.Numbers.{decimal-small}
 use Rattle.line_auth.specs.Auth.{authLengths}
-use Rattle.line_auth.proofs.Laws.{auth-fits}
-use Rattle.line_chal.proofs.Laws.{chal-fits}
-use Rattle.line_nego.proofs.Laws.{nego-fits}
-use Rattle.line_nl.proofs.Laws.{nl-fits}
 use Rattle.line_refused.specs.Refused.{refusedText, refusedLine}
 use Rattle.line.specs.Line.{negoLine, negotiateLine, authLine, authenticateLine, chalLine, challengeLine, nlLine, nlAuthLine, lineAs, ntlmLine, shownLine}
 use Rattle.target_info.specs.TargetInfo.{timestampIn}
@@ -65,6 +59,7 @@ use Rattle.demands.specs.Message.{Format, negotiate, authenticate, chall
 use Rattle.demands.specs.OwnBytes.{OwnField}
 use Rattle.demands.specs.TakenExactly.{IsTakenNegotiate, IsTakenNl}
 use Rattle.demands.proofs.ChallengeOwn.{taken-as, challenge-own}
+use Rattle.demands.proofs.LineBounds.{auth-bound, nego-bound, chal-bound, nl-bound}
 use Rattle.demands.proofs.Negotiate.{negotiate-taken, negotiate-own}
 use Rattle.demands.proofs.NlAuth.{nl-auth-taken}
 use Rattle.demands.proofs.OwnBytes.{none-fails, authenticate-own}
@@ -86,10 +81,6 @@ own-len k s i f o = go (leb (f .len) (length s)) refl where
       let l = leb-false (f .len) (length s) p in
       let none = o .none (λ ne. omega (arith, l, o .place ne .1, o .whole ne)) in
       omega (arith, l, none .1)
-
--- a line that fits a room
-fits-short : (n room : ℕ) → Held ≡ roomHolds n room → n ≤ room
-fits-short n room h = leb-true n room (held-true (leb n room) (sym h))
 
 -- a number of 64 bits has at most 20 digits
 number-bound : (label : List ℕ) (n : ℕ) → n < 0x10000000000000000 → length (numberWord label n) ≤ length label + 20
@@ -117,8 +108,7 @@ auth-short s a h =
     let key = own-len authenticate s 6 (a .fields .key) (o .key) in
     let lengths : length (authLengths (a .fields .lm .len) (a .fields .nt .len) (a .fields .key .len)) ≤ 73 =
     simp length-append (omega (arith, number-bound (ascii " lm=") (a .fields .lm .len) (omega (arith, n, lm)), number-bound (ascii " nt=") (a .fields .nt .len) (omega (arith, n, nt)), number-bound (ascii " key=") (a .fields .key .len) (omega (arith, n, key)))) in
-    let fits = fits-short (length (authLine s (Taken a))) 1000000 (auth-fits s a (length (authLengths (a .fields .lm .len) (a .fields .nt .len) (a .fields .key .len))) 1000000 refl (omega (arith, n, lengths, domain, user, workstation))) in
-    omega (arith, fits)
+    omega (arith, n, lengths, domain, user, workstation, auth-bound s a)
 
 authenticate-short : (s : List ℕ) → length (authenticateLine s) < 0x100000
 unfolding authenticateLine
@@ -135,8 +125,7 @@ nego-short s m h =
     let o = negotiate-own s m h in
     let domain = own-len negotiate s 1 (m .fields .domain) (o .domain) in
     let workstation = own-len negotiate s 2 (m .fields .workstation) (o .workstation) in
-    let fits = fits-short (length (negoLine s (NegotiateTaken m))) 1000000 (nego-fits s m 1000000 (omega (arith, n, domain, workstation))) in
-    omega (arith, fits)
+    omega (arith, n, domain, workstation, nego-bound s m)
 
 negotiate-short : (s : List ℕ) → length (negotiateLine s) < 0x100000
 unfolding negotiateLine
@@ -146,19 +135,6 @@ negotiate-short s = go (readNegotiate s) refl where
   go (NegotiateRefused e) p = refused-short e (negotiate-small s e p)
 
 -- ---- CHALLENGE
-
--- so many steps find at most so many pairs
-few-pairs : (k : ℕ) (s : List ℕ) (at : ℕ) → length (pairsFrom k s at) ≤ k
-few-pairs zero s at = omega arith
-few-pairs (suc k) s at = go (stepAt s at) (λ next. few-pairs k s next) where
-  go : (r : Step) → ((next : ℕ) → length (pairsFrom k s next) ≤ k) → length (onStep r (λ p. p ∷ pairsFrom k s (endOf p)) (λ v. [])) ≤ suc k
-  go (Pair p) few = omega (arith, few (endOf p))
-  go End few = omega arith
-  go (Faulty e) few = omega arith
-
-pairs-few : (s : List ℕ) → length (pairsOf s) ≤ length s + 1
-unfolding pairsOf
-pairs-few s = omega (arith, few-pairs (suc (length s)) s 0)
 
 chal-short : (s : List ℕ) (c : Challenge) → readChallenge s .reading ≡ ChallengeTaken c → length (chalLine s (ChallengeTaken c)) < 0x100000
 unfolding chalText
@@ -175,11 +151,9 @@ chal-short s c h = go (checkPairs (infoOf s c)) (pairs-judged (infoOf s c)) wher
       let name = own-len challenge s 1 (c .fields .«target_name») (o .target-name) in
       let info = own-len challenge s 2 (c .fields .«target_info») (o .target-info) in
       let bytes = field-small s (infoOf s c) (c .fields .«target_info») refl in
-      let pairs = pairs-few (infoOf s c) in
+      let pairs = few-pairs (infoOf s c) in
       let word = number-bound (ascii " pairs=") (length (pairsOf (infoOf s c))) (omega (arith, n, info, bytes, pairs)) in
-      let fits = fits-short (length words) 1000000
-      (chal-fits (unicode (c .flags)) s c (length (pairsOf (infoOf s c))) (timestampIn (infoOf s c)) (length (numberWord (ascii " pairs=") (length (pairsOf (infoOf s c))))) 1000000 refl (omega (arith, n, name, word))) in
-      omega (arith, fits)
+      omega (arith, n, name, word, chal-bound (unicode (c .flags)) s c (length (pairsOf (infoOf s c))) (timestampIn (infoOf s c)))
 
   go : (v : Verdict) → JudgedP (infoOf s c) v → length (onClear refusedLine v words) < 0x100000
   go Clear j = words-short
@@ -251,11 +225,7 @@ nl-short s m h =
     let n = not-long (length s) (λ l. nl-auth-taken s .0 (subst IsTakenNl (sym h) tt) 1 0 (refl, l)) in
     let inside = subst (Inside s) h (nl-inside s) in
     let word = number-bound (ascii "nl type=") (m .«message_type») (omega (arith, inside .1)) in
-    let fits = fits-short (length (nlLine s (NlTaken m))) 1000000
-    (nl-fits s m (length (numberWord (ascii "nl type=") (m .«message_type»)))
-    (4 * (m .strings .«nb_domain» .len + m .strings .«nb_computer» .len + m .strings .«dns_domain» .len + m .strings .«dns_host» .len + m .strings .«utf8_computer» .len))
-    1000000 refl refl (omega (arith, n, inside .0, word))) in
-    omega (arith, fits)
+    omega (arith, n, inside .0, word, nl-bound s m)
 
 nl-auth-short : (s : List ℕ) → length (nlAuthLine s) < 0x100000
 unfolding nlAuthLine

@@ -1,6 +1,6 @@
 // The line of an AUTHENTICATE message that was taken.
 ghost use mathlib.Core.Path.{_≡_};
-ghost use Prim.Native.Nat.{_+_, _≤_};
+ghost use Prim.Native.Nat.{_-_, _≤_};
 ghost use lib.ListN.{length};
 ghost use Rattle.negotiate_flags.specs.Flags.{unicode};
 ghost use Rattle.authenticate.specs.declared.Reading.the-variants.{Taken};
@@ -16,25 +16,35 @@ use place::written::Written;
 use place::written::room_holds;
 use wire::check::Checked;
 use wire::refusal::Refusal;
-use word::words::name_word_size;
-use word::words::number_word_size;
 use word::words::put_name_word;
 use word::words::put_number_word;
 use word::words::put_start;
+use word::words::room_after_name_word;
+use word::words::room_after_number_word;
 
-fn names_size(msg: &[u8], domain: Field, user: Field, workstation: Field, unicode: bool) -> usize
-    ensures { λ r. ⌜ (r ≡ length (authNames unicode (now (msg .entry)) domain user workstation)) × (r ≤ 1200000) ⌝ }
+// What the names leave of a room.
+fn room_after_names(
+    room: usize,
+    msg: &[u8],
+    domain: Field,
+    user: Field,
+    workstation: Field,
+    unicode: bool,
+) -> usize
+    ensures { λ r. ⌜ r ≡ room - length (authNames unicode (now (msg .entry)) domain user workstation) ⌝ }
 {
-    name_word_size(b" domain=", msg, domain, unicode)
-        + (name_word_size(b" user=", msg, user, unicode)
-            + name_word_size(b" work=", msg, workstation, unicode))
+    let left = room_after_name_word(room, b" domain=", msg, domain, unicode);
+    let left = room_after_name_word(left, b" user=", msg, user, unicode);
+    room_after_name_word(left, b" work=", msg, workstation, unicode)
 }
 
-fn lengths_size(lm: u16, nt: u16, key: u16) -> usize
-    ensures { λ r. ⌜ (r ≡ length (authLengths lm nt key)) × (r ≤ 108) ⌝ }
+// What the lengths leave of a room.
+fn room_after_lengths(room: usize, lm: u16, nt: u16, key: u16) -> usize
+    ensures { λ r. ⌜ r ≡ room - length (authLengths lm nt key) ⌝ }
 {
-    number_word_size(b" lm=", lm as usize)
-        + (number_word_size(b" nt=", nt as usize) + number_word_size(b" key=", key as usize))
+    let left = room_after_number_word(room, b" lm=", lm as u32);
+    let left = room_after_number_word(left, b" nt=", nt as u32);
+    room_after_number_word(left, b" key=", key as u32)
 }
 
 fn kind_size(nt: u16) -> usize
@@ -46,19 +56,16 @@ fn kind_size(nt: u16) -> usize
     8
 }
 
-// Check 33. Where there is room for four bytes to each byte of the names, the line has room whatever they hold and need not be
-// measured: 25 for the start, 20 for the labels, 6 for the MIC's word, 10 for the kind's and 1 for the line's end.
+// Check 33, by what the names and the lengths leave of the room: 25 for the start, 6 for the MIC's word, the kind's word and 1
+// for the line's end.
 fn fits(msg: &[u8], a: Authenticate, room: usize) -> Checked
     ensures { λ r. ⌜ r ≡ roomHolds (length (authText (now (msg .entry)) a)) room ⌝ }
 {
     let f = a.fields;
-    let lengths = lengths_size(f.lm.len, f.nt.len, f.key.len);
-    let names_len = f.domain.len as usize + f.user.len as usize + f.workstation.len as usize;
-    if 62 + lengths + 4 * names_len <= room {
-        return Checked::Held;
-    }
-    let names = names_size(msg, f.domain, f.user, f.workstation, a.flags.unicode());
-    room_holds(25 + names + lengths + 6 + kind_size(f.nt.len) + 1, room)
+    let unicode = a.flags.unicode();
+    let left = room_after_names(room, msg, f.domain, f.user, f.workstation, unicode);
+    let left = room_after_lengths(left, f.lm.len, f.nt.len, f.key.len);
+    room_holds(25 + 6 + kind_size(f.nt.len) + 1, left)
 }
 
 fn put_names(
@@ -82,9 +89,9 @@ fn put_lengths(p: Place, out: &mut [u8], lm: u16, nt: u16, key: u16) -> Place
     requires { ⌜ Room (p .at) (authLengths lm nt key) (length (now out)) ⌝ }
     ensures { λ r. ⌜ Wrote (now (out .entry)) (now (out .exit)) (p .at) (r .at) (authLengths lm nt key) ⌝ }
 {
-    let p = put_number_word(p, out, b" lm=", lm as usize);
-    let p = put_number_word(p, out, b" nt=", nt as usize);
-    put_number_word(p, out, b" key=", key as usize)
+    let p = put_number_word(p, out, b" lm=", lm as u32);
+    let p = put_number_word(p, out, b" nt=", nt as u32);
+    put_number_word(p, out, b" key=", key as u32)
 }
 
 fn put_mic(p: Place, out: &mut [u8], present: bool) -> Place

@@ -1,5 +1,5 @@
 -- Laws of the timestamp's word, of the line's length, and of the list that decides on the line.
-use Prim.Native.Nat.{ℕ, _+_, _*_, _≤_}
+use Prim.Native.Nat.{ℕ, _+_, _-_, _≤_, _<_}
 use mathlib.Core.Path.{_≡_, sym}
 use mathlib.Core.Bool.{Bool}
 use mathlib.Core.List.{List}
@@ -14,19 +14,19 @@ use Rattle.negotiate_flags.specs.Flags.{unicode}
 use Rattle.av_pairs.specs.declared.Count.{Count}
 use Rattle.av_pairs.specs.declared.Count.the-variants.{Pairs, Refused as Uncounted}
 use Rattle.av_pairs.specs.AvPairs.{countPairs}
-use Rattle.av_pairs.proofs.Walks.{all-held, one-failed, count-is}
+use Rattle.av_pairs.proofs.Walks.{few-pairs, all-held, one-failed, count-is}
 use Rattle.challenge.specs.declared.Challenge.{Challenge}
 use Rattle.challenge.specs.Challenge.{infoOf}
 use Rattle.target_info.specs.declared.Timestamp.{Timestamp}
 use Rattle.target_info.specs.declared.Timestamp.the-variants.{Time, Nothing as NoTime}
 use Rattle.target_info.specs.TargetInfo.{timestampIn}
-use Rattle.wire.specs.declared.check.Checked.the-variants.{Held}
+use Rattle.wire.specs.declared.check.Checked.{Checked}
 use Rattle.line_refused.specs.Refused.{refusedLine}
 use Rattle.place.specs.Written.{roomHolds}
 use Rattle.word.specs.Words.{Room, numberWord, nameWord}
-use Rattle.word.proofs.Calls.{bound-fits}
+use Rattle.word.proofs.Calls.{of-left}
 use Rattle.word.proofs.Labels.{start-size}
-use Rattle.word.proofs.Names.{word-bound}
+use Rattle.word.proofs.Names.{field-small}
 use Rattle.word.proofs.Numbers.{length-hex}
 use Rattle.line_chal.specs.Chal.{timeText, timeWord, chalEnd, chalWords, chalText}
 
@@ -68,26 +68,12 @@ module _ (unicode : Bool) (s : List ℕ) (c : Challenge) (pairs : ℕ) (time : T
   abbrev target : List ℕ
   target = nameWord (ascii " target=") unicode (fieldBytes s (c .fields .«target_name»))
 
-  pub chal-size : (n p t : ℕ) → n ≡ length target → p ≡ length (numberWord (ascii " pairs=") pairs) → t ≡ length (timeWord time) →
-      25 + n + p + t + 1 ≡ length (chalWords unicode s c pairs time)
+  pub chal-fits : (room n p t : ℕ) (r : Checked) → n ≡ room - length target → p ≡ n - length (numberWord (ascii " pairs=") pairs) →
+      t ≡ length (timeWord time) → r ≡ roomHolds (25 + t + 1) p → r ≡ roomHolds (length (chalWords unicode s c pairs time)) room
   unfolding chalWords chalEnd
-  chal-size n p t e f g = simp (length-append, start-size) (omega arith)
-
-  time-bound : (w : Timestamp) → length (timeWord w) ≤ 22
-  unfolding timeWord
-  time-bound (Time t) = omega (arith, time-text-size t)
-  time-bound NoTime = omega arith
-
-  chal-bound : (p : ℕ) → p ≡ length (numberWord (ascii " pairs=") pairs) →
-      length (chalWords unicode s c pairs time) ≤ 56 + p + 4 * c .fields .«target_name» .len
-  unfolding chalWords chalEnd
-  chal-bound p e =
-      simp (length-append, start-size)
-      (omega (arith, time-bound time, word-bound (ascii " target=") s unicode (c .fields .«target_name»)))
-
-  pub chal-fits : (p room : ℕ) → p ≡ length (numberWord (ascii " pairs=") pairs) → 56 + p + 4 * c .fields .«target_name» .len ≤ room →
-      Held ≡ roomHolds (length (chalWords unicode s c pairs time)) room
-  chal-fits p room e h = bound-fits (chalWords unicode s c pairs time) (56 + p + 4 * c .fields .«target_name» .len) room (chal-bound p e) h
+  chal-fits room n p t r e f g h =
+      of-left (chalWords unicode s c pairs time) (length target + length (numberWord (ascii " pairs=") pairs)) (25 + t + 1) room p r
+      (simp (length-append, start-size) (omega arith)) (omega arith) (omega arith) h
 
 -- ---- the list: its count and its timestamp, or its refusal
 
@@ -96,6 +82,9 @@ module _ (s : List ℕ) (c : Challenge) (l : List ℕ) (i : l ≡ infoOf s c) (r
       chalWords b s c n t ≡ chalText s c
   unfolding chalText
   list-told n b t h p q = simp (← i, all-held l r e n h, p, q, count-is l r e n h)
+
+  pub count-fits : (n : ℕ) → r ≡ Pairs n → c .fields .«target_info» .len < 65536 → n < 4294967296
+  count-fits n h f = omega (arith, count-is l r e n h, few-pairs l, field-small s l (c .fields .«target_info») i)
 
   pub list-refused : (d : Refusal) → r ≡ Uncounted d → refusedLine d ≡ chalText s c
   unfolding chalText

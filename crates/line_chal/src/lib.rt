@@ -19,11 +19,11 @@ use target_info::timestamp_in;
 use wire::check::Checked;
 use wire::refusal::Refusal;
 use word::digits::put_hex;
-use word::words::name_word_size;
-use word::words::number_word_size;
 use word::words::put_name_word;
 use word::words::put_number_word;
 use word::words::put_start;
+use word::words::room_after_name_word;
+use word::words::room_after_number_word;
 
 fn time_size(time: Timestamp) -> usize
     ensures { λ r. ⌜ (r ≡ length (timeWord time)) × (r ≤ 22) ⌝ }
@@ -34,24 +34,20 @@ fn time_size(time: Timestamp) -> usize
     22
 }
 
-// Check 33. Where there is room for four bytes to each byte of the name, the line has room whatever it holds and need not be
-// measured: 25 for the start, 8 for the label, 22 for the time's word and 1 for the line's end.
+// Check 33, by what the name and the count leave of the room: 25 for the start, the time's word and 1 for the line's end.
 fn fits(
     msg: &[u8],
     c: Challenge,
     unicode: bool,
-    pairs: usize,
+    pairs: u32,
     time: Timestamp,
     room: usize,
 ) -> Checked
     ensures { λ r. ⌜ r ≡ roomHolds (length (chalWords unicode (now (msg .entry)) c pairs time)) room ⌝ }
 {
-    let count = number_word_size(b" pairs=", pairs);
-    if 56 + count + 4 * c.fields.target_name.len as usize <= room {
-        return Checked::Held;
-    }
-    let target = name_word_size(b" target=", msg, c.fields.target_name, unicode);
-    room_holds(25 + target + count + time_size(time) + 1, room)
+    let left = room_after_name_word(room, b" target=", msg, c.fields.target_name, unicode);
+    let left = room_after_number_word(left, b" pairs=", pairs);
+    room_holds(25 + time_size(time) + 1, left)
 }
 
 fn put_time_text(p: Place, out: &mut [u8], t: u64) -> Place
@@ -74,7 +70,7 @@ fn put_time(p: Place, out: &mut [u8], time: Timestamp) -> Place
     put_time_text(p, out, t)
 }
 
-fn put_end(p: Place, out: &mut [u8], pairs: usize, time: Timestamp) -> Place
+fn put_end(p: Place, out: &mut [u8], pairs: u32, time: Timestamp) -> Place
     requires { ⌜ Room (p .at) (chalEnd pairs time) (length (now out)) ⌝ }
     ensures { λ r. ⌜ Wrote (now (out .entry)) (now (out .exit)) (p .at) (r .at) (chalEnd pairs time) ⌝ }
 {
@@ -88,7 +84,7 @@ fn put(
     msg: &[u8],
     c: Challenge,
     unicode: bool,
-    pairs: usize,
+    pairs: u32,
     time: Timestamp,
 ) -> Place
     requires { ⌜ Room 0 (chalWords unicode (now msg) c pairs time) (length (now out)) ⌝ }
@@ -104,7 +100,7 @@ fn write_words(
     msg: &[u8],
     c: Challenge,
     unicode: bool,
-    pairs: usize,
+    pairs: u32,
     time: Timestamp,
 ) -> Written
     ensures answer { λ r. ⌜ r ≡ bytesAnswer (chalWords unicode (now (msg .entry)) c pairs time) (now (out .entry)) ⌝ }
@@ -118,6 +114,7 @@ fn write_words(
 }
 
 // The line of `c`, which was read from the message: checks 10 to 13 on its list, and then the words or the line of the refusal.
+// A list has at most 65,535 bytes, and no more pairs.
 pub fn write(out: &mut [u8], msg: &[u8], c: Challenge) -> Written
     requires { ⌜ fieldsOf (now msg) ≡ Taken c ⌝ }
     ensures answer { λ r. ⌜ r ≡ bytesAnswer (chalText (now (msg .entry)) c) (now (out .entry)) ⌝ }
@@ -125,7 +122,14 @@ pub fn write(out: &mut [u8], msg: &[u8], c: Challenge) -> Written
 {
     let list = c.fields.target_info.bytes(msg);
     match count_pairs(list) {
-        Count::Pairs(n) => write_words(out, msg, c, c.flags.unicode(), n, timestamp_in(list)),
+        Count::Pairs(n) => write_words(
+            out,
+            msg,
+            c,
+            c.flags.unicode(),
+            n as u32,
+            timestamp_in(list),
+        ),
         Count::Refused(e) => line_refused::write(out, e),
     }
 }

@@ -1,6 +1,6 @@
 // The line of a NEGOTIATE message that was taken.
 ghost use mathlib.Core.Path.{_≡_};
-ghost use Prim.Native.Nat.{_≤_};
+ghost use Prim.Native.Nat.{_-_};
 ghost use lib.ListN.{length};
 ghost use Rattle.place.specs.Place.{Wrote};
 ghost use Rattle.place.specs.Written.{roomHolds, bytesAnswer, bytesAfter};
@@ -14,31 +14,26 @@ use place::written::Written;
 use place::written::room_holds;
 use wire::check::Checked;
 use wire::refusal::Refusal;
-use word::words::name_word_size;
 use word::words::put_flags_word;
 use word::words::put_name_word;
+use word::words::room_after_name_word;
 
-fn names_size(msg: &[u8], m: Negotiate) -> usize
-    ensures { λ r. ⌜ (r ≡ length (negoNames (now (msg .entry)) m)) × (r ≤ 800000) ⌝ }
+// What the names leave of a room. Their units are bytes, also where UNICODE is set.
+fn room_after_names(room: usize, msg: &[u8], m: Negotiate) -> usize
+    ensures { λ r. ⌜ r ≡ room - length (negoNames (now (msg .entry)) m) ⌝ }
 {
     let f = m.fields;
-    name_word_size(b" domain=", msg, f.domain, false)
-        + name_word_size(b" work=", msg, f.workstation, false)
+    let left = room_after_name_word(room, b" domain=", msg, f.domain, false);
+    room_after_name_word(left, b" work=", msg, f.workstation, false)
 }
 
-// Check 33. Where there is room for four bytes to each byte of the names, the line has room whatever they hold and need not be
-// measured: 19 for the start, 14 for the labels and 1 for the line's end.
+// Check 33, by what the names leave of the room: 19 for the start and 1 for the line's end.
 fn fits(msg: &[u8], m: Negotiate, room: usize) -> Checked
     ensures { λ r. ⌜ r ≡ roomHolds (length (negoText (now (msg .entry)) m)) room ⌝ }
 {
-    let f = m.fields;
-    if 34 + 4 * (f.domain.len as usize + f.workstation.len as usize) <= room {
-        return Checked::Held;
-    }
-    room_holds(19 + names_size(msg, m) + 1, room)
+    room_holds(19 + 1, room_after_names(room, msg, m))
 }
 
-// The names' units are bytes, also where UNICODE is set.
 fn put_names(p: Place, out: &mut [u8], msg: &[u8], m: Negotiate) -> Place
     requires { ⌜ Room (p .at) (negoNames (now msg) m) (length (now out)) ⌝ }
     ensures { λ r. ⌜ Wrote (now (out .entry)) (now (out .exit)) (p .at) (r .at) (negoNames (now (msg .entry)) m) ⌝ }

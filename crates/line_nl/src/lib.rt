@@ -1,6 +1,6 @@
 // The line of an NL_AUTH message that was taken.
 ghost use mathlib.Core.Path.{_≡_};
-ghost use Prim.Native.Nat.{_+_, _*_, _≤_, _<_};
+ghost use Prim.Native.Nat.{_-_, _<_};
 ghost use lib.ListN.{length};
 ghost use Rattle.field.specs.Field.{fieldBytes};
 ghost use Rattle.place.specs.Place.{Wrote};
@@ -19,81 +19,91 @@ use place::written::room_holds;
 use wire::check::Checked;
 use wire::number::has;
 use wire::refusal::Refusal;
-use word::words::name_word_size;
-use word::words::number_word_size;
 use word::words::put_flags_word;
 use word::words::put_name_word;
 use word::words::put_number_word;
+use word::words::room_after_name_word;
+use word::words::room_after_number_word;
 
-// A string's word is left out where its bit is clear.
-fn string_size(label: &[u8], msg: &[u8], flags: NlAuthFlags, mask: u32, string: Field) -> usize
-    requires { ⌜ (length (now label) ≤ 16) × (0 < mask) ⌝ }
-    ensures { λ r. ⌜ (r ≡ length (stringWord (now (label .entry)) (has (flags .bits) mask) (fieldBytes (now (msg .entry)) string))) × (r ≤ 16 + 6 * 65535) ⌝ }
+// What a string's word leaves of a room; it is left out where its bit is clear.
+fn room_after_string(
+    room: usize,
+    label: &[u8],
+    msg: &[u8],
+    flags: NlAuthFlags,
+    mask: u32,
+    string: Field,
+) -> usize
+    requires { ⌜ 0 < mask ⌝ }
+    ensures { λ r. ⌜ r ≡ room - length (stringWord (now (label .entry)) (has (flags .bits) mask) (fieldBytes (now (msg .entry)) string)) ⌝ }
 {
     if has(flags.bits, mask) {
-        return name_word_size(label, msg, string, false);
+        return room_after_name_word(room, label, msg, string, false);
     }
-    0
+    room
 }
 
-fn oem_size(msg: &[u8], m: NlAuth) -> usize
-    ensures { λ r. ⌜ (r ≡ length (nlOem (now (msg .entry)) m)) × (r ≤ 800000) ⌝ }
+// What the OEM strings leave of a room.
+fn room_after_oem(room: usize, msg: &[u8], m: NlAuth) -> usize
+    ensures { λ r. ⌜ r ≡ room - length (nlOem (now (msg .entry)) m) ⌝ }
 {
     let s = m.strings;
-    string_size(b" a=", msg, m.flags, NlAuthFlags::NB_DOMAIN, s.nb_domain)
-        + string_size(
-            b" b=",
-            msg,
-            m.flags,
-            NlAuthFlags::NB_COMPUTER,
-            s.nb_computer,
-        )
+    let left = room_after_string(
+        room,
+        b" a=",
+        msg,
+        m.flags,
+        NlAuthFlags::NB_DOMAIN,
+        s.nb_domain,
+    );
+    room_after_string(
+        left,
+        b" b=",
+        msg,
+        m.flags,
+        NlAuthFlags::NB_COMPUTER,
+        s.nb_computer,
+    )
 }
 
-fn utf8_size(msg: &[u8], m: NlAuth) -> usize
-    ensures { λ r. ⌜ (r ≡ length (nlUtf8 (now (msg .entry)) m)) × (r ≤ 1200000) ⌝ }
+// What the UTF-8 strings leave of a room.
+fn room_after_utf8(room: usize, msg: &[u8], m: NlAuth) -> usize
+    ensures { λ r. ⌜ r ≡ room - length (nlUtf8 (now (msg .entry)) m) ⌝ }
 {
     let s = m.strings;
-    string_size(b" c=", msg, m.flags, NlAuthFlags::DNS_DOMAIN, s.dns_domain)
-        + (string_size(b" d=", msg, m.flags, NlAuthFlags::DNS_HOST, s.dns_host)
-            + string_size(
-                b" e=",
-                msg,
-                m.flags,
-                NlAuthFlags::UTF8_COMPUTER,
-                s.utf8_computer,
-            ))
+    let left = room_after_string(
+        room,
+        b" c=",
+        msg,
+        m.flags,
+        NlAuthFlags::DNS_DOMAIN,
+        s.dns_domain,
+    );
+    let left = room_after_string(
+        left,
+        b" d=",
+        msg,
+        m.flags,
+        NlAuthFlags::DNS_HOST,
+        s.dns_host,
+    );
+    room_after_string(
+        left,
+        b" e=",
+        msg,
+        m.flags,
+        NlAuthFlags::UTF8_COMPUTER,
+        s.utf8_computer,
+    )
 }
 
-// Four bytes to each byte of the strings.
-fn strings_bound(m: NlAuth) -> usize
-    ensures { λ r. ⌜ (r ≡ 4 * (m .strings .«nb_domain» .len + m .strings .«nb_computer» .len + m .strings .«dns_domain» .len + m .strings .«dns_host» .len + m .strings .«utf8_computer» .len)) × (r ≤ 1400000) ⌝ }
-{
-    let s = m.strings;
-    let oem = s.nb_domain.len as usize + s.nb_computer.len as usize;
-    4 * (oem + s.dns_domain.len as usize + s.dns_host.len as usize + s.utf8_computer.len as usize)
-}
-
-fn size(msg: &[u8], m: NlAuth) -> usize
-    ensures { λ r. ⌜ r ≡ length (nlText (now (msg .entry)) m) ⌝ }
-{
-    // 15 for the flags' word and 1 for the line's end
-    number_word_size(b"nl type=", m.message_type as usize)
-        + 15
-        + oem_size(msg, m)
-        + utf8_size(msg, m)
-        + 1
-}
-
-// Check 33. Where there is room for four bytes to each byte of the strings, the line has room whatever they hold and need not be
-// measured: 15 for the flags' word, 15 for the labels and 1 for the line's end.
+// Check 33, by what the type's word and the strings leave of the room: 15 for the flags' word and 1 for the line's end.
 fn fits(msg: &[u8], m: NlAuth, room: usize) -> Checked
     ensures { λ r. ⌜ r ≡ roomHolds (length (nlText (now (msg .entry)) m)) room ⌝ }
 {
-    if number_word_size(b"nl type=", m.message_type as usize) + 31 + strings_bound(m) <= room {
-        return Checked::Held;
-    }
-    room_holds(size(msg, m), room)
+    let left = room_after_number_word(room, b"nl type=", m.message_type);
+    let left = room_after_oem(left, msg, m);
+    room_holds(15 + 1, room_after_utf8(left, msg, m))
 }
 
 fn put_start(out: &mut [u8], message_type: u32, bits: u32) -> Place
@@ -101,7 +111,7 @@ fn put_start(out: &mut [u8], message_type: u32, bits: u32) -> Place
     ensures { λ r. ⌜ Wrote (now (out .entry)) (now (out .exit)) 0 (r .at) (nlStart «message_type» bits) ⌝ }
 {
     let p = Place { at: 0 };
-    let p = put_number_word(p, out, b"nl type=", message_type as usize);
+    let p = put_number_word(p, out, b"nl type=", message_type);
     put_flags_word(p, out, bits)
 }
 

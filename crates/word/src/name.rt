@@ -1,7 +1,7 @@
 // A name in a log line, unit by unit.
 ghost use mathlib.Core.Path.{_≡_};
 ghost use mathlib.Core.Bool.{cond};
-ghost use Prim.Native.Nat.{_+_, _*_, _≤_, _<_};
+ghost use Prim.Native.Nat.{_+_, _-_, _≤_};
 ghost use lib.ListN.{length, getD};
 ghost use Rattle.wire.specs.Number.{u16At};
 ghost use Rattle.field.specs.Field.{fieldBytes};
@@ -44,7 +44,7 @@ fn unit_at(name: &[u8], at: usize, unicode: bool) -> u16
 
 // How many bytes a unit's text has.
 fn unit_size(u: u16, unicode: bool) -> usize
-    ensures { λ r. ⌜ (r ≡ length (unitText unicode u)) × (r ≤ 6) ⌝ }
+    ensures { λ r. ⌜ r ≡ length (unitText unicode u) ⌝ }
 {
     if is_plain(u) {
         return 1;
@@ -55,19 +55,22 @@ fn unit_size(u: u16, unicode: bool) -> usize
     4
 }
 
-// How many bytes a name's text has.
-fn name_size(name: &[u8], unicode: bool) -> usize
-    requires { ⌜ length (now name) ≤ 65535 ⌝ }
-    ensures { λ r. ⌜ (r ≡ length (nameText unicode (now (name .entry)))) × (r ≤ 6 * 65535) ⌝ }
+// What a name's text leaves of a room: nothing where it passes it, and the first unit that does is the last that is looked at.
+fn room_after_name(room: usize, name: &[u8], unicode: bool) -> usize
+    ensures { λ r. ⌜ r ≡ room - length (nameText unicode (now (name .entry))) ⌝ }
 {
     let width = unit_width(unicode);
-    let mut size: usize = 0;
+    let mut left = room;
     let mut i: usize = 0;
     while i + width <= name.len() {
-        size = size + unit_size(unit_at(name, i, unicode), unicode);
+        let size = unit_size(unit_at(name, i, unicode), unicode);
+        if left < size {
+            return 0;
+        }
+        left = left - size;
         i = i + width;
     }
-    size
+    left
 }
 
 // A backslash, a letter and so many hex digits.
@@ -110,10 +113,11 @@ fn put_name(out: &mut [u8], name: &[u8], unicode: bool) -> Place
     p
 }
 
-pub fn field_size(msg: &[u8], f: Field, unicode: bool) -> usize
-    ensures { λ r. ⌜ (r ≡ length (nameText unicode (fieldBytes (now (msg .entry)) f))) × (r ≤ 6 * 65535) ⌝ }
+// The same of the name that a field holds.
+pub fn room_after_field(room: usize, msg: &[u8], f: Field, unicode: bool) -> usize
+    ensures { λ r. ⌜ r ≡ room - length (nameText unicode (fieldBytes (now (msg .entry)) f)) ⌝ }
 {
-    name_size(f.bytes(msg), unicode)
+    room_after_name(room, f.bytes(msg), unicode)
 }
 
 // The text of the name that a field holds, at the start of the output.

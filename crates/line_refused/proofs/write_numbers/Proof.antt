@@ -8,6 +8,6 @@ pub write-numbers-spec : {M : Type 1} → statement M
 write-numbers-spec =
     tie.close
     (tie.spec
-    (λ c κs. search needs) (λ c κs. search needs) (λ c. search needs) (λ c. search needs)
+    (λ c κs. search needs) (λ c. search needs) (λ c. search needs)
     (λ c. (search no-room, search as-it-was)) (λ c κs. search has-room) (λ c. search needs)
     (λ c. (search its-length, search its-bytes)))

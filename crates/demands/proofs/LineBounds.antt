@@ -1,0 +1,117 @@
+-- How long a line is at most, by the lengths of its names: a name's text has at most four bytes for each of the name's.
+use Prim.Native.Nat.{ℕ, _+_, _*_, _≤_}
+use mathlib.Core.Path.{_≡_, refl}
+use mathlib.Core.Bool.{Bool, true, false, cond}
+use mathlib.Core.List.{List, [], _∷_}
+use native.Mathlib.Omega.{arith}
+use lib.Dec.{eqb}
+use lib.ListN.{length, length-append}
+use Rattle.text.specs.Text.{ascii}
+use Rattle.field.specs.declared.Field.{Field}
+use Rattle.field.specs.Field.{fieldBytes}
+use Rattle.negotiate_flags.specs.Flags.{unicode}
+use Rattle.nl_auth_flags.specs.Flags.{nbDomain, nbComputer, dnsDomain, dnsHost, utf8Computer}
+use Rattle.authenticate.specs.declared.Authenticate.{Authenticate}
+use Rattle.challenge.specs.declared.Challenge.{Challenge}
+use Rattle.negotiate.specs.declared.Negotiate.{Negotiate}
+use Rattle.nl_auth.specs.declared.NlAuth.{NlAuth}
+use Rattle.target_info.specs.declared.Timestamp.{Timestamp}
+use Rattle.target_info.specs.declared.Timestamp.the-variants.{Time, Nothing as NoTime}
+use Rattle.word.specs.Name.{plain, unitText, textOf, nameText}
+use Rattle.word.specs.Words.{numberWord, nameWord, stringWord, kindWord}
+use Rattle.word.proofs.Labels.{flags-word-size, start-size, mic-size}
+use Rattle.word.proofs.Names.{size-plain, size-wide, size-byte, field-small}
+use Rattle.line_auth.specs.Auth.{authNames, authLengths, authEnd, authText}
+use Rattle.line_chal.specs.Chal.{timeWord, chalEnd, chalWords}
+use Rattle.line_chal.proofs.Laws.{time-size}
+use Rattle.line_nego.specs.Nego.{negoNames, negoText}
+use Rattle.line_nl.specs.Nl.{nlStart, nlOem, nlUtf8, nlText}
+
+-- ---- a name
+
+wide-bound : (u : ℕ) → length (unitText true u) ≤ 6
+wide-bound u = go (plain u) refl where
+  go : (t : Bool) → plain u ≡ t → length (unitText true u) ≤ 6
+  go true p = omega (arith, size-plain u (plain u) refl true p)
+  go false p = omega (arith, size-wide u (plain u) refl true p refl)
+
+byte-bound : (u : ℕ) → length (unitText false u) ≤ 4
+byte-bound u = go (plain u) refl where
+  go : (t : Bool) → plain u ≡ t → length (unitText false u) ≤ 4
+  go true p = omega (arith, size-plain u (plain u) refl false p)
+  go false p = omega (arith, size-byte u (plain u) refl false p refl)
+
+name-bound : (unicode : Bool) (s : List ℕ) → length (nameText unicode s) ≤ 4 * length s
+unfolding nameText textOf
+name-bound true [] = omega arith
+name-bound true (a ∷ []) = omega arith
+name-bound true (a ∷ b ∷ s) = omega (arith, wide-bound (a + 256 * b), name-bound true s, length-append (unitText true (a + 256 * b)) (nameText true s))
+name-bound false [] = omega arith
+name-bound false (a ∷ s) = omega (arith, byte-bound a, name-bound false s, length-append (unitText false a) (nameText false s))
+
+word-bound : (label s : List ℕ) (unicode : Bool) (f : Field) → length (nameWord label unicode (fieldBytes s f)) ≤ length label + 4 * f .len
+unfolding nameWord
+word-bound label s unicode f =
+    omega (arith, length-append label (nameText unicode (fieldBytes s f)), name-bound unicode (fieldBytes s f), field-small s (fieldBytes s f) f refl)
+
+string-bound : (label s : List ℕ) (given : Bool) (f : Field) → length (stringWord label given (fieldBytes s f)) ≤ length label + 4 * f .len
+unfolding stringWord
+string-bound label s true f = word-bound label s false f
+string-bound label s false f = omega arith
+
+-- ---- the lines
+
+kind-bound : (nt : ℕ) → length (kindWord nt) ≤ 10
+unfolding kindWord
+kind-bound nt = go (eqb nt 0) (eqb nt 24) where
+  go : (x y : Bool) → length (cond x (ascii " kind=none") (cond y (ascii " kind=v1") (ascii " kind=v2"))) ≤ 10
+  go true y = omega arith
+  go false true = omega arith
+  go false false = omega arith
+
+pub auth-bound : (s : List ℕ) (a : Authenticate) →
+    length (authText s a) ≤ 62 + length (authLengths (a .fields .lm .len) (a .fields .nt .len) (a .fields .key .len))
+    + 4 * (a .fields .domain .len + a .fields .user .len + a .fields .workstation .len)
+unfolding authText authNames authEnd
+auth-bound s a =
+    simp (length-append, start-size, mic-size)
+    (omega (
+      arith,
+      kind-bound (a .fields .nt .len),
+      word-bound (ascii " domain=") s (unicode (a .flags)) (a .fields .domain),
+      word-bound (ascii " user=") s (unicode (a .flags)) (a .fields .user),
+      word-bound (ascii " work=") s (unicode (a .flags)) (a .fields .workstation),
+    ))
+
+pub nego-bound : (s : List ℕ) (m : Negotiate) → length (negoText s m) ≤ 34 + 4 * (m .fields .domain .len + m .fields .workstation .len)
+unfolding negoText negoNames
+nego-bound s m =
+    simp (length-append, flags-word-size)
+    (omega (arith, word-bound (ascii " domain=") s false (m .fields .domain), word-bound (ascii " work=") s false (m .fields .workstation)))
+
+time-bound : (w : Timestamp) → length (timeWord w) ≤ 22
+unfolding timeWord
+time-bound (Time t) = omega (arith, time-size (Time t) t refl)
+time-bound NoTime = omega arith
+
+pub chal-bound : (unicode : Bool) (s : List ℕ) (c : Challenge) (pairs : ℕ) (time : Timestamp) →
+    length (chalWords unicode s c pairs time) ≤ 56 + length (numberWord (ascii " pairs=") pairs) + 4 * c .fields .«target_name» .len
+unfolding chalWords chalEnd
+chal-bound unicode s c pairs time =
+    simp (length-append, start-size)
+    (omega (arith, time-bound time, word-bound (ascii " target=") s unicode (c .fields .«target_name»)))
+
+pub nl-bound : (s : List ℕ) (m : NlAuth) →
+    length (nlText s m) ≤ length (numberWord (ascii "nl type=") (m .«message_type»)) + 31
+    + 4 * (m .strings .«nb_domain» .len + m .strings .«nb_computer» .len + m .strings .«dns_domain» .len + m .strings .«dns_host» .len + m .strings .«utf8_computer» .len)
+unfolding nlText nlStart nlOem nlUtf8
+nl-bound s m =
+    simp (length-append, flags-word-size)
+    (omega (
+      arith,
+      string-bound (ascii " a=") s (nbDomain (m .flags)) (m .strings .«nb_domain»),
+      string-bound (ascii " b=") s (nbComputer (m .flags)) (m .strings .«nb_computer»),
+      string-bound (ascii " c=") s (dnsDomain (m .flags)) (m .strings .«dns_domain»),
+      string-bound (ascii " d=") s (dnsHost (m .flags)) (m .strings .«dns_host»),
+      string-bound (ascii " e=") s (utf8Computer (m .flags)) (m .strings .«utf8_computer»),
+    ))
