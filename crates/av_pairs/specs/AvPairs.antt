@@ -72,7 +72,7 @@ onStep (Refused e) pair stop = stop (Not e)
 unfoldable pub askAt : List ℕ → ℕ → Asked
 askAt s at = record { step = stepAt s at; next = onStep (stepAt s at) endOf (λ v. at) }
 
--- the pair at a place, or nothing at the end or a fault
+-- the pair at a place, or nothing at the end or a fault: what a loop over a list that was checked asks for
 unfoldable pub pairAt : List ℕ → ℕ → Found
 pairAt s at = onStep (stepAt s at) At (λ v. Nothing)
 

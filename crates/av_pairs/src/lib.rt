@@ -1,8 +1,7 @@
 // TargetInfo (MS-NLMP 2.2.2.1): a list of AvPairs, each an id, a length and a value, up to the end pair.
 ghost use mathlib.Core.Path.{_≡_};
-ghost use Prim.Native.Nat.{_+_, _≤_, _<_, _^_};
-ghost use lib.ListN.{length};
-ghost use Rattle.av_pairs.specs.AvPairs.{left, pairThere, endPairHolds, valueInside, sizeHolds, pairOf, stepAt, askAt, countPairs, checkPairs, pairAt, valueIn, isThere};
+ghost use Prim.Native.Nat.{_+_, _<_, _^_};
+ghost use Rattle.av_pairs.specs.AvPairs.{left, pairThere, endPairHolds, valueInside, sizeHolds, pairOf, stepAt, askAt, countPairs, checkPairs, isThere};
 use av_id::AvId;
 use wire::check::Checked;
 use wire::check::Verdict;
@@ -175,29 +174,6 @@ pub fn check_pairs(list: &[u8]) -> Verdict
         }
     };
     verdict
-}
-
-// The pair at a place, or nothing at the end or a fault: a step over a list whose checks are made elsewhere.
-pub fn pair_at(list: &[u8], at: usize) -> Found
-    ensures { λ r. ⌜ r ≡ pairAt (now (list .entry)) at ⌝ }
-{
-    match step_at(list, at) {
-        Step::Pair(p) => Found::At(p),
-        Step::End => Found::Nothing,
-        Step::Refused(_) => Found::Nothing,
-    }
-}
-
-impl AvPair {
-    // The value, as a part of the pair's list.
-    pub fn value(self, list: &[u8]) -> &[u8]
-        requires { ⌜ self .at + self .len ≤ length (now list) ⌝ }
-        ensures { λ r. ⌜ now r ≡ valueIn (now (list .entry)) self ⌝ }
-    {
-        let at = self.at;
-        let end = at + self.len as usize;
-        &list[at..end]
-    }
 }
 
 impl Found {

@@ -53,5 +53,6 @@ pub mod Told
 pub mod SmallFields
 pub mod LineShort
 pub mod Answers
+pub mod Printed
 pub mod PairsBack
 pub mod ResponsePairs

@@ -1,4 +1,4 @@
--- Demand 1 for a copy of a field from C: "each field handed out is that field's own bytes", "A refusal gives its number and
+-- Demands 1 and 2 for a copy of a field from C: "each field handed out is that field's own bytes", "A refusal gives its number and
 -- field and changes no lent byte; a success changes only the bytes of what it writes."
 use Prim.Native.Nat.{ℕ, _+_, _≤_, _<_}
 use mathlib.Core.Path.{_≡_}

@@ -22,4 +22,5 @@ pub mod Answering
 pub mod FieldCopied
 pub mod FromC
 pub mod Answers
+pub mod Printed
 pub mod ResponsePairs

@@ -11,7 +11,7 @@ use Rattle.field.specs.Field.{fieldBytes}
 use Rattle.place.specs.declared.written.Written.the-variants.{Length}
 use Rattle.negotiate_flags.specs.declared.NegotiateFlags.{NegotiateFlags}
 use Rattle.authenticate.specs.declared.Authenticate.{Authenticate}
-use Rattle.authenticate.specs.declared.Reading.the-variants.{Taken as AuthenticateIsTaken}
+use Rattle.authenticate.specs.declared.Reading.the-variants.{Taken as AuthenticateTaken}
 use Rattle.authenticate.specs.Authenticate.{readAuthenticate}
 use Rattle.authenticate_writing.specs.Writing.{writeAnswer, writeOut}
 use Rattle.negotiate.specs.declared.Negotiate.{Negotiate}
@@ -58,7 +58,7 @@ NlResponseReadsBack =
 -- the message read back from the bytes s: these flags, this MIC and these six fields
 pub record AuthenticateBack (s : List ℕ) (flags : NegotiateFlags) (mic lm nt domain user workstation key : List ℕ) : Type 0 where
   pub message : Authenticate
-  pub read : readAuthenticate s .reading ≡ AuthenticateIsTaken message
+  pub read : readAuthenticate s .reading ≡ AuthenticateTaken message
   pub flags-same : message .flags .bits ≡ flags .bits
   pub mic-there : message .«mic_present» ≡ true
   pub mic-same : readAuthenticate s .mic ≡ mic

@@ -12,7 +12,6 @@ ghost use Rattle.response_pairs.specs.ResponsePairs.{pairWith, hasPair, 
 use av_id::AvId;
 use av_pairs::AvPair;
 use av_pairs::Found;
-use av_pairs::pair_at;
 use challenge::Reading;
 use challenge::read;
 use place::Place;
@@ -20,6 +19,8 @@ use place::written::Written;
 use place::written::add_capped;
 use place::written::room_holds;
 use place::written::size_holds;
+use target_info::pair_at;
+use target_info::value_of;
 use wire::check::Checked;
 use wire::check::Verdict;
 use wire::check::check;
@@ -138,7 +139,7 @@ fn put_part(out: &mut [u8], list: &[u8], p: AvPair, bits: u32) -> Place
     if left_out(id) {
         return place;
     }
-    let value = p.value(list);
+    let value = value_of(list, p);
     if id.is_flags() & !(bits == 0) {
         return put_flags(place, out, u32_at(value, 0) | bits);
     }

@@ -1,13 +1,18 @@
 // What is looked for in TargetInfo's list of pairs. `first_pair`, `timestamp_in` and `server_names_in` ask that checks 10 to 13
-// held on the list, so that none of them takes a list that runs out as ended; `find_pair` makes these checks itself.
+// held on the list, so that none of them takes a list that runs out as ended; `find_pair` makes these checks itself. `pair_at`
+// makes none and tells no fault from the end: it is for loops over a list that was checked.
 ghost use mathlib.Core.Path.{_≡_};
+ghost use Prim.Native.Nat.{_+_, _≤_};
+ghost use lib.ListN.{length};
 ghost use Rattle.wire.specs.declared.check.Verdict.the-variants.{Clear};
-ghost use Rattle.av_pairs.specs.AvPairs.{checkPairs};
+ghost use Rattle.av_pairs.specs.AvPairs.{pairAt, valueIn, checkPairs};
 ghost use Rattle.target_info.specs.TargetInfo.{firstPair, findPair, timestampIn, serverNamesIn};
 use av_id::AvId;
+use av_pairs::AvPair;
 use av_pairs::Found;
+use av_pairs::Step;
 use av_pairs::check_pairs;
-use av_pairs::pair_at;
+use av_pairs::step_at;
 use wire::check::Verdict;
 use wire::number::u64_at;
 use wire::refusal::Refusal;
@@ -28,6 +33,27 @@ pub enum Timestamp {
 pub struct ServerNames {
     pub nb_computer_name: bool,
     pub nb_domain_name: bool,
+}
+
+// The pair at a place, or nothing at the end or a fault.
+pub fn pair_at(list: &[u8], at: usize) -> Found
+    ensures { λ r. ⌜ r ≡ pairAt (now (list .entry)) at ⌝ }
+{
+    match step_at(list, at) {
+        Step::Pair(p) => Found::At(p),
+        Step::End => Found::Nothing,
+        Step::Refused(_) => Found::Nothing,
+    }
+}
+
+// A pair's value, as a part of the pair's list.
+pub fn value_of(list: &[u8], p: AvPair) -> &[u8]
+    requires { ⌜ p .at + p .len ≤ length (now list) ⌝ }
+    ensures { λ r. ⌜ now r ≡ valueIn (now (list .entry)) p ⌝ }
+{
+    let at = p.at;
+    let end = at + p.len as usize;
+    &list[at..end]
 }
 
 // The first pair with the id.

@@ -1,8 +1,8 @@
 -- `pair_at` hands on a pair, and nothing at the end or a fault.
 use borrow.Author.Needs.{needs}
 use Rattle.av_pairs.proofs.Walks.{giving}
-use Rattle.av_pairs.proofs.pair_at.Statement.{statement}
-use Rattle.av_pairs.proofs.pair_at.Tie as tie
+use Rattle.target_info.proofs.pair_at.Statement.{statement}
+use Rattle.target_info.proofs.pair_at.Tie as tie
 
 pub pair-at-spec : {M : Type 1} → statement M
 pair-at-spec =
