@@ -1,4 +1,7 @@
 -- A challenge is answered exactly when nothing fails, and the answer reads back.
+pub mod Deciding
+pub mod DomainSent
+pub mod Sending
 use Prim.Native.Nat.{ℕ}
 use mathlib.Core.Path.{_≡_, refl, sym, ap, _∙_, subst}
 use mathlib.Core.Logic.{inl, inr, ⊎-elim, _↔_}
@@ -28,12 +31,12 @@ use Rattle.demands.specs.ReadBack.{AuthenticateBack}
 use Rattle.demands.specs.TakenExactly.{InfoBytes}
 use Rattle.demands.specs.WrittenExactly.{WrittenExactly, authenticateSize, AuthenticateWritingFails, authenticateOrder}
 use Rattle.demands.specs.Answering.{Agreed, Declined, ToSend, AnsweredExactly, RespondIsAnswered, RespondReadsBack}
-use Rattle.demands.proofs.AnswerKept.{mic-long}
-use Rattle.demands.proofs.Answered.{sent-written}
-use Rattle.demands.proofs.WriteBack.{authenticate-reads-back}
-use Rattle.demands.proofs.MessagesWritten.{authenticate-written}
-use Rattle.demands.proofs.Deciding.{Judged, judged, agreed-or-declined, one-decline}
-use Rattle.demands.proofs.ToSend.{due-is, mic-is, lm-is, key-is, time-is, domain-is}
+use Rattle.demands.proofs.Kept.AnswerKept.{mic-long}
+use Rattle.demands.proofs.Secret.Answered.{sent-written}
+use Rattle.demands.proofs.ReadBack.WriteBack.{authenticate-reads-back}
+use Rattle.demands.proofs.WrittenExactly.MessagesWritten.{authenticate-written}
+use Rattle.demands.proofs.Answering.Deciding.{Judged, judged, agreed-or-declined, one-decline}
+use Rattle.demands.proofs.Answering.Sending.{due-is, mic-is, lm-is, key-is, time-is, domain-is}
 
 same-bool : {P : Type 0} (x y : Bool) → (x ≡ true) ↔ P → (y ≡ true) ↔ P → x ≡ y
 same-bool true true p q = refl

@@ -1,4 +1,8 @@
 -- What a caller in C takes out of each call's answer.
+pub mod Told
+pub mod SmallFields
+pub mod LineShort
+pub mod LineBounds
 use Prim.Native.Nat.{ℕ, _≤_, _<_}
 use mathlib.Core.Path.{_≡_, refl, sym, subst}
 use mathlib.Core.Logic.{_⊎_, ⊎-elim}
@@ -41,15 +45,15 @@ use Rattle.c_number.specs.Outcome.{Outcome, numbers, refused, outcomeNumber, ca
 use Rattle.c_respond.specs.Respond.{answeredNumber, respondedNumber}
 use Rattle.demands.specs.Answers.{TellsRefusal, TellsOutcome, CallTells, TwoArraysTell, TellsVerdict, CheckPairsTells, TellsWritten, Writing, write-negotiate, write-authenticate, write-nl-auth-request, write-nl-auth-response, write-response-pairs, writingAnswer, WritingShort, WritingTells, lineOf, LineTells, CopyFits, CopyTells, RespondShort, TellsAnswered, RespondTells}
 use Rattle.demands.specs.FromC.{count, outcome, numberCount, byteCount, twoArrayOutcome}
-use Rattle.demands.proofs.AnswerKept.{message-fits, mic-long}
-use Rattle.demands.proofs.Answered.{sent-written}
+use Rattle.demands.proofs.Kept.AnswerKept.{message-fits, mic-long}
+use Rattle.demands.proofs.Secret.Answered.{sent-written}
 use Rattle.demands.proofs.Bools.{after-held, true-not-false}
 use Rattle.demands.proofs.Kept.{request-holds}
-use Rattle.demands.proofs.LineShort.{line-short}
-use Rattle.demands.proofs.NegotiateBack.{writable}
+use Rattle.demands.proofs.Answers.LineShort.{line-short}
+use Rattle.demands.proofs.ReadBack.NegotiateBack.{writable}
 use Rattle.demands.proofs.ResponsePairs.{response-pairs-short}
-use Rattle.demands.proofs.SmallFields.{SmallV, pairs-small, SmallD, decision-small, SmallW, writing-small, bytes-small, SmallO, outcome-small, two-array-outcome-small}
-use Rattle.demands.proofs.Told.{tells-refusal, tells-length}
+use Rattle.demands.proofs.Answers.SmallFields.{SmallV, pairs-small, SmallD, decision-small, SmallW, writing-small, bytes-small, SmallO, outcome-small, two-array-outcome-small}
+use Rattle.demands.proofs.Answers.Told.{tells-refusal, tells-length}
 use Rattle.wire.proofs.Laws.{held-true}
 
 -- ---- numbers handed out

@@ -1,4 +1,8 @@
 -- MaxLen and ignored bytes change nothing.
+pub mod ChallengeIgnored
+pub mod LineIgnored
+pub mod NlIgnored
+pub mod RespondIgnored
 use Prim.Native.Nat.{ℕ, _≤_, _<_}
 use mathlib.Core.Path.{_≡_, refl, ap, _∙_}
 use mathlib.Core.Logic.{_⊎_, inr, ⊎-elim}
@@ -20,12 +24,12 @@ use Rattle.authenticate.specs.Authenticate.{layout, fieldsAt, checkFields, micP
 use Rattle.demands.specs.Message.{authenticate, MicThere, Fails, Ignored, DifferInIgnored}
 use Rattle.demands.specs.Ignored.{SameBytes, AuthenticateIgnored}
 use Rattle.demands.proofs.Alike.{same-part}
-use Rattle.demands.proofs.Chain.{JudgedH, head-judged}
-use Rattle.demands.proofs.Apart.{Apart, spaced, lies, seen as apart-seen}
-use Rattle.demands.proofs.Unchanged.{Seen}
-use Rattle.demands.proofs.Unchanged as same
+use Rattle.demands.proofs.Message.Chain.{JudgedH, head-judged}
+use Rattle.demands.proofs.Message.Apart.{Apart, spaced, lies, seen as apart-seen}
+use Rattle.demands.proofs.Message.Unchanged.{Seen}
+use Rattle.demands.proofs.Message.Unchanged as same
 use Rattle.demands.proofs.TakenExactly.{six}
-use Rattle.demands.proofs.Mic.{mic-there}
+use Rattle.demands.proofs.Message.Mic.{mic-there}
 use Rattle.demands.proofs.OwnBytes.{taken-answer, none-fails}
 
 apart : Apart authenticate

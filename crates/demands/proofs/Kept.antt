@@ -1,4 +1,7 @@
 -- A refusal changes no lent byte, and a success only what it writes.
+pub mod AnswerKept
+pub mod CallKept
+pub mod CallFront
 use Prim.Native.Nat.{ℕ, _≤_}
 use mathlib.Core.Path.{_≡_, refl, sym, subst}
 use mathlib.Core.Bool.{Bool, true, false}

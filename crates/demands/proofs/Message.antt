@@ -1,4 +1,9 @@
 -- A reader's fields against the heads' own bytes, and each check's test at one field, for every kind of message.
+pub mod Chain
+pub mod Fields
+pub mod Unchanged
+pub mod Apart
+pub mod Mic
 use Prim.Native.Nat.{ℕ, _+_, _%_, _≤_, max}
 use mathlib.Core.Path.{_≡_, refl, sym, ap}
 use mathlib.Core.Logic.{_⊎_, inl, inr, ⊎-elim}

@@ -1,8 +1,9 @@
 -- The first failure of a table of checks that go by number, for any table.
+pub mod Rank
 use Prim.Native.Nat.{ℕ, _+_, _≤_, _<_}
 use mathlib.Core.Path.{_≡_}
 use Rattle.demands.specs.Order.{First}
-use Rattle.demands.proofs.Rank.{FreeBy, only-first-by, first-by, next-field-by, next-check-by, skip-by}
+use Rattle.demands.proofs.Order.Rank.{FreeBy, only-first-by, first-by, next-field-by, next-check-by, skip-by}
 
 module _ (F : ℕ → ℕ → Type 0) where
   pub only-first : (n i m j : ℕ) → First F n i → First F m j → (n ≡ m) × (i ≡ j)

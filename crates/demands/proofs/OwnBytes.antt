@@ -1,4 +1,6 @@
 -- Each field handed out is that field's own bytes.
+pub mod ChallengeOwn
+pub mod Found
 use Prim.Native.Nat.{ℕ, zero, suc, _+_, _≤_, _<_}
 use mathlib.Core.Path.{_≡_, refl, sym, ap, _∙_, subst}
 use mathlib.Core.Bool.{Bool, true, false, cond}
@@ -17,10 +19,10 @@ use Rattle.authenticate.proofs.Laws.{taken-by}
 use Rattle.demands.specs.Message.{Format, authenticate, lenOf, offsetOf, Nonempty, Fails}
 use Rattle.demands.specs.OwnBytes.{OwnField, AuthenticateOwn, AuthenticateRefusedMic}
 use Rattle.demands.specs.TakenExactly.{IsTakenAuthenticate}
-use Rattle.demands.proofs.Chain.{JudgedH, head-judged}
+use Rattle.demands.proofs.Message.Chain.{JudgedH, head-judged}
 use Rattle.demands.proofs.Message.{Stands}
 use Rattle.demands.proofs.TakenExactly.{six, authenticate-taken}
-use Rattle.demands.proofs.Mic.{mic-there}
+use Rattle.demands.proofs.Message.Mic.{mic-there}
 
 module _ (k : Format) (s : List ℕ) (i : ℕ) (f : Field) (w : Stands k s i f) where
   pub is-full : Nonempty k s i → isEmpty f ≡ false

@@ -1,4 +1,7 @@
 -- What is written reads back.
+pub mod WriteBack
+pub mod NegotiateBack
+pub mod Sent
 use Prim.Native.Nat.{ℕ, suc, _+_, _/_, _%_, _≤_}
 use mathlib.Core.Path.{_≡_, refl, sym, ap, _∙_, subst}
 use mathlib.Core.Bool.{Bool, true, false, not, cond}

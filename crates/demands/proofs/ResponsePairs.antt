@@ -1,4 +1,5 @@
 -- The pair list that goes back: what a call leaves, what the list holds, by what a call is refused, and what it keeps.
+pub mod PairsBack
 use Prim.Native.Nat.{ℕ, zero, suc, _+_, _%_, _≤_, _<_}
 use mathlib.Core.Path.{_≡_, refl, sym, ap, _∙_, subst}
 use mathlib.Core.Bool.{Bool, true, false, cond}
@@ -38,14 +39,14 @@ use Rattle.demands.specs.TakenExactly.{InfoBytes, ChallengeHolds, Challe
 use Rattle.demands.specs.WrittenExactly.{WrittenExactly, WritingRefusedWith}
 use Rattle.demands.specs.ResponsePairs.{TakenOut, FlagsAdded, ValueAt, LastTwo, Added, with-flags, without-flags, GoesBack, taken-out, first-flags, same, at-end, ListBack, end-alone, from-start, PairsGoBack, ResultHolds, OnlyPair, OneTenOneNine, EndPairAlone, KeptSize, no-more, passed-over, counted, ListSize, of-end, of-flags, of-two, SizeIsThere, ResponsePairsFail, WrittenFrom, ResponsePairsAreWritten, ResponsePairsKept, ResponsePairsIgnored}
 use Rattle.demands.proofs.Bools.{true-not-false, both-ways, failed-false, chained, after-held}
-use Rattle.demands.proofs.Challenge as reading
-use Rattle.demands.proofs.Challenge.{holds-or-fails, one-reason}
-use Rattle.demands.proofs.ChallengeIgnored.{made-same}
-use Rattle.demands.proofs.ChallengeOwn.{info-of}
+use Rattle.demands.proofs.TakenExactly.Challenge as reading
+use Rattle.demands.proofs.TakenExactly.Challenge.{holds-or-fails, one-reason}
+use Rattle.demands.proofs.Ignored.ChallengeIgnored.{made-same}
+use Rattle.demands.proofs.OwnBytes.ChallengeOwn.{info-of}
 use Rattle.demands.proofs.Kept as kept-laws
 use Rattle.demands.proofs.PairList.{pair-or-end}
-use Rattle.demands.proofs.PairsBack.{adds-is, came, values-pair, values-end, value-long, out-is, in-is, goes-back}
-use Rattle.demands.proofs.Rank.{JudgedBy, first-by, skip-by}
+use Rattle.demands.proofs.ResponsePairs.PairsBack.{adds-is, came, values-pair, values-end, value-long, out-is, in-is, goes-back}
+use Rattle.demands.proofs.Order.Rank.{JudgedBy, first-by, skip-by}
 use Rattle.demands.proofs.WrittenExactly.{Rows, rows, free-at-first, next, room-judged, size-judged, by-verdict}
 
 -- ---- the checks that held

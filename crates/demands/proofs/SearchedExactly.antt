@@ -21,7 +21,7 @@ use Rattle.demands.specs.PairList.{Holds, ListFails}
 use Rattle.demands.specs.TakenExactly.{CountRefused, IsTakenChallenge, ChallengeRefusedWith}
 use Rattle.demands.specs.SearchedExactly.{ListRefusedWith, ListIsClear, ListIsRefused, IsDone, SearchRefusedWith, SearchIsDone, SearchIsRefused, IsTakenTimestamp, TimestampRefusedWith, TimestampIsTaken, TimestampIsRefused, IsTakenServerNames, ServerNamesRefusedWith, ServerNamesIsTaken, ServerNamesIsRefused}
 use Rattle.demands.proofs.PairList.{holds-or-fault, pairs-refused}
-use Rattle.demands.proofs.Challenge.{JudgedP, pairs-judged, challenge-taken, challenge-refused}
+use Rattle.demands.proofs.TakenExactly.Challenge.{JudgedP, pairs-judged, challenge-taken, challenge-refused}
 
 pub list-clear : ListIsClear
 list-clear s = go (checkPairs s) (pairs-judged s) where

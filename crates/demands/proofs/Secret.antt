@@ -1,4 +1,6 @@
 -- Reading AUTHENTICATE and its line tell no secret.
+pub mod SecretPrinted
+pub mod Answered
 use Prim.Native.Nat.{ℕ, _+_, _≤_, _<_}
 use mathlib.Core.Path.{_≡_, refl, sym, ap, _∙_, subst}
 use mathlib.Core.Logic.{_⊎_, inl, inr, ⊎-elim}

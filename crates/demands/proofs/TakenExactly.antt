@@ -1,4 +1,6 @@
 -- AUTHENTICATE is taken exactly when every check holds, and refused by the first that fails.
+pub mod Challenge
+pub mod Negotiate
 use Prim.Native.Nat.{ℕ, _≤_}
 use mathlib.Core.Path.{_≡_, refl, sym, subst}
 use mathlib.Core.Logic.{inl, inr, ⊎-elim, _↔_}
@@ -32,9 +34,9 @@ use Rattle.demands.specs.Message.{authenticate, Nonempty, Covers, Fails}
 use Rattle.demands.specs.TakenExactly.{IsTakenAuthenticate, AuthenticateRefusedWith, AuthenticateIsTaken, AuthenticateIsRefused}
 use Rattle.demands.proofs.Order.{Free, only-first, skip}
 use Rattle.demands.proofs.Message.{Stands, even-failed, even-held, share-true, share-false}
-use Rattle.demands.proofs.Fields.{AllStand, Link, ends-judged, begins-judged}
+use Rattle.demands.proofs.Message.Fields.{AllStand, Link, ends-judged, begins-judged}
 use Rattle.demands.proofs.Message as fields
-use Rattle.demands.proofs.Chain.{JudgedV, JudgedH, Links, over-judged, head-judged, then, beyond}
+use Rattle.demands.proofs.Message.Chain.{JudgedV, JudgedH, Links, over-judged, head-judged, then, beyond}
 use Rattle.demands.proofs.Bools.{true-not-false, failed-false}
 
 module _ (s : List ℕ) where

@@ -16,7 +16,7 @@ use Rattle.demands.specs.Message.{Format, authenticate, challenge, Set, 
 use Rattle.demands.specs.OwnBytes.{OwnField}
 use Rattle.demands.specs.Units.{WholeUnits, EvenHasUnits, AuthenticateNamesWhole, TargetNameWhole}
 use Rattle.demands.proofs.OwnBytes.{none-fails, authenticate-own}
-use Rattle.demands.proofs.ChallengeOwn.{taken-as, challenge-own}
+use Rattle.demands.proofs.OwnBytes.ChallengeOwn.{taken-as, challenge-own}
 
 -- ---- the units of an even list
 

@@ -1,5 +1,7 @@
 -- A writing is answered exactly when no check of it fails, and refused by the first that fails in its own order: the laws for
 -- every writing, and a line.
+pub mod MessagesWritten
+pub mod NlWritten
 use Prim.Native.Nat.{ℕ, _+_, _<_}
 use mathlib.Core.Path.{_≡_, refl, sym, ap, _∙_, subst}
 use mathlib.Core.Logic.{inl, ⊎-elim}
@@ -21,7 +23,7 @@ use Rattle.place.specs.Written.{sizeHolds, roomHolds, answered, bytesHold, byte
 use Rattle.demands.specs.Order.{FirstIn, placeIn}
 use Rattle.demands.specs.WrittenExactly.{WrittenExactly, RoomFails, LineIsWritten, LineStands}
 use Rattle.demands.proofs.Bools.{failed-false, chained}
-use Rattle.demands.proofs.Rank.{FreeBy, JudgedBy, Outside, only-in, outside, only-first-by, first-by, next-check-by}
+use Rattle.demands.proofs.Order.Rank.{FreeBy, JudgedBy, Outside, only-in, outside, only-first-by, first-by, next-check-by}
 
 -- a table with no rows but those of its order
 abbrev pub Rows : List ℕ → (ℕ → ℕ → Type 0) → Type 0

@@ -31,8 +31,8 @@ use Rattle.demands.specs.Message.{FlagSet}
 use Rattle.demands.specs.PairList.{idOf, sizeOf, nextOf, SizeAllowed, PairAt, EndAt, WellFormed, end, pair, FirstWith, this, next, PairThere}
 use Rattle.demands.specs.ResponsePairs.{valueOf, bitsOf, TakenOut, Unverified, BitsBack, FlagsAdded, ValueAt, FlagsAt, LastTwo, Added, with-flags, without-flags, GoesBack, taken-out, first-flags, same, at-end}
 use Rattle.demands.proofs.Bools.{true-not-false, both-ways, or-left, or-right, or-either}
-use Rattle.demands.proofs.ChallengeOwn.{asks, there-is}
-use Rattle.demands.proofs.Found.{id-of}
+use Rattle.demands.proofs.OwnBytes.ChallengeOwn.{asks, there-is}
+use Rattle.demands.proofs.OwnBytes.Found.{id-of}
 use Rattle.demands.proofs.PairList.{size-is, is-size, JudgedS, step-judged, pair-or-end, pair-or-fault, end-or-fault, one-place}
 
 -- ---- whether a pair is there

@@ -31,10 +31,10 @@ use Rattle.demands.proofs.Bools.{true-not-false, both-ways}
 use Rattle.demands.proofs.Message.{Stands}
 use Rattle.demands.proofs.OwnBytes.{own-field}
 use Rattle.demands.proofs.PairList.{one-place}
-use Rattle.demands.proofs.Found.{JudgedW, first-in-list}
-use Rattle.demands.proofs.Challenge as reading
-use Rattle.demands.proofs.Challenge.{two, holds-or-fails}
-use Rattle.demands.proofs.ChallengeOwn.{taken-as, info-of, asks}
+use Rattle.demands.proofs.OwnBytes.Found.{JudgedW, first-in-list}
+use Rattle.demands.proofs.TakenExactly.Challenge as reading
+use Rattle.demands.proofs.TakenExactly.Challenge.{two, holds-or-fails}
+use Rattle.demands.proofs.OwnBytes.ChallengeOwn.{taken-as, info-of, asks}
 
 -- a part of a part
 part-of : (l : List ℕ) (n at k : ℕ) → at + k ≤ n → take k (drop at (take n l)) ≡ take k (drop at l)

@@ -25,7 +25,7 @@ use Rattle.respond.specs.Answer.{micDue, timeToSend, lmToSend, micToSend, keyTo
 use Rattle.respond.specs.Decision.{decisionOn, onDecided}
 use Rattle.respond.specs.Domain.{domainToSend}
 use Rattle.demands.specs.Kept.{Kept, KeptAnswer, AuthenticateKept, RespondKept}
-use Rattle.demands.proofs.Answered.{sent-written}
+use Rattle.demands.proofs.Secret.Answered.{sent-written}
 use Rattle.demands.proofs.Bools.{after-held}
 use Rattle.demands.proofs.Kept.{by-verdict, clear-both}
 

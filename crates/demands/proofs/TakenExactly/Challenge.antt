@@ -31,9 +31,9 @@ use Rattle.demands.specs.PairList.{Holds, ListFails}
 use Rattle.demands.specs.TakenExactly.{IsTakenChallenge, ChallengeRefusedWith, InfoBytes, InfoIsThere, ChallengeHolds, ChallengeFails, in-fields, in-list, ChallengeIsTaken, ChallengeIsRefused}
 use Rattle.demands.proofs.Order.{Free, only-first, next-check, skip}
 use Rattle.demands.proofs.Message.{Stands, even-failed, even-held}
-use Rattle.demands.proofs.Fields.{AllStand, Link, ends-judged, begins-judged}
+use Rattle.demands.proofs.Message.Fields.{AllStand, Link, ends-judged, begins-judged}
 use Rattle.demands.proofs.Message as fields
-use Rattle.demands.proofs.Chain.{JudgedV, JudgedH, over-judged, head-judged, then, beyond}
+use Rattle.demands.proofs.Message.Chain.{JudgedV, JudgedH, over-judged, head-judged, then, beyond}
 use Rattle.demands.proofs.OwnBytes.{own-field}
 use Rattle.demands.proofs.PairList.{JudgedC, count-judged, holds-or-fault, one-first}
 

@@ -28,10 +28,10 @@ use Rattle.demands.specs.TakenExactly.{InfoBytes, ChallengeHolds}
 use Rattle.demands.specs.Answering.{TimestampIs, Stamped, KeyCounts, ToSend, SomethingToSend}
 use Rattle.demands.proofs.Bools.{true-not-false, both-ways}
 use Rattle.demands.proofs.PairList.{one-place}
-use Rattle.demands.proofs.Found.{JudgedW, first-in-list}
-use Rattle.demands.proofs.ChallengeOwn.{asks}
-use Rattle.demands.proofs.Deciding.{timestamp-is}
-use Rattle.demands.proofs.DomainSent.{none-of, Judged, domain-judged, domain-given}
+use Rattle.demands.proofs.OwnBytes.Found.{JudgedW, first-in-list}
+use Rattle.demands.proofs.OwnBytes.ChallengeOwn.{asks}
+use Rattle.demands.proofs.Answering.Deciding.{timestamp-is}
+use Rattle.demands.proofs.Answering.DomainSent.{none-of, Judged, domain-judged, domain-given}
 
 -- a timestamp pair is there exactly when a MIC is due
 pub due-is : (b : List ℕ) → (micDue (timestampIn b) ≡ true) ↔ PairThere b 7

@@ -15,7 +15,7 @@ use Rattle.field.proofs.Fields.{own-bytes}
 use Rattle.demands.specs.Ignored.{SameBytes}
 use Rattle.demands.specs.Message.{Format, lenOf, offsetOf, Counts, Nonempty, Covers, Fails, Ignored, DifferInIgnored}
 use Rattle.demands.proofs.Alike.{same-part, same16, same32}
-use Rattle.demands.proofs.Chain.{layoutOf}
+use Rattle.demands.proofs.Message.Chain.{layoutOf}
 use Rattle.demands.proofs.Message.{Stands}
 
 -- what a reader looks at is not ignored

@@ -36,12 +36,12 @@ use Rattle.demands.specs.TakenExactly.{IsTakenNegotiate}
 use Rattle.demands.specs.ReadBack.{NegotiateBack, NegotiateReadsBack}
 use Rattle.demands.specs.Kept.{NegotiateKept}
 use Rattle.demands.proofs.Bools.{or-either, after-held}
-use Rattle.demands.proofs.Chain.{by-row}
+use Rattle.demands.proofs.Message.Chain.{by-row}
 use Rattle.demands.proofs.Kept.{by-verdict}
 use Rattle.demands.proofs.OwnBytes.{own-same}
 use Rattle.demands.proofs.ReadBack.{written-is}
-use Rattle.demands.proofs.Sent.{back-at, in-payload}
-use Rattle.demands.proofs.Negotiate.{negotiate-taken, negotiate-own}
+use Rattle.demands.proofs.ReadBack.Sent.{back-at, in-payload}
+use Rattle.demands.proofs.TakenExactly.Negotiate.{negotiate-taken, negotiate-own}
 
 -- ---- the two bits
 

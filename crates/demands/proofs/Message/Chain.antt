@@ -30,7 +30,7 @@ use Rattle.demands.specs.Order.{First}
 use Rattle.demands.specs.Message.{Format, Fails}
 use Rattle.demands.proofs.Order.{Free, first, next-check}
 use Rattle.demands.proofs.Bools.{true-not-false, both-ways, failed-false, chained}
-use Rattle.demands.proofs.Rank.{JudgedBy, then-by, LinksBy, over-judged-by}
+use Rattle.demands.proofs.Order.Rank.{JudgedBy, then-by, LinksBy, over-judged-by}
 
 abbrev pub layoutOf : Format → Layout
 layoutOf k = record { fixed = k .fixed; «message_type» = k .number; flags = k .flags }

@@ -64,12 +64,12 @@ use Rattle.demands.specs.Message.{Format, negotiate, authenticate, chall
 use Rattle.demands.specs.NlAuth.{NlFails}
 use Rattle.demands.specs.Order.{row}
 use Rattle.demands.specs.TakenExactly.{AuthenticateRefusedWith, NegotiateRefusedWith, NlRefusedWith}
-use Rattle.demands.proofs.Chain.{by-row}
-use Rattle.demands.proofs.Challenge.{JudgedF, fields-of-judged, JudgedP, pairs-judged}
-use Rattle.demands.proofs.Negotiate.{negotiate-refused}
+use Rattle.demands.proofs.Message.Chain.{by-row}
+use Rattle.demands.proofs.TakenExactly.Challenge.{JudgedF, fields-of-judged, JudgedP, pairs-judged}
+use Rattle.demands.proofs.TakenExactly.Negotiate.{negotiate-refused}
 use Rattle.demands.proofs.NlAuth.{nl-auth-refused}
 use Rattle.demands.proofs.TakenExactly.{authenticate-refused}
-use Rattle.demands.proofs.Told.{Small}
+use Rattle.demands.proofs.Answers.Told.{Small}
 
 -- ---- reading: by the tables of checks
 

@@ -21,7 +21,7 @@ use Rattle.demands.specs.Order.{placeIn}
 use Rattle.demands.specs.Message.{FlagSet}
 use Rattle.demands.specs.WrittenExactly.{Fails5, authenticateSize, AuthenticateWritingFails, authenticateOrder, AuthenticateIsWritten, negotiateSize, NegotiateWritingFails, NegotiateIsWritten}
 use Rattle.demands.proofs.Bools.{true-not-false, failed-false, chained}
-use Rattle.demands.proofs.Rank.{FreeBy, JudgedBy, only-in, first-by, skip-by, then-by, over-judged-by}
+use Rattle.demands.proofs.Order.Rank.{FreeBy, JudgedBy, only-in, first-by, skip-by, then-by, over-judged-by}
 use Rattle.demands.proofs.WrittenExactly.{Rows, rows, free-at-first, next, room-judged, size-judged, by-verdict}
 
 -- check 5

@@ -33,9 +33,9 @@ use Rattle.demands.proofs.NlAuth.{above, five}
 use Rattle.demands.specs.Secret.{Secret, secret-field, mic as mic-byte, AsLong, AlikeOutside}
 use Rattle.demands.specs.ReadBack.{AuthenticateBack, AuthenticateReadsBack}
 use Rattle.demands.specs.TakenExactly.{IsTakenAuthenticate}
-use Rattle.demands.proofs.Chain.{by-row}
+use Rattle.demands.proofs.Message.Chain.{by-row}
 use Rattle.demands.proofs.OwnBytes.{authenticate-own, own-same}
-use Rattle.demands.proofs.Sent.{back-at, in-payload}
+use Rattle.demands.proofs.ReadBack.Sent.{back-at, in-payload}
 use Rattle.demands.proofs.ReadBack.{written-is}
 use Rattle.demands.proofs.TakenExactly.{authenticate-taken}
 use Rattle.demands.specs.Message.{authenticate, lenOf, offsetOf, Nonempty, Set, MicThere, Fails}

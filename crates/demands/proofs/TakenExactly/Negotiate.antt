@@ -30,11 +30,11 @@ use Rattle.demands.specs.Ignored.{SameBytes, NegotiateIgnored}
 use Rattle.demands.proofs.Order.{Free, only-first, next-check}
 use Rattle.demands.proofs.Message.{Stands}
 use Rattle.demands.proofs.Message as fields
-use Rattle.demands.proofs.Fields.{AllStand, ends-judged, begins-judged}
-use Rattle.demands.proofs.Chain.{JudgedV, JudgedH, head-judged, then, beyond}
+use Rattle.demands.proofs.Message.Fields.{AllStand, ends-judged, begins-judged}
+use Rattle.demands.proofs.Message.Chain.{JudgedV, JudgedH, head-judged, then, beyond}
 use Rattle.demands.proofs.OwnBytes.{own-field}
-use Rattle.demands.proofs.Apart.{Apart, spaced, seen}
-use Rattle.demands.proofs.Unchanged as same
+use Rattle.demands.proofs.Message.Apart.{Apart, spaced, seen}
+use Rattle.demands.proofs.Message.Unchanged as same
 
 module _ (s : List ℕ) where
   -- each field of the reader is its head's

@@ -33,9 +33,9 @@ use Rattle.demands.specs.TakenExactly.{InfoBytes, ChallengeHolds}
 use Rattle.demands.specs.Answering.{Fails20, Fails21, Agreed, Declined, by-reading, by-20, by-21, TimestampIs, DecisionRefusedWith, DecisionIsRefused, DecisionIsTaken}
 use Rattle.demands.proofs.Bools.{true-not-false, both-ways, failed-false, chained}
 use Rattle.demands.proofs.PairList.{one-place}
-use Rattle.demands.proofs.Challenge as reading
-use Rattle.demands.proofs.Challenge.{holds-or-fails, one-reason}
-use Rattle.demands.proofs.ChallengeOwn.{taken-as, info-of, asks, time-judged, no-time-judged, there-is}
+use Rattle.demands.proofs.TakenExactly.Challenge as reading
+use Rattle.demands.proofs.TakenExactly.Challenge.{holds-or-fails, one-reason}
+use Rattle.demands.proofs.OwnBytes.ChallengeOwn.{taken-as, info-of, asks, time-judged, no-time-judged, there-is}
 
 -- ---- the timestamp
 

@@ -13,7 +13,7 @@ use Rattle.field.specs.Field.{endsInside, beginsAfter}
 use Rattle.demands.specs.Message.{Format, Fails}
 use Rattle.demands.proofs.Order.{Free, skip}
 use Rattle.demands.proofs.Message.{Stands, ends-failed, ends-held, begins-failed, begins-held}
-use Rattle.demands.proofs.Chain.{JudgedV, Links, over-judged}
+use Rattle.demands.proofs.Message.Chain.{JudgedV, Links, over-judged}
 
 -- numbered fields, from field i on, each as the reader makes it of its head
 abbrev pub AllStand : Format → List ℕ → ℕ → List (ℕ × Field) → Type 0

@@ -25,7 +25,7 @@ use Rattle.respond.specs.Decision.{decisionOn, onDecided}
 use Rattle.respond.specs.Domain.{domainToSend}
 use Rattle.demands.specs.Secret.{AsLong, AlikeOutside, SecretAnswered}
 use Rattle.demands.proofs.ReadBack.{written-is}
-use Rattle.demands.proofs.WriteBack.{messages-alike, key-held}
+use Rattle.demands.proofs.ReadBack.WriteBack.{messages-alike, key-held}
 
 answered-same : (v : Verdict) (x y : List ℕ) → length x ≡ length y → answered v x ≡ answered v y
 answered-same Clear x y e = ap Length e

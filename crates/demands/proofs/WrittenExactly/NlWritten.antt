@@ -27,7 +27,7 @@ use Rattle.demands.specs.Message.{FlagSet}
 use Rattle.demands.specs.WrittenExactly.{WrittenExactly, HoldsZero, sizeUnder, requestSize, RequestWritingFails, NlRequestIsWritten, RoomFails, NlResponseIsWritten}
 use Rattle.demands.proofs.Bools.{true-not-false, failed-false, or-left, or-right, or-either, chained, bit1, bit2, bit4, bit8, bit16}
 use Rattle.demands.proofs.NlAuth.{before-nonzero, at-zero, five}
-use Rattle.demands.proofs.Rank.{FreeBy, JudgedBy, only-in, first-by, skip-by, then-by, over-judged-by}
+use Rattle.demands.proofs.Order.Rank.{FreeBy, JudgedBy, only-in, first-by, skip-by, then-by, over-judged-by}
 use Rattle.demands.proofs.WrittenExactly.{rows, free-at-first, next, room-judged, size-judged, only-room, only-room-judged, by-verdict}
 
 -- check 34 at one string

@@ -17,8 +17,8 @@ use Rattle.c_number.specs.Number.{refusalNumber, bit}
 use Rattle.c_number.specs.Outcome.{Outcome, numbers, refused, outcomeNumber, outcomeOut, outcomeBytes, callNumber, callOut, twoArrayNumber, twoArrayOut, twoArrayBytes}
 use Rattle.c_respond.specs.Respond.{answeredOut, respondedNumber, respondedNumbers, respondedOut}
 use Rattle.demands.specs.Kept.{CallKept, TwoArraysKept, KeptAnswer, RespondedKept}
-use Rattle.demands.proofs.AnswerKept.{respond-kept}
-use Rattle.demands.proofs.CallFront.{at-front}
+use Rattle.demands.proofs.Kept.AnswerKept.{respond-kept}
+use Rattle.demands.proofs.Kept.CallFront.{at-front}
 use Rattle.demands.proofs.Bools.{true-not-false}
 
 pub call-kept : CallKept

@@ -26,12 +26,12 @@ use Rattle.target_info.specs.TargetInfo.{timestampIn, serverNamesIn}
 use Rattle.demands.specs.Message.{challenge, Fails, Ignored, DifferInIgnored}
 use Rattle.demands.specs.Ignored.{SameBytes, ChallengeIgnored}
 use Rattle.demands.proofs.Alike.{same-part}
-use Rattle.demands.proofs.Chain.{JudgedH, head-judged}
-use Rattle.demands.proofs.Apart.{Apart, lies, seen as apart-seen}
-use Rattle.demands.proofs.Unchanged.{Seen}
-use Rattle.demands.proofs.Unchanged as same
-use Rattle.demands.proofs.Challenge.{two, JudgedF, fields-of-judged}
-use Rattle.demands.proofs.ChallengeOwn.{taken-as}
+use Rattle.demands.proofs.Message.Chain.{JudgedH, head-judged}
+use Rattle.demands.proofs.Message.Apart.{Apart, lies, seen as apart-seen}
+use Rattle.demands.proofs.Message.Unchanged.{Seen}
+use Rattle.demands.proofs.Message.Unchanged as same
+use Rattle.demands.proofs.TakenExactly.Challenge.{two, JudgedF, fields-of-judged}
+use Rattle.demands.proofs.OwnBytes.ChallengeOwn.{taken-as}
 
 apart : Apart challenge
 apart =

@@ -21,7 +21,7 @@ use Rattle.respond.specs.Decision.{defaults, decisionOn, onDecided, strengthHol
 use Rattle.respond.specs.Domain.{Part, ownPart, onFound, domainPart, domainToSend}
 use Rattle.target_info.specs.TargetInfo.{firstBy, timestampIn, serverNamesIn}
 use Rattle.demands.specs.Ignored.{DecisionIgnored, DomainIgnored, RespondIgnored, ThinCallsIgnored}
-use Rattle.demands.proofs.ChallengeIgnored.{made-same}
+use Rattle.demands.proofs.Ignored.ChallengeIgnored.{made-same}
 
 pub decision-ignored : DecisionIgnored
 unfolding decisionOn

@@ -53,18 +53,18 @@ use Rattle.target_info.specs.TargetInfo.{timestampIn}
 use Rattle.line_chal.specs.Chal.{chalWords, chalText}
 use Rattle.wire.specs.declared.check.Verdict.{Verdict}
 use Rattle.wire.specs.declared.check.Verdict.the-variants.{Clear, Refused as Not}
-use Rattle.demands.proofs.Challenge.{JudgedP, pairs-judged}
+use Rattle.demands.proofs.TakenExactly.Challenge.{JudgedP, pairs-judged}
 use Rattle.demands.specs.Answers.{negotiate-line, authenticate-line, challenge-line, nl-auth-line, ntlm-line, ntlm-program-line, nl-auth-program-line, LineShort}
 use Rattle.demands.specs.Message.{Format, negotiate, authenticate, challenge}
 use Rattle.demands.specs.OwnBytes.{OwnField}
 use Rattle.demands.specs.TakenExactly.{IsTakenNegotiate, IsTakenNl}
-use Rattle.demands.proofs.ChallengeOwn.{taken-as, challenge-own}
-use Rattle.demands.proofs.LineBounds.{auth-bound, nego-bound, chal-bound, nl-bound}
-use Rattle.demands.proofs.Negotiate.{negotiate-taken, negotiate-own}
+use Rattle.demands.proofs.OwnBytes.ChallengeOwn.{taken-as, challenge-own}
+use Rattle.demands.proofs.Answers.LineBounds.{auth-bound, nego-bound, chal-bound, nl-bound}
+use Rattle.demands.proofs.TakenExactly.Negotiate.{negotiate-taken, negotiate-own}
 use Rattle.demands.proofs.NlAuth.{nl-auth-taken}
 use Rattle.demands.proofs.OwnBytes.{none-fails, authenticate-own}
-use Rattle.demands.proofs.SmallFields.{authenticate-small, negotiate-small, nl-auth-small, challenge-small, SmallC}
-use Rattle.demands.proofs.Told.{Small, number-small}
+use Rattle.demands.proofs.Answers.SmallFields.{authenticate-small, negotiate-small, nl-auth-small, challenge-small, SmallC}
+use Rattle.demands.proofs.Answers.Told.{Small, number-small}
 
 -- ---- what a taken message's line is made of
 

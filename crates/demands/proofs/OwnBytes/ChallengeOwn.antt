@@ -33,8 +33,8 @@ use Rattle.demands.specs.PairList.{FirstWith, PairThere}
 use Rattle.demands.specs.OwnBytes.{OwnField, ChallengeOwn, ChallengeRefusedZeros, TimestampOwn, NoTimestampThere, ServerNamesOwn}
 use Rattle.demands.specs.TakenExactly.{InfoBytes}
 use Rattle.demands.proofs.OwnBytes.{own-field}
-use Rattle.demands.proofs.Challenge.{two, JudgedF, fields-of-judged, info-is}
-use Rattle.demands.proofs.Found.{JudgedW, first-in-list}
+use Rattle.demands.proofs.TakenExactly.Challenge.{two, JudgedF, fields-of-judged, info-is}
+use Rattle.demands.proofs.OwnBytes.Found.{JudgedW, first-in-list}
 use Rattle.demands.proofs.Bools.{true-not-false}
 
 -- a taken message, and what it is answered with

@@ -8,7 +8,7 @@ use native.Mathlib.Omega.{arith}
 use lib.Dec.{ltb}
 use borrow.Author.Tests.{ltb-true, ltb-false}
 use Rattle.demands.specs.Message.{Format, lenOf, Counts, Nonempty, Covers, MicThere, Ignored, max-len, uncounted-head, empty-offset, unused, uncovered}
-use Rattle.demands.proofs.Unchanged.{Seen}
+use Rattle.demands.proofs.Message.Unchanged.{Seen}
 
 -- the heads lie after the type, within the fixed part, and apart from each other, from the flags and from unused bytes
 pub record Apart (k : Format) : Type 0 where

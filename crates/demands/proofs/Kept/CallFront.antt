@@ -50,7 +50,7 @@ use Rattle.c_respond.specs.Respond.{decisionNumbers, decidedOutcome}
 use Rattle.target_info.specs.TargetInfo.{findPair}
 use Rattle.demands.specs.FromC.{Call, read-negotiate, read-timestamp, read-server-names, read-nl-auth, count-pairs, find-pair, next-pair, decide, count, outcome, TwoArrayCall, read-authenticate, read-challenge, numberCount, byteCount, twoArrayOutcome, bytesBeside}
 use Rattle.demands.specs.Kept.{Front, Handed, CallFront, TwoArraysFront}
-use Rattle.demands.proofs.ChallengeOwn.{taken-as}
+use Rattle.demands.proofs.OwnBytes.ChallengeOwn.{taken-as}
 use Rattle.demands.proofs.Kept.{front-length, front-rest}
 
 pub at-front : (xs out : List ℕ) → length xs ≤ length out → Front xs out (atFront xs out)

@@ -29,11 +29,11 @@ use Rattle.line_nl.specs.Nl.{nlOem, nlUtf8, nlText}
 use Rattle.demands.specs.Ignored.{SameFields, SameNegotiate, SameChallenge, SameNlAuth, AuthenticateLineIgnored, NegotiateLineIgnored, ChallengeLineIgnored, NtlmLineIgnored, NlAuthLineIgnored}
 use Rattle.demands.specs.Message.{Format, negotiate, authenticate, challenge, DifferInIgnored}
 use Rattle.demands.proofs.Alike.{same32}
-use Rattle.demands.proofs.Negotiate.{negotiate-ignored, negotiate-seen}
-use Rattle.demands.proofs.ChallengeIgnored.{challenge-ignored, seen as challenge-seen}
+use Rattle.demands.proofs.TakenExactly.Negotiate.{negotiate-ignored, negotiate-seen}
+use Rattle.demands.proofs.Ignored.ChallengeIgnored.{challenge-ignored, seen as challenge-seen}
 use Rattle.demands.proofs.Ignored.{authenticate-ignored, seen as authenticate-seen}
-use Rattle.demands.proofs.Unchanged.{Seen, looked}
-use Rattle.demands.proofs.NlIgnored.{nl-auth-ignored}
+use Rattle.demands.proofs.Message.Unchanged.{Seen, looked}
+use Rattle.demands.proofs.Ignored.NlIgnored.{nl-auth-ignored}
 
 -- an AUTHENTICATE line goes by the reading and the names' bytes
 pub auth-line-same : (s t : List ℕ) (r : Reading) → ((a : Message) → r ≡ Taken a → SameFields s t (a .fields)) → authLine s r ≡ authLine t r
