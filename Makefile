@@ -31,12 +31,12 @@ lib:
 	@echo '    gcc -Iinclude program.c target/staticlib/libdialtable.a -o program'
 
 lib-small:
-	@tools/build-lib && tools/build-for small
+	@tools/build-for small
 	@echo 'target/small/libdialtable.a is built; its header is include/dialtable.h. To link only what a C program calls:'
 	@echo '    gcc -Iinclude program.c target/small/libdialtable.a -Wl,--gc-sections -o program'
 
 lib-thumb:
-	@tools/build-lib && tools/build-for '$(TARGET)'
+	@tools/build-for '$(TARGET)'
 	@echo 'target/$(TARGET)/libdialtable.a is built; its header is include/dialtable.h'
 
 install:

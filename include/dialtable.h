@@ -3,8 +3,9 @@
  *
  *     gcc -Iinclude program.c target/staticlib/libdialtable.a -o program
  *
- * A sign-in, in the order that it wants: the Time and the flags come before the response is worked out, and the MIC
- * after the message is written. What is no dialtable_ call here is the box's own; own is the names of its settings.
+ * A sign-in, in the order that it wants: the Time, the flags and the pair list come before the response is worked out,
+ * and the MIC after the message is written. What is no dialtable_ call here is the box's own; own is the names of its
+ * settings, with that of the server it wants (the target name).
  *
  *     first_len = dialtable_write_negotiate(first, sizeof first, wanted, version, NULL, 0, NULL, 0);
  *     if (DIALTABLE_IS_REFUSED(first_len)) return first_len;
@@ -13,7 +14,10 @@
  *     if (DIALTABLE_IS_REFUSED(answer)) return answer;
  *     encode(&own, (decision[DIALTABLE_DECISION_FLAGS] & DIALTABLE_FLAG_UNICODE) != 0);
  *     time = decision[DIALTABLE_DECISION_TIMESTAMP_THERE] ? decision[DIALTABLE_DECISION_TIMESTAMP] : clock;
- *     work_out(&radio, challenge, challenge_len, time, &own);
+ *     pairs_len = dialtable_write_response_pairs(pairs, sizeof pairs, challenge, challenge_len, own.target,
+ *                                                own.target_len, 0, zeros);
+ *     if (DIALTABLE_IS_REFUSED(pairs_len)) return pairs_len;
+ *     work_out(&radio, challenge, challenge_len, time, pairs, pairs_len, &own);
  *     answer = dialtable_respond(out, sizeof out, challenge, challenge_len, DIALTABLE_DEFAULTS, clock, version, zeros,
  *                                radio.lm, 24, radio.nt, radio.nt_len, own.domain, own.domain_len, own.user,
  *                                own.user_len, own.workstation, own.workstation_len, radio.key, 16, done,
@@ -26,9 +30,10 @@
  *     return exchange(out, answer, NULL, 0);
  *
  * Names go out as they are given: the challenge's UNICODE decides, before the call, whether user, workstation and own
- * domain must be UTF-16LE or bytes. Where the own domain is empty the server's may be sent: dialtable_domain_to_send
- * tells it, for a response that is worked out over the domain. Ask for KEY_EXCH only together with SIGN or SEAL: to a
- * challenge with KEY_EXCH and neither of them no key is sent, and Samba and gss-ntlmssp then refuse the sign-in.
+ * domain must be UTF-16LE or bytes; a target name is always UTF-16LE. Where the own domain is empty the server's may be
+ * sent: dialtable_domain_to_send tells it, for a response that is worked out over the domain. Ask for KEY_EXCH only
+ * together with SIGN or SEAL: to a challenge with KEY_EXCH and neither of them no key is sent, and Samba and
+ * gss-ntlmssp then refuse the sign-in.
  *
  * Every call takes bytes as they come, of any length, and always ends. Nothing is kept between calls and nothing is
  * allocated; calls are reentrant. Memory is lent for the length of the call: inputs are only read, an output is written
@@ -45,8 +50,8 @@
  * Numbers come back in an array of uint64_t, at the places that are named below. An array (or a MIC's or a server
  * challenge's bytes) that is too short is refused 33, before anything is read.
  *
- * Names are UTF-16LE where the flags have UNICODE, else bytes (OEM); those of a NEGOTIATE are always bytes. Times are
- * the 64-bit numbers of the timestamp pair.
+ * Names are UTF-16LE where the flags have UNICODE, else bytes (OEM); those of a NEGOTIATE are always bytes, and those
+ * in pairs always UTF-16LE. Times are the 64-bit numbers of the timestamp pair.
  *
  * Proved is the module that the library is compiled from, for every input, in the language's own abstract machine. The
  * compiler's work after that is not proved: it is tested, for x86-64 built fast and built small in 'make test', for
@@ -92,8 +97,8 @@ enum {
     DIALTABLE_REFUSED_WRONG_RESPONSE = 17,    /* a response's buffer isn't one zero byte */
     DIALTABLE_REFUSED_NO_128_BIT = 20,        /* 128-bit demanded, not in the flags */
     DIALTABLE_REFUSED_NO_SERVER_NAMES = 21,   /* NTLMv2 with integrity or confidentiality: not both pairs 1 and 2 */
-    DIALTABLE_REFUSED_TOO_LONG_TO_WRITE = 30, /* a message to write would pass 65,535 bytes */
-    DIALTABLE_REFUSED_ODD_NAME_TO_WRITE = 31, /* UNICODE: the name to write has odd length (pair list: field 2) */
+    DIALTABLE_REFUSED_TOO_LONG_TO_WRITE = 30, /* a message or pair list to write would pass 65,535 bytes */
+    DIALTABLE_REFUSED_ODD_NAME_TO_WRITE = 31, /* a name of odd length, with UNICODE; a pair's always (field 2) */
     DIALTABLE_REFUSED_WRONG_KEY = 32,         /* a key neither empty nor 16 bytes, or without KEY_EXCH (field 6) */
     DIALTABLE_REFUSED_NO_ROOM = 33,           /* an output is too short */
     DIALTABLE_REFUSED_ZERO_IN_STRING = 34     /* the NL_AUTH string to write holds a zero byte */
@@ -296,10 +301,10 @@ uint64_t dialtable_write_nl_auth_response(uint8_t *out, dialtable_len out_len);
 /* The pair list that goes back inside the NTLMv2 response: the challenge's pairs in their order, without those of ids
  * 9 and 10; then pair 10 with the bindings (16 zeros for none), pair 9 with the target name, and the end pair. In the
  * first flags pair the bits below are set: MIC where a timestamp is there, UNVERIFIED where unverified is not 0 and the
- * target name is not empty. Where a bit is due and no flags pair came in, one with it stands before pair 10. Without
- * target info it is the end pair alone. Refuses as reading does, then 31 (field 2) a target name of odd length,
- * whatever the flags say, 30 and 33. Room: 32 bytes and those of the target info and of the target name. Answers the
- * list's length. */
+ * target name is not empty. Where a bit is due and no flags pair came in, one with it stands before pair 10. Where the
+ * target info is empty or doesn't count it is the end pair alone. Refuses as reading does (not by 20 and 21), then 31
+ * (field 2) a target name of odd length, whatever the flags say, 30 a list over 65,535 bytes, and 33. Room: 32 bytes
+ * and those of the target info and of the target name. Answers the list's length. */
 #define DIALTABLE_PAIR_FLAG_MIC 0x2u
 #define DIALTABLE_PAIR_FLAG_UNVERIFIED 0x4u
 uint64_t dialtable_write_response_pairs(uint8_t *out, dialtable_len out_len, const uint8_t *challenge,

@@ -134,8 +134,8 @@ static uint8_t mic[16];
 
 static void writes(unsigned room)
 {
-    uint32_t flags = draw(2) ? 0xE28A8215u : draw_32(), bits = draw(64);
-    unsigned a = draw(30), b = draw(30), c = draw(30), key_len = 16 * draw(2);
+    uint32_t flags = draw(2) ? 0xE28A8215u : draw_32(), bits = draw(64), unverified = draw(3);
+    unsigned a = draw(30), b = draw(30), c = draw(30), key_len = 16 * draw(2), name_len = draw(4) ? b & ~1u : b;
 
     CALL(dialtable_write_authenticate(out, room, flags, version, mic, msg, a, msg + 1, b, msg + 3, c, msg + 7, a & ~1u,
                                       msg + 9, b & ~1u, mic, key_len));
@@ -143,7 +143,7 @@ static void writes(unsigned room)
     CALL(dialtable_write_nl_auth_request(out, room, bits, msg, a % 4, msg + 9, b % 3, msg + 13, c % 4, msg + 8, 0,
                                          msg + 2, a % 3));
     CALL(dialtable_write_nl_auth_response(out, room));
-    CALL(dialtable_write_response_pairs(out, room, msg, len, msg + 11, draw(4) ? b & ~1u : b, draw(3), mic));
+    CALL(dialtable_write_response_pairs(out, room, msg, len, msg + 11, name_len, unverified, mic));
 }
 
 static void answers(unsigned room, unsigned places)

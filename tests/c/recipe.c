@@ -27,13 +27,13 @@ static void check(int holds, int line, const char *what)
 
 /* The box's names, and what its radio module works out. */
 struct names {
-    const uint8_t *domain, *user, *workstation;
-    dialtable_len domain_len, user_len, workstation_len;
+    const uint8_t *domain, *user, *workstation, *target;
+    dialtable_len domain_len, user_len, workstation_len, target_len;
 };
 struct module {
     uint8_t lm[24], nt[60], key[16];
     dialtable_len nt_len;
-    uint64_t time;
+    uint64_t time, flags; /* those of the flags pair that goes back, 0 where there is none */
 };
 
 static const uint8_t version[8] = {10, 0, 0x61, 0x4A, 0, 0, 0, 15}, zeros[16] = {0};
@@ -74,18 +74,28 @@ static dialtable_len exchange(const uint8_t *msg, dialtable_len msg_len, uint8_t
 static void encode(struct names *own, int unicode)
 {
     static const uint8_t wide[] = {'b', 0, 'o', 0, 'x', 0, '7', 0}, narrow[] = {'b', 'o', 'x', '7'};
+    static const uint8_t target[] = {'c', 0, 'i', 0, 'f', 0, 's', 0, '/', 0, 's', 0};
 
     own->domain = own->workstation = NULL;
     own->domain_len = own->workstation_len = 0;
     own->user = unicode ? wide : narrow;
     own->user_len = unicode ? sizeof wide : sizeof narrow;
+    own->target = target;
+    own->target_len = sizeof target;
 }
 
 /* In the place of the real work: bytes that can be seen again. */
 static void work_out(struct module *module, const uint8_t *challenge, dialtable_len challenge_len, uint64_t time,
-                     const struct names *own)
+                     const uint8_t *pairs, dialtable_len pairs_len, const struct names *own)
 {
+    uint64_t found[DIALTABLE_FOUND_NUMBERS];
+
     CHECK(challenge != NULL && challenge_len > 0 && own->user_len > 0);
+    CHECK(dialtable_find_pair(pairs, pairs_len, DIALTABLE_PAIR_FLAGS, found, DIALTABLE_FOUND_NUMBERS) == 0);
+    module->flags = found[DIALTABLE_FOUND_THERE] ? pairs[found[DIALTABLE_FOUND_PLACE]] : 0;
+    CHECK(dialtable_find_pair(pairs, pairs_len, DIALTABLE_PAIR_TARGET_NAME, found, DIALTABLE_FOUND_NUMBERS) == 0);
+    CHECK(found[DIALTABLE_FOUND_THERE] && found[DIALTABLE_FOUND_LEN] == own->target_len &&
+          memcmp(pairs + found[DIALTABLE_FOUND_PLACE], own->target, (size_t)own->target_len) == 0);
     memset(module->lm, 0x11, sizeof module->lm);
     memset(module->nt, 0x22, sizeof module->nt);
     memset(module->key, 0x66, sizeof module->key);
@@ -110,8 +120,8 @@ static void log_it(const uint8_t *line, dialtable_len len)
 
 static uint64_t sign_in(void)
 {
-    uint8_t first[64], challenge[1024], out[1024], line[500];
-    dialtable_len first_len, challenge_len, line_len;
+    uint8_t first[64], challenge[1024], pairs[1100], out[1024], line[500];
+    dialtable_len first_len, challenge_len, pairs_len, line_len;
     uint64_t answer, time, clock = clock_now;
     uint64_t decision[DIALTABLE_DECISION_NUMBERS], done[DIALTABLE_RESPONSE_NUMBERS];
     struct names own;
@@ -136,7 +146,7 @@ int main(int argc, char **argv)
     server = argv[1];
     CHECK(sign_in() == 0);
     CHECK(first_sent_len == 40 && memcmp(first_sent, "NTLMSSP\0" "\1", 9) == 0);
-    CHECK(radio.time == SERVER_TIME);
+    CHECK(radio.time == SERVER_TIME && radio.flags == DIALTABLE_PAIR_FLAG_MIC);
     CHECK(sent_len == 88 + 14 + 8 + 24 + 60 + 16 && memcmp(sent + DIALTABLE_MIC_AT, mic, 16) == 0);
     CHECK(strcmp(logged, "auth flags=628A8215 set=U domain=PEERSRV user=box7 work= lm=24 nt=60 key=16 mic=1 kind=v2\n")
           == 0);
@@ -144,7 +154,7 @@ int main(int argc, char **argv)
     /* The box's own clock, and zeros for the MIC; its line says mic=1 all the same. */
     server = argv[2];
     CHECK(sign_in() == 0);
-    CHECK(radio.time == CLOCK);
+    CHECK(radio.time == CLOCK && radio.flags == 0);
     CHECK(memcmp(sent + DIALTABLE_MIC_AT, zeros, 16) == 0);
     CHECK(strstr(logged, " mic=1 ") != NULL && strstr(logged, " user=box7 ") != NULL);
 

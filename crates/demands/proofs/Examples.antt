@@ -7,7 +7,7 @@ use Rattle.head.specs.Head.{signatureHolds, readHead, kindOf}
 use Rattle.word.specs.Digits.{hexDigit, hex, decimalSize, decimal}
 use Rattle.word.specs.Name.{escape, unitText, textOf, nameText}
 use Rattle.word.specs.Words.{numberWord, nameWord, flagsWord, setWord, startText, micWord, kindWord}
-use Rattle.av_pairs.specs.AvPairs.{countPairs, checkPairs, pairsOf, stepAt, pairOf, left}
+use Rattle.av_pairs.specs.AvPairs.{countPairs, checkPairs, pairsOf, valuesOf, stepAt, pairOf, left}
 use Rattle.challenge.specs.Challenge.{fieldsAt as challengeFieldsAt, checkEnds as challengeEnds, checkBegins as challengeBegins, checkNames as challengeNames, checkFields as challengeChecks, fieldsOf, readingOf as challengeReadingOf, readChallenge, timestampOf, serverNamesOf}
 use Rattle.negotiate.specs.Negotiate.{fieldsAt as negotiateFieldsAt, checkEnds as negotiateEnds, checkBegins as negotiateBegins, checkFields as negotiateChecks, readNegotiate}
 use Rattle.negotiate_writing.specs.Writing.{flagsToWrite, fieldsTo as negotiateFieldsTo, afterType, fixedBytes as negotiateFixed, negotiateBytes, checkToWrite as negotiateCheck, writeAnswer as negotiateAnswer, writeOut as negotiateOut}
@@ -17,12 +17,13 @@ use Rattle.nl_auth_writing.specs.Writing.{headBytes as nlHeadBytes, stringBytes
 use Rattle.respond.specs.Domain.{domainPart}
 use Rattle.respond.specs.Decision.{decisionOn}
 use Rattle.respond.specs.Answer.{lmToSend, micToSend, keyToSend, sendAnswer, sendOut, respondAnswer, respondOut}
+use Rattle.response_pairs.specs.ResponsePairs.{dueBits, bitsDue, addedPairs, pairsBack, pairsFor, pairBytes, listBytes, listWith, listFor, checkList, listAnswer, listOut, writeAnswer as pairsAnswer, writeOut as pairsOut}
 use Rattle.line_chal.specs.Chal.{timeText, timeWord, chalEnd, chalWords, chalText}
 use Rattle.line_nego.specs.Nego.{negoNames, negoText}
 use Rattle.line_auth.specs.Auth.{authNames, authLengths, authEnd, authText}
 use Rattle.line.specs.Line.{authenticateLine, challengeLine, negotiateLine, ntlmLine}
 use Rattle.target_info.specs.TargetInfo.{timestampIn, serverNamesIn}
-use Rattle.demands.specs.Examples.{ChallengeExample, NegotiateExample, AuthenticateExample, AnswerExample, NlAuthExample, ExamplesHold}
+use Rattle.demands.specs.Examples.{ChallengeExample, NegotiateExample, AuthenticateExample, AnswerExample, PairListExample, NlAuthExample, ExamplesHold}
 
 challenge-example : ChallengeExample
 unfolding readChallenge challengeReadingOf fieldsOf challengeFieldsAt challengeEnds challengeBegins challengeNames challengeChecks readHead signatureHolds fieldAt fieldBytes countPairs checkPairs pairsOf stepAt pairOf left timestampIn timestampOf serverNamesIn serverNamesOf hexDigit hex decimalSize decimal escape unitText textOf nameText numberWord nameWord flagsWord setWord startText timeText timeWord chalEnd chalWords chalText challengeLine kindOf ntlmLine
@@ -40,6 +41,11 @@ answer-example : AnswerExample
 unfolding challengeReadingOf fieldsOf challengeFieldsAt challengeEnds challengeBegins challengeNames challengeChecks checkPairs pairsOf stepAt pairOf left timestampIn serverNamesIn domainPart fieldStart decisionOn lmToSend micToSend keyToSend sendAnswer sendOut respondAnswer respondOut readAuthenticate readingOf fieldsAt checkEnds checkBegins checkNames checkShared checkFields micPresent readHead signatureHolds fieldAt fieldBytes hexDigit hex decimalSize decimal escape unitText textOf nameText numberWord nameWord flagsWord setWord startText micWord kindWord authNames authLengths authEnd authText authenticateLine kindOf ntlmLine fieldsTo headsBytes afterHeads fixedBytes payloadBytes authenticateBytes checkNamesToWrite checkToWrite writeAnswer writeOut headBytes versionBytes le16 le32
 answer-example = record { answer = refl; bytes-written = refl; line = refl; no-room = refl; kept = refl }
 
+pair-list-example : PairListExample
+unfolding challengeReadingOf fieldsOf challengeFieldsAt challengeEnds challengeBegins challengeNames challengeChecks readHead signatureHolds fieldAt fieldBytes countPairs checkPairs pairsOf valuesOf stepAt pairOf left dueBits bitsDue addedPairs pairsBack pairsFor pairBytes listBytes listWith listFor checkList listAnswer listOut pairsAnswer pairsOut le16 le32
+pair-list-example =
+    record { length-written = refl; bytes-written = refl; pairs = refl; no-room = refl; kept = refl; odd-name = refl; with-all = refl }
+
 nl-auth-example : NlAuthExample
 unfolding nlHeadBytes stringBytes bytesUnder utf8Bytes requestBytes responseBytes checkZeros checkRequest requestAnswer requestOut responseAnswer responseOut le16 le32
 nl-auth-example =
@@ -53,4 +59,4 @@ nl-auth-example =
     }
 
 pub examples-hold : ExamplesHold
-examples-hold = (challenge-example, negotiate-example, authenticate-example, answer-example, nl-auth-example)
+examples-hold = (challenge-example, negotiate-example, authenticate-example, answer-example, pair-list-example, nl-auth-example)

@@ -32,17 +32,18 @@ use Rattle.wire.specs.declared.refusal.Refusal.the-variants.{OddNameToWrite, To
 use Rattle.wire.specs.Refusal.{numberOf, fieldOf}
 use Rattle.wire.proofs.Laws.{held-true}
 use Rattle.demands.specs.Order.{FirstIn, placeIn}
-use Rattle.demands.specs.PairList.{idOf, sizeOf, nextOf, PairAt, EndAt, WellFormed, end, pair, Holds, empty, listed}
+use Rattle.demands.specs.PairList.{idOf, sizeOf, nextOf, PairAt, EndAt, WellFormed, end, pair, Holds, empty, listed, FirstWith}
 use Rattle.demands.specs.InTurn.{KthPair}
 use Rattle.demands.specs.Kept.{Kept}
 use Rattle.demands.specs.TakenExactly.{InfoBytes, ChallengeHolds, ChallengeFails}
 use Rattle.demands.specs.WrittenExactly.{WrittenExactly, WritingRefusedWith}
-use Rattle.demands.specs.ResponsePairs.{TakenOut, FlagsAdded, ValueAt, LastTwo, Added, with-flags, without-flags, GoesBack, taken-out, first-flags, same, at-end, ListBack, end-alone, from-start, PairsGoBack, ResultHolds, OnlyPair, OneTenOneNine, EndPairAlone, KeptSize, no-more, passed-over, counted, ListSize, of-end, of-flags, of-two, SizeIsThere, ResponsePairsFail, WrittenFrom, ResponsePairsAreWritten, ResponsePairsKept, ResponsePairsIgnored}
+use Rattle.demands.specs.ResponsePairs.{TakenOut, FlagsAdded, ValueAt, LastTwo, Added, with-flags, without-flags, GoesBack, taken-out, first-flags, same, at-end, ListBack, end-alone, from-start, PairsGoBack, CountBack, three-added, two-added, none-back, one-back, ResultHolds, OnlyPair, OneTenOneNine, EndPairAlone, KeptSize, no-more, passed-over, counted, ListSize, of-end, of-flags, of-two, SizeIsThere, ResponsePairsFail, WrittenFrom, ResponsePairsAreWritten, ResponsePairsKept, ResponsePairsIgnored}
 use Rattle.demands.proofs.Bools.{true-not-false, both-ways, failed-false, chained, after-held}
 use Rattle.demands.proofs.TakenExactly.Challenge as reading
 use Rattle.demands.proofs.TakenExactly.Challenge.{holds-or-fails, one-reason}
 use Rattle.demands.proofs.Ignored.ChallengeIgnored.{made-same}
 use Rattle.demands.proofs.OwnBytes.ChallengeOwn.{info-of}
+use Rattle.demands.proofs.OwnBytes.Found.{id-of}
 use Rattle.demands.proofs.Kept as kept-laws
 use Rattle.demands.proofs.PairList.{pair-or-end}
 use Rattle.demands.proofs.ResponsePairs.PairsBack.{adds-is, came, values-pair, values-end, value-long, out-is, in-is, goes-back}
@@ -124,22 +125,49 @@ module _ (b l name : List ℕ) (mark : Bool) (bind : List ℕ) where
   one-more : (to k : ℕ) → PairAt l to → WellFormed l (nextOf l to) k → WellFormed l to (suc k)
   one-more to k w f = let e : suc k ≡ k + 1 = omega arith in pair {n = suc k} {m = k} w e f
 
+  -- a pair that is the first with id 6 is no 9 and no 10
+  kept-flags : (at : ℕ) → FirstWith b 6 at 0 → TakenOut b at → ⊥
+  kept-flags at w o =
+      let e = id-of b 6 at 0 w in
+      ⊎-elim (λ i. omega (arith, e, i)) (λ i. omega (arith, e, i)) o
+
   two-formed : (to : ℕ) → LastTwo l name bind to → WellFormed l to 2
   two-formed to w = one-more to 1 (w .ten .there) (one-more (nextOf l to) 0 (w .nine .there) (end (w .end-pair) refl))
 
-  formed : (at to : ℕ) → GoesBack b l name mark bind at to → (k : ℕ) × WellFormed l to k
-  formed at to (taken-out w o g) = formed (nextOf b at) to g
-  formed at to (first-flags w o f g) = let r = formed (nextOf b at) (nextOf l to) g in (suc (r .0), one-more to (r .0) (f .there) (r .1))
-  formed at to (same w o n v g) = let r = formed (nextOf b at) (nextOf l to) g in (suc (r .0), one-more to (r .0) (v .there) (r .1))
-  formed at to (at-end e (with-flags y f w)) = (3, one-more to 2 (f .there) (two-formed (nextOf l to) w))
-  formed at to (at-end e (without-flags y w)) = (2, two-formed to w)
+  record Formed (at to : ℕ) : Type 0 where
+    number : ℕ
+    well-formed : WellFormed l to number
+    count : CountBack b name mark at number
 
-  pub list-holds : ListBack b l name mark bind → (k : ℕ) × Holds l k
-  list-holds (end-alone e q) = (0, rw q (listed (omega arith) (end (record { id = refl; size = refl; last = refl }) refl)))
-  list-holds (from-start some g) = let r = formed 0 0 g in (r .0, listed (long (r .0) (r .1)) (r .1)) where
-    long : (k : ℕ) → WellFormed l 0 k → 0 < length l
-    long k (end e q) = omega (arith, e .last)
-    long k (pair w q f) = omega (arith, w .whole)
+  -- a pair of b that goes back as one of l
+  one-pair : (at to : ℕ) → PairAt b at → (TakenOut b at → ⊥) → PairAt l to → Formed (nextOf b at) (nextOf l to) → Formed at to
+  one-pair at to w o v r =
+      let e : suc (r .number) ≡ r .number + 1 = omega arith in
+      record {
+        number = suc (r .number);
+        well-formed = one-more to (r .number) v (r .well-formed);
+        count = one-back {n = suc (r .number)} {m = r .number} w o e (r .count);
+      }
+
+  formed : (at to : ℕ) → GoesBack b l name mark bind at to → Formed at to
+  formed at to (taken-out w o g) =
+      let r = formed (nextOf b at) to g in
+      record { number = r .number; well-formed = r .well-formed; count = none-back w o (r .count) }
+  formed at to (first-flags w o f g) = one-pair at to w (kept-flags at o) (f .there) (formed (nextOf b at) (nextOf l to) g)
+  formed at to (same w o n v g) = one-pair at to w o (v .there) (formed (nextOf b at) (nextOf l to) g)
+  formed at to (at-end e (with-flags y f w)) =
+      record { number = 3; well-formed = one-more to 2 (f .there) (two-formed (nextOf l to) w); count = three-added e y refl }
+  formed at to (at-end e (without-flags y w)) = record { number = 2; well-formed = two-formed to w; count = two-added e y refl }
+
+  pub list-holds : ListBack b l name mark bind → (k : ℕ) × Holds l k × (((length b ≡ 0) × (k ≡ 0)) ⊎ ((0 < length b) × CountBack b name mark 0 k))
+  list-holds (end-alone e q) = (0, rw q (listed (omega arith) (end (record { id = refl; size = refl; last = refl }) refl)), inl (e, refl))
+  list-holds (from-start some g) =
+      let r = formed 0 0 g in
+      (r .number, listed (long (r .number) (r .well-formed)) (r .well-formed), inr (some, r .count))
+    where
+      long : (k : ℕ) → WellFormed l 0 k → 0 < length l
+      long k (end e q) = omega (arith, e .last)
+      long k (pair w q f) = omega (arith, w .whole)
 
   -- one pair only with an id, from a place on
   record OnlyFrom (id : ℕ) (value : List ℕ) (to : ℕ) : Type 0 where

@@ -1,14 +1,14 @@
 -- One message of each kind that the bench cases leave out, worked out by hand, so that the theorems are seen to speak of
 -- something: a CHALLENGE and a NEGOTIATE that are read, a NEGOTIATE, an AUTHENTICATE and an NL_AUTH message that are written,
--- and an answer.
+-- an answer, and a pair list that goes back.
 use Prim.Native.Nat.{ℕ}
 use Prim.Native.String.{String}
 use mathlib.Core.Path.{_≡_}
 use mathlib.Core.Bool.{true}
 use mathlib.Core.List.{List, [], _∷_, _++_}
-use lib.ListN.{replicate}
+use lib.ListN.{take, replicate}
 use Rattle.text.specs.Text.{ascii}
-use Rattle.wire.specs.declared.refusal.Refusal.the-variants.{NoRoom}
+use Rattle.wire.specs.declared.refusal.Refusal.the-variants.{OddNameToWrite, NoRoom}
 use Rattle.negotiate_flags.specs.declared.NegotiateFlags.{NegotiateFlags}
 use Rattle.place.specs.declared.written.Written.the-variants.{Length, Refused}
 use Rattle.av_pairs.specs.declared.Count.the-variants.{Pairs}
@@ -25,6 +25,7 @@ use Rattle.authenticate_writing.specs.Writing.{writeAnswer, writeOut}
 use Rattle.respond.specs.declared.answer.Answered.the-variants.{Sent, Refused as Unanswered}
 use Rattle.respond.specs.Answer.{respondAnswer, respondOut}
 use Rattle.respond.specs.Decision.{defaults}
+use Rattle.response_pairs.specs.ResponsePairs.{listFor, writeAnswer as pairsAnswer, writeOut as pairsOut}
 use Rattle.line.specs.Line.{ntlmLine}
 use Rattle.nl_auth_flags.specs.declared.NlAuthFlags.{NlAuthFlags}
 use Rattle.nl_auth_flags.specs.Flags.{known}
@@ -171,6 +172,43 @@ pub record AnswerExample : Type 0 where
   pub no-room : respondAnswer 171 challengeMessage defaults 5 version mic lm nt [] box16 [] key ≡ Unanswered NoRoom
   pub kept : respondOut (replicate 171 0xFF) challengeMessage defaults version mic lm nt [] box16 [] key ≡ replicate 171 0xFF
 
+-- ---- the pair list that goes back for the CHALLENGE above, with the name "box7", which is marked unverified
+
+abbrev bindings : List ℕ
+bindings = replicate 16 0xEE
+
+-- 76 bytes: the three pairs that came in, a flags pair with both bits, pair 10, pair 9, the end pair
+abbrev listBack : List ℕ
+listBack =
+    take 32 info
+    ++ (0x06 ∷ 0x00 ∷ 0x04 ∷ 0x00 ∷ 0x06 ∷ 0x00 ∷ 0x00 ∷ 0x00 ∷
+    0x0A ∷ 0x00 ∷ 0x10 ∷ 0x00 ∷ bindings ++ (0x09 ∷ 0x00 ∷ 0x08 ∷ 0x00 ∷ box16 ++ (0x00 ∷ 0x00 ∷ 0x00 ∷ 0x00 ∷ [])))
+
+abbrev timestamp : List ℕ
+timestamp = 0x07 ∷ 0x00 ∷ 0x08 ∷ 0x00 ∷ replicate 8 0x07
+
+-- pairs 9, 6, 10, 6 and 7; what goes back for them with a mark and no name: bit 0x2 in the first flags pair alone
+abbrev infoWithAll : List ℕ
+infoWithAll =
+    0x09 ∷ 0x00 ∷ 0x02 ∷ 0x00 ∷ 0x41 ∷ 0x00 ∷ 0x06 ∷ 0x00 ∷ 0x04 ∷ 0x00 ∷ 0x01 ∷ 0x00 ∷ 0x00 ∷ 0x80 ∷
+    0x0A ∷ 0x00 ∷ 0x10 ∷ 0x00 ∷ replicate 16 0x11
+    ++ (0x06 ∷ 0x00 ∷ 0x04 ∷ 0x00 ∷ 0x00 ∷ 0x00 ∷ 0x00 ∷ 0x00 ∷ timestamp ++ (0x00 ∷ 0x00 ∷ 0x00 ∷ 0x00 ∷ []))
+
+abbrev backWithAll : List ℕ
+backWithAll =
+    0x06 ∷ 0x00 ∷ 0x04 ∷ 0x00 ∷ 0x03 ∷ 0x00 ∷ 0x00 ∷ 0x80 ∷
+    0x06 ∷ 0x00 ∷ 0x04 ∷ 0x00 ∷ 0x00 ∷ 0x00 ∷ 0x00 ∷ 0x00 ∷ timestamp
+    ++ (0x0A ∷ 0x00 ∷ 0x10 ∷ 0x00 ∷ bindings ++ (0x09 ∷ 0x00 ∷ 0x00 ∷ 0x00 ∷ 0x00 ∷ 0x00 ∷ 0x00 ∷ 0x00 ∷ []))
+
+pub record PairListExample : Type 0 where
+  pub length-written : pairsAnswer 78 challengeMessage box16 true bindings ≡ Length 76
+  pub bytes-written : pairsOut (replicate 78 0xFF) challengeMessage box16 true bindings ≡ listBack ++ (0xFF ∷ 0xFF ∷ [])
+  pub pairs : countPairs listBack ≡ Pairs 6
+  pub no-room : pairsAnswer 75 challengeMessage box16 true bindings ≡ Refused NoRoom
+  pub kept : pairsOut (replicate 75 0xFF) challengeMessage box16 true bindings ≡ replicate 75 0xFF
+  pub odd-name : pairsAnswer 75 challengeMessage (take 7 box16) true bindings ≡ Refused (OddNameToWrite 2)
+  pub with-all : listFor infoWithAll [] true bindings ≡ backWithAll
+
 -- ---- NL_AUTH: P12 as it is written from flags 0x21, the strings B to E passed over, and a response
 
 abbrev flags21 : NlAuthFlags
@@ -189,4 +227,4 @@ pub record NlAuthExample : Type 0 where
 
 -- all of them
 abbrev pub ExamplesHold : Type 0
-ExamplesHold = ChallengeExample × NegotiateExample × AuthenticateExample × AnswerExample × NlAuthExample
+ExamplesHold = ChallengeExample × NegotiateExample × AuthenticateExample × AnswerExample × PairListExample × NlAuthExample

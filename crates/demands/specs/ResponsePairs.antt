@@ -95,9 +95,18 @@ OfEachCall Q =
 abbrev pub PairsGoBack : Type 0
 PairsGoBack = OfEachCall (λ s b l name mark bindings. ListBack b l name mark bindings)
 
--- "The result passes checks 10 to 13"
+-- how many pairs go back for those from a place on: one for each but 9 and 10, and the two or three that are added
+pub data CountBack (b name : List ℕ) (mark : Bool) : ℕ → ℕ → Type 0 where
+  three-added : {at n : ℕ} → EndAt b at → FlagsAdded b name mark → n ≡ 3 → CountBack b name mark at n
+  two-added : {at n : ℕ} → EndAt b at → (FlagsAdded b name mark → ⊥) → n ≡ 2 → CountBack b name mark at n
+  none-back : {at n : ℕ} → PairAt b at → TakenOut b at → CountBack b name mark (nextOf b at) n → CountBack b name mark at n
+  one-back : {at n m : ℕ} → PairAt b at → (TakenOut b at → ⊥) → n ≡ m + 1 → CountBack b name mark (nextOf b at) m → CountBack b name mark at n
+
+-- "The result passes checks 10 to 13", with so many pairs
 abbrev pub ResultHolds : Type 0
-ResultHolds = OfEachCall (λ s b l name mark bindings. (k : ℕ) × Holds l k)
+ResultHolds =
+    OfEachCall (λ s b l name mark bindings.
+    (k : ℕ) × Holds l k × (((length b ≡ 0) × (k ≡ 0)) ⊎ ((0 < length b) × CountBack b name mark 0 k)))
 
 -- one pair only has an id, and it has this value
 pub record OnlyPair (l : List ℕ) (id : ℕ) (value : List ℕ) : Type 0 where
