@@ -460,8 +460,8 @@ static void writes_nl_auth(void)
     CHECK(refused(dialtable_write_nl_auth_response(out, 8), 33, 0));
 }
 
-/* The CHALLENGE of MS-NLMP 4.2.4: the name at 56, and from 68 on pairs 2 and 1 and the end pair. The string's own zero
- * byte is left out. */
+/* A CHALLENGE after MS-NLMP 4.2.4, not held against the page: the name at 56, and from 68 on pairs 2 and 1 and the end
+ * pair. The string's own zero byte is left out. */
 static const uint8_t ms_nlmp[] = "NTLMSSP\0" "\2\0\0\0" "\x0C\0\x0C\0" "\x38\0\0\0" "\x33\x82\x8A\xE2"
                                  "\x01\x23\x45\x67\x89\xAB\xCD\xEF" "\0\0\0\0\0\0\0\0" "\x24\0\x24\0" "\x44\0\0\0"
                                  "\6\0\x70\x17\0\0\0\x0F" "S\0e\0r\0v\0e\0r\0"

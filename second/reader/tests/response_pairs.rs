@@ -529,8 +529,8 @@ fn winpr_sends_this_list() {
 }
 
 #[test]
-fn the_published_example_goes_back_with_10_and_9_added() {
-    // The challenge of MS-NLMP 4.2.4. Its NTLMv2 response has the two pairs as
+fn the_example_after_4_2_4_goes_back_with_10_and_9_added() {
+    // A challenge after MS-NLMP 4.2.4, not held against the page. Its NTLMv2 response has the two pairs as
     // they came and the end pair; 10 and 9 are what document 004 adds.
     let challenge = message("challenge-no-timestamp.bin");
     let came = list(&[(2, &utf16("Domain")), (1, &utf16("Server"))]);
