@@ -13,6 +13,7 @@ use Rattle.wire.specs.declared.check.Verdict.{Verdict}
 use Rattle.wire.specs.declared.check.Verdict.the-variants.{Clear, Refused as Not}
 use Rattle.wire.specs.declared.refusal.Refusal.{Refusal}
 use Rattle.wire.specs.Check.{onClear}
+use Rattle.wire.specs.Refusal.{placeOf}
 use Rattle.av_pairs.specs.declared.AvPair.{AvPair}
 use Rattle.av_pairs.specs.declared.Step.{Step}
 use Rattle.av_pairs.specs.declared.Step.the-variants.{Pair, End, Refused}
@@ -22,7 +23,7 @@ use Rattle.av_pairs.specs.declared.Found.{Found}
 use Rattle.av_pairs.specs.declared.Found.the-variants.{At, Nothing}
 use Rattle.av_pairs.specs.AvPairs.{stepAt, endOf, onStep, askAt, pairAt, pairsFrom, stopFrom, pairsOf, checkPairs, countPairs, Valued, valueIn, withValues, valuesOf}
 use Rattle.av_pairs.proofs.Step.{the-type}
-use Rattle.av_pairs.proofs.Steps.{Gave, gave}
+use Rattle.av_pairs.proofs.Steps.{Gave, gave, fault-place}
 
 -- ---- a step
 
@@ -238,6 +239,20 @@ module _ (s : List ℕ) (at : ℕ) (w : Ahead s at) (r : Step) (e : r ≡ stepAt
 
   pub ahead-fault : (f : Refusal) → r ≡ Refused f → Not f ≡ checkPairs s
   ahead-fault f h = sym (w ∙ at-fault s at r e f h .1)
+
+-- a refusal's place is within the list, or at its end
+inside-from : (k : ℕ) (s : List ℕ) (at : ℕ) (e : Refusal) → at ≤ length s → stopFrom k s at ≡ Not e → placeOf e ≤ length s
+inside-from zero s at e h q = absurd (let z : _≡_ {A = ℕ} 0 1 = cc in omega arith)
+inside-from (suc k) s at e h q = go (stepAt s at) refl q (λ i. inside-from k s i e) where
+  go : (r : Step) → stepAt s at ≡ r → onStep r (λ p. stopFrom k s (endOf p)) (λ v. v) ≡ Not e →
+      ((i : ℕ) → i ≤ length s → stopFrom k s i ≡ Not e → placeOf e ≤ length s) → placeOf e ≤ length s
+  go (Pair p) w q later = later (endOf p) (gave s at (Pair p) p (sym w) refl .inside) q
+  go End w q later = absurd (let z : _≡_ {A = ℕ} 0 1 = cc in omega arith)
+  go (Refused f) w q later = let same : f ≡ e = cc in omega (arith, fault-place s at e (rw same at w))
+
+pub place-inside : (s : List ℕ) (e : Refusal) → checkPairs s ≡ Not e → placeOf e ≤ length s
+unfolding checkPairs
+place-inside s e h = inside-from (suc (length s)) s 0 e (omega arith) h
 
 -- ---- the count: what is passed and what is left
 

@@ -41,12 +41,13 @@ valueInside len left = checked (leb (4 + len) left)
 abbrev pub sizeHolds : AvId → ℕ → Checked
 sizeHolds id len = checked (sizeAllowed id len)
 
--- the pair with this id and length whose head stands at a place, with so many bytes left: checks 12, 10 and 13
+-- the pair with this id and length whose head stands at a place, with so many bytes left: checks 12, 10 and 13; each refuses with
+-- that place
 unfoldable pub pairOf : AvId → ℕ → ℕ → ℕ → Step
 pairOf id len at left =
-    after (endPairHolds id len left) (Refused WrongEndPair) (
-    after (valueInside len left) (Refused PairPastEnd) (
-    after (sizeHolds id len) (Refused WrongPairSize)
+    after (endPairHolds id len left) (Refused (WrongEndPair at)) (
+    after (valueInside len left) (Refused (PairPastEnd at)) (
+    after (sizeHolds id len) (Refused (WrongPairSize at))
     (cond (isEnd id) End (Pair (record { id = id; at = at + 4; len = len })))))
 
 abbrev pub idAt : List ℕ → ℕ → AvId
@@ -56,7 +57,7 @@ idAt s at = record { id = u16At s at }
 unfoldable pub stepAt : List ℕ → ℕ → Step
 stepAt s at =
     cond (eqb (length s) 0) End (
-    after (pairThere (left s at)) (Refused PairMissing)
+    after (pairThere (left s at)) (Refused (PairMissing at))
     (pairOf (idAt s at) (u16At s (at + 2)) at (left s at)))
 
 -- the place after a pair, where the next one should start

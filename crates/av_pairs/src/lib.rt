@@ -87,13 +87,13 @@ fn pair_of(id: AvId, len: u16, at: usize, left: usize) -> Step
     ensures { λ r. ⌜ r ≡ pairOf id len at left ⌝ }
 {
     let Checked::Held = end_pair_holds(id, len, left) else {
-        return Step::Refused(Refusal::WrongEndPair);
+        return Step::Refused(Refusal::WrongEndPair(at));
     };
     let Checked::Held = value_inside(len, left) else {
-        return Step::Refused(Refusal::PairPastEnd);
+        return Step::Refused(Refusal::PairPastEnd(at));
     };
     let Checked::Held = size_holds(id, len) else {
-        return Step::Refused(Refusal::WrongPairSize);
+        return Step::Refused(Refusal::WrongPairSize(at));
     };
     if id.is_end() {
         return Step::End;
@@ -114,7 +114,7 @@ pub fn step_at(list: &[u8], at: usize) -> Step
     }
     let left = left(list, at);
     let Checked::Held = pair_there(left) else {
-        return Step::Refused(Refusal::PairMissing);
+        return Step::Refused(Refusal::PairMissing(at));
     };
     let id = AvId {
         id: u16_at(list, at),

@@ -6,11 +6,10 @@ use Rattle.wire.specs.declared.check.Verdict.{Verdict}
 use Rattle.wire.specs.declared.check.Verdict.the-variants.{Clear, Refused as Not}
 use Rattle.wire.specs.declared.refusal.Refusal.{Refusal}
 use Rattle.wire.specs.Check.{onClear}
-use Rattle.av_pairs.specs.AvPairs.{checkPairs}
 use Rattle.challenge.specs.declared.Challenge.{Challenge}
 use Rattle.challenge.specs.declared.Reading.{Reading}
 use Rattle.challenge.specs.declared.Reading.the-variants.{Taken, Refused}
-use Rattle.challenge.specs.Challenge.{fieldsOf, infoOf, readingOf, readChallenge}
+use Rattle.challenge.specs.Challenge.{fieldsOf, checkInfo, readingOf, readChallenge}
 use Rattle.line_refused.specs.Refused.{refusedLine}
 use Rattle.line_chal.specs.Chal.{chalText}
 use Rattle.line.specs.Line.{chalLine, challengeLine}
@@ -26,7 +25,7 @@ module _ (s : List ℕ) (r : Reading) (p : r ≡ fieldsOf s) where
   -- the list decides whether the message is taken
   pub chal-taken : (c : Challenge) → r ≡ Taken c → chalText s c ≡ challengeLine s
   unfolding challengeLine readChallenge readingOf chalText
-  chal-taken c h = go (checkPairs (infoOf s c)) refl ∙ simp (← p, h) where
-    go : (v : Verdict) → checkPairs (infoOf s c) ≡ v → chalText s c ≡ chalLine s (onClear Refused (checkPairs (infoOf s c)) (Taken c))
+  chal-taken c h = go (checkInfo s c) refl ∙ simp (← p, h) where
+    go : (v : Verdict) → checkInfo s c ≡ v → chalText s c ≡ chalLine s (onClear Refused (checkInfo s c) (Taken c))
     go Clear e = simp e
     go (Not d) e = simp e

@@ -1,3 +1,4 @@
 pub mod Lines
 pub mod Challenges
 pub mod Programs
+pub mod Places

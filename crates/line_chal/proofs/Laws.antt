@@ -1,5 +1,5 @@
 -- Laws of the timestamp's word, of the line's length, and of the list that decides on the line.
-use Prim.Native.Nat.{ℕ, _+_, _-_, _≤_, _<_}
+use Prim.Native.Nat.{ℕ, _+_, _-_, _^_, _≤_, _<_}
 use mathlib.Core.Path.{_≡_, sym}
 use mathlib.Core.Bool.{Bool}
 use mathlib.Core.List.{List}
@@ -10,13 +10,17 @@ use Rattle.field.specs.Field.{fieldBytes}
 use Rattle.place.specs.Place.{Wrote}
 use Rattle.place.proofs.Laws.{nothing}
 use Rattle.wire.specs.declared.refusal.Refusal.{Refusal}
+use Rattle.wire.specs.Refusal.{placeOf, movedBy}
+use Rattle.wire.proofs.Places.{moved-place}
 use Rattle.negotiate_flags.specs.Flags.{unicode}
 use Rattle.av_pairs.specs.declared.Count.{Count}
 use Rattle.av_pairs.specs.declared.Count.the-variants.{Pairs, Refused as Uncounted}
 use Rattle.av_pairs.specs.AvPairs.{countPairs}
 use Rattle.av_pairs.proofs.Walks.{few-pairs, all-held, one-failed, count-is}
 use Rattle.challenge.specs.declared.Challenge.{Challenge}
-use Rattle.challenge.specs.Challenge.{infoOf}
+use Rattle.challenge.specs.declared.Reading.the-variants.{Taken}
+use Rattle.challenge.specs.Challenge.{fieldsOf, infoOf, checkInfo}
+use Rattle.challenge.proofs.Laws.{inside-message, fields-short}
 use Rattle.target_info.specs.declared.Timestamp.{Timestamp}
 use Rattle.target_info.specs.declared.Timestamp.the-variants.{Time, Nothing as NoTime}
 use Rattle.target_info.specs.TargetInfo.{timestampIn}
@@ -80,12 +84,22 @@ module _ (unicode : Bool) (s : List ℕ) (c : Challenge) (pairs : ℕ) (time : T
 module _ (s : List ℕ) (c : Challenge) (l : List ℕ) (i : l ≡ infoOf s c) (r : Count) (e : r ≡ countPairs l) where
   pub list-told : (n : ℕ) (b : Bool) (t : Timestamp) → r ≡ Pairs n → b ≡ unicode (c .flags) → t ≡ timestampIn l →
       chalWords b s c n t ≡ chalText s c
-  unfolding chalText
+  unfolding chalText checkInfo
   list-told n b t h p q = simp (← i, all-held l r e n h, p, q, count-is l r e n h)
 
   pub count-fits : (n : ℕ) → r ≡ Pairs n → c .fields .«target_info» .len < 65536 → n < 4294967296
   count-fits n h f = omega (arith, count-is l r e n h, few-pairs l, field-small s l (c .fields .«target_info») i)
 
-  pub list-refused : (d : Refusal) → r ≡ Uncounted d → refusedLine d ≡ chalText s c
-  unfolding chalText
-  list-refused d h = simp (← i, one-failed l r e d h)
+  module _ (d : Refusal) (h : r ≡ Uncounted d) where
+    inside : c .fields .«target_info» .offset + placeOf d ≤ length s
+    inside = inside-message s l (c .fields .«target_info») d i (one-failed l r e d h)
+
+    pub place-fits : length s < 2 ^ 64 → c .fields .«target_info» .offset + placeOf d < 2 ^ 64
+    place-fits n = omega (arith, inside)
+
+    pub place-short : (m : Refusal) → fieldsOf s ≡ Taken c → m ≡ movedBy (c .fields .«target_info» .offset) d → placeOf m < 2 ^ 32
+    place-short m t p = rw p (omega (arith, inside, moved-place (c .fields .«target_info» .offset) d, fields-short s c t))
+
+    pub list-refused : (m : Refusal) → m ≡ movedBy (c .fields .«target_info» .offset) d → refusedLine m ≡ chalText s c
+    unfolding chalText checkInfo
+    list-refused m p = simp (← i, one-failed l r e d h, p)

@@ -7,9 +7,9 @@ use Rattle.text.specs.Text.{ascii}
 use Rattle.field.specs.Field.{fieldBytes}
 use Rattle.wire.specs.Check.{onClear}
 use Rattle.negotiate_flags.specs.Flags.{unicode}
-use Rattle.av_pairs.specs.AvPairs.{pairsOf, checkPairs}
+use Rattle.av_pairs.specs.AvPairs.{pairsOf}
 use Rattle.challenge.specs.declared.Challenge.{Challenge}
-use Rattle.challenge.specs.Challenge.{infoOf}
+use Rattle.challenge.specs.Challenge.{infoOf, checkInfo}
 use Rattle.target_info.specs.declared.Timestamp.{Timestamp}
 use Rattle.target_info.specs.declared.Timestamp.the-variants.{Time, Nothing}
 use Rattle.target_info.specs.TargetInfo.{timestampIn}
@@ -39,5 +39,5 @@ chalWords unicode s c pairs time =
 -- the line of c, read from s: the words with the count and the timestamp of its list, or the line of the list's refusal
 unfoldable pub chalText : List ℕ → Challenge → List ℕ
 chalText s c =
-    onClear refusedLine (checkPairs (infoOf s c))
+    onClear refusedLine (checkInfo s c)
     (chalWords (unicode (c .flags)) s c (length (pairsOf (infoOf s c))) (timestampIn (infoOf s c)))

@@ -113,7 +113,8 @@ fn write_words(
     Written::Length(p.at)
 }
 
-// The line of `c`, which was read from the message: checks 10 to 13 on its list, and then the words or the line of the refusal.
+// The line of `c`, which was read from the message: checks 10 to 13 on its list, and then the words or the line of the refusal,
+// with the message's place.
 // A list has at most 65,535 bytes, and no more pairs.
 pub fn write(out: &mut [u8], msg: &[u8], c: Challenge) -> Written
     requires { ⌜ fieldsOf (now msg) ≡ Taken c ⌝ }
@@ -130,6 +131,9 @@ pub fn write(out: &mut [u8], msg: &[u8], c: Challenge) -> Written
             n as u32,
             timestamp_in(list),
         ),
-        Count::Refused(e) => line_refused::write(out, e),
+        Count::Refused(e) => line_refused::write(
+            out,
+            e.moved_by(c.fields.target_info.offset as usize),
+        ),
     }
 }

@@ -1,16 +1,19 @@
--- The line of a refusal: refused D field=D
+-- The line of a refusal: refused D field=D at=D
 use Prim.Native.Nat.{ℕ}
 use mathlib.Core.List.{List, _++_}
 use Rattle.text.specs.Text.{ascii}
 use Rattle.wire.specs.declared.refusal.Refusal.{Refusal}
-use Rattle.wire.specs.Refusal.{numberOf, fieldOf}
+use Rattle.wire.specs.Refusal.{numberOf, fieldOf, placeOf}
 use Rattle.word.specs.Words.{numberWord, lineEnd}
 
-unfoldable pub refusedText : ℕ → ℕ → List ℕ
-refusedText number field =
+unfoldable pub refusedEnd : ℕ → List ℕ
+refusedEnd place = numberWord (ascii " at=") place ++ lineEnd
+
+unfoldable pub refusedText : ℕ → ℕ → ℕ → List ℕ
+refusedText number field place =
     numberWord (ascii "refused ") number ++ (
     numberWord (ascii " field=") field ++
-    lineEnd)
+    refusedEnd place)
 
 unfoldable pub refusedLine : Refusal → List ℕ
-refusedLine e = refusedText (numberOf e) (fieldOf e)
+refusedLine e = refusedText (numberOf e) (fieldOf e) (placeOf e)

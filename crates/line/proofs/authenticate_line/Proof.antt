@@ -2,6 +2,7 @@
 use borrow.Author.Needs.{needs}
 use Rattle.word.proofs.Calls.{same-line}
 use Rattle.line.proofs.Lines.{auth-read, auth-taken, auth-refused}
+use Rattle.line.proofs.Places.{auth-short}
 use Rattle.line.proofs.authenticate_line.Statement.{statement}
 use Rattle.line.proofs.authenticate_line.Tie as tie
 
@@ -10,5 +11,5 @@ authenticate-line-spec =
     tie.close
     (tie.spec
     (λ c κs. search needs) (λ c. search needs) (λ c κs. search auth-read) (λ c. search needs)
-    (λ c κs. search needs) (λ c. search needs) (λ c. (search (same-line, auth-taken), search (same-line, auth-taken)))
+    (λ c κs. search auth-short) (λ c. search needs) (λ c. (search (same-line, auth-taken), search (same-line, auth-taken)))
     (λ c. search needs) (λ c. (search (same-line, auth-refused), search (same-line, auth-refused))))

@@ -1,0 +1,63 @@
+-- What an NL_AUTH message is refused for has no place.
+use Prim.Native.Nat.{ℕ}
+use mathlib.Core.Path.{_≡_, refl}
+use mathlib.Core.Bool.{Bool, true, false, cond}
+use mathlib.Core.List.{List}
+use Rattle.wire.specs.declared.refusal.Refusal.{Refusal}
+use Rattle.wire.specs.Refusal.{placeOf}
+use Rattle.wire.proofs.Places.{of-after}
+use Rattle.field.specs.declared.Field.{Field}
+use Rattle.head.specs.Head.{lengthHolds, fixedPartHolds}
+use Rattle.nl_auth_flags.specs.declared.NlAuthFlags.{NlAuthFlags}
+use Rattle.nl_auth_flags.specs.Flags.{nbDomain, nbComputer, dnsDomain, dnsHost, utf8Computer, stringsHold}
+use Rattle.nl_auth.specs.declared.string.Scan.{Scan}
+use Rattle.nl_auth.specs.declared.string.Scan.the-variants.{Found, Missing}
+use Rattle.nl_auth.specs.declared.Reading.{Reading}
+use Rattle.nl_auth.specs.declared.Reading.the-variants.{Taken, Refused}
+use Rattle.nl_auth.specs.NlAuth.{stringUnder, onFound, messageType, flagsAt, isRequest, typeHolds, endHolds, responseHolds, readUtf8, readRequest, readResponse, readNlAuth}
+
+abbrev Placeless : Reading → Type 0
+Placeless (Taken m) = Unit
+Placeless (Refused e) = placeOf e ≡ 0
+
+of-found : (k : Scan) (e : Reading) (x : Field → ℕ → Reading) → Placeless e → ((f : Field) (n : ℕ) → Placeless (x f n)) → Placeless (onFound k e x)
+of-found (Found f n) e x p q = q f n
+of-found Missing e x p q = p
+
+of-either : (b : Bool) (x y : Reading) → Placeless x → Placeless y → Placeless (cond b x y)
+of-either true x y p q = p
+of-either false x y p q = q
+
+utf8 : (w : NlAuthFlags) (s : List ℕ) (a b : Field) (n : ℕ) → Placeless (readUtf8 w s a b n)
+unfolding readUtf8
+utf8 w s a b n =
+    of-found (stringUnder (dnsDomain w) s n) _ _ refl (λ c c′.
+    of-found (stringUnder (dnsHost w) s c′) _ _ refl (λ d d′.
+    of-found (stringUnder (utf8Computer w) s d′) _ _ refl (λ e e′.
+    of-after Placeless (endHolds e′ s) _ _ refl tt)))
+
+request : (w : NlAuthFlags) (s : List ℕ) → Placeless (readRequest w s)
+unfolding readRequest
+request w s =
+    of-after Placeless (stringsHold w) _ _ refl (
+    of-found (stringUnder (nbDomain w) s 8) _ _ refl (λ a a′.
+    of-found (stringUnder (nbComputer w) s a′) _ _ refl (λ b b′.
+    utf8 w s a b b′)))
+
+response : (s : List ℕ) → Placeless (readResponse s)
+unfolding readResponse
+response s = of-after Placeless (responseHolds s) _ _ refl tt
+
+placeless : (s : List ℕ) → Placeless (readNlAuth s)
+unfolding readNlAuth
+placeless s =
+    of-after Placeless (lengthHolds s) _ _ refl (
+    of-after Placeless (fixedPartHolds 8 s) _ _ refl (
+    of-after Placeless (typeHolds (messageType s)) _ _ refl
+    (of-either (isRequest (messageType s)) _ _ (request (flagsAt s) s) (response s))))
+
+pub nl-auth-placeless : (s : List ℕ) (r : Reading) (e : Refusal) → r ≡ readNlAuth s → r ≡ Refused e → placeOf e ≡ 0
+nl-auth-placeless s r e p h = go r h (rw p (placeless s)) where
+  go : (r : Reading) → r ≡ Refused e → Placeless r → placeOf e ≡ 0
+  go (Taken m) q z = cc
+  go (Refused d) q z = let same : d ≡ e = cc in rw same at z

@@ -1,0 +1,113 @@
+-- Laws of a refusal's place: where it is moved, and where there is none.
+use Prim.Native.Nat.{ℕ, _+_, _^_, _≤_, _<_}
+use mathlib.Core.Path.{_≡_, refl}
+use mathlib.Core.List.{List, [], _∷_}
+use native.Mathlib.Omega.{arith}
+use mir.Syntax.{w64}
+use mir.Val.{Fits}
+use types.Run.{OneOf, miss}
+use denote.Enum.Declared.{tagOf}
+use Rattle.wire.specs.declared.refusal.Refusal.{Refusal}
+use Rattle.wire.specs.declared.refusal.Refusal.the-variants.{TooLong, TooShort, WrongSignature, WrongType, NoCharset, PastEnd, InFixedPart, OddName, NameOverSecret, PairPastEnd, PairMissing, WrongEndPair, WrongPairSize, NoStrings, Unterminated, BytesLeft, WrongResponse, No128Bit, NoServerNames, TooLongToWrite, OddNameToWrite, WrongKey, NoRoom, ZeroInString}
+use Rattle.wire.specs.declared.check.Checked.{Checked}
+use Rattle.wire.specs.declared.check.Checked.the-variants.{Held, Failed}
+use Rattle.wire.specs.declared.check.Verdict.{Verdict}
+use Rattle.wire.specs.declared.check.Verdict.the-variants.{Clear, Refused}
+use Rattle.wire.specs.Check.{after, overAll, onClear}
+use Rattle.wire.specs.Refusal.{placeOf, movedBy}
+use Rattle.wire.proofs.refusal.Refusal.{the-type}
+
+-- the new place fits
+module _ (e : Refusal) (n at : ℕ) (h : n + placeOf e < 2 ^ 64) where
+  pub fits-10 : e ≡ PairPastEnd at → Fits w64 (n + at)
+  fits-10 p = record { fits = rw p at h }
+
+  pub fits-11 : e ≡ PairMissing at → Fits w64 (n + at)
+  fits-11 p = record { fits = rw p at h }
+
+  pub fits-12 : e ≡ WrongEndPair at → Fits w64 (n + at)
+  fits-12 p = record { fits = rw p at h }
+
+  pub fits-13 : e ≡ WrongPairSize at → Fits w64 (n + at)
+  fits-13 p = record { fits = rw p at h }
+
+pub ruleset moving = (fits-10, fits-11, fits-12, fits-13)
+
+-- what has no place stays as it is
+abbrev placeless : List ℕ
+placeless = 0 ∷ 1 ∷ 2 ∷ 3 ∷ 4 ∷ 5 ∷ 6 ∷ 7 ∷ 8 ∷ 13 ∷ 14 ∷ 15 ∷ 16 ∷ 17 ∷ 18 ∷ 19 ∷ 20 ∷ 21 ∷ 22 ∷ 23 ∷ []
+
+pub stays : (e : Refusal) (n : ℕ) → OneOf placeless (tagOf the-type e) → e ≡ movedBy n e
+stays TooLong n m = refl
+stays TooShort n m = refl
+stays WrongSignature n m = refl
+stays WrongType n m = refl
+stays NoCharset n m = refl
+stays (PastEnd f) n m = refl
+stays (InFixedPart f) n m = refl
+stays (OddName f) n m = refl
+stays (NameOverSecret f) n m = refl
+stays (PairPastEnd at) n m = absurd (miss placeless 9 tt m)
+stays (PairMissing at) n m = absurd (miss placeless 10 tt m)
+stays (WrongEndPair at) n m = absurd (miss placeless 11 tt m)
+stays (WrongPairSize at) n m = absurd (miss placeless 12 tt m)
+stays NoStrings n m = refl
+stays (Unterminated f) n m = refl
+stays BytesLeft n m = refl
+stays WrongResponse n m = refl
+stays No128Bit n m = refl
+stays NoServerNames n m = refl
+stays TooLongToWrite n m = refl
+stays (OddNameToWrite f) n m = refl
+stays WrongKey n m = refl
+stays NoRoom n m = refl
+stays (ZeroInString f) n m = refl
+
+-- a place moves by no more
+pub moved-place : (n : ℕ) (e : Refusal) → placeOf (movedBy n e) ≤ n + placeOf e
+moved-place n TooLong = omega arith
+moved-place n TooShort = omega arith
+moved-place n WrongSignature = omega arith
+moved-place n WrongType = omega arith
+moved-place n NoCharset = omega arith
+moved-place n (PastEnd f) = omega arith
+moved-place n (InFixedPart f) = omega arith
+moved-place n (OddName f) = omega arith
+moved-place n (NameOverSecret f) = omega arith
+moved-place n (PairPastEnd at) = omega arith
+moved-place n (PairMissing at) = omega arith
+moved-place n (WrongEndPair at) = omega arith
+moved-place n (WrongPairSize at) = omega arith
+moved-place n NoStrings = omega arith
+moved-place n (Unterminated f) = omega arith
+moved-place n BytesLeft = omega arith
+moved-place n WrongResponse = omega arith
+moved-place n No128Bit = omega arith
+moved-place n NoServerNames = omega arith
+moved-place n TooLongToWrite = omega arith
+moved-place n (OddNameToWrite f) = omega arith
+moved-place n WrongKey = omega arith
+moved-place n NoRoom = omega arith
+moved-place n (ZeroInString f) = omega arith
+
+-- ---- refusals without a place
+
+abbrev pub Placeless : Verdict → Type 0
+Placeless Clear = Unit
+Placeless (Refused e) = placeOf e ≡ 0
+
+-- what holds of a refusal and of what follows holds of both together
+pub of-after : {A : Type 0} (P : A → Type 0) (c : Checked) (e x : A) → P e → P x → P (after c e x)
+of-after P Held e x p q = q
+of-after P Failed e x p q = p
+
+pub of-group : {A : Type 0} (P : A → Type 0) (f : Refusal → A) (v : Verdict) (x : A) → Placeless v → ((e : Refusal) → placeOf e ≡ 0 → P (f e)) → P x →
+    P (onClear f v x)
+of-group P f Clear x h p q = q
+of-group P f (Refused e) x h p q = p e h
+
+-- one check over all fields, whose refusal has none at any of them
+pub of-all : {A : Type 0} (ok : A → Checked) (refusal : ℕ → Refusal) (fs : List (ℕ × A)) → ((i : ℕ) → placeOf (refusal i) ≡ 0) →
+    Placeless (overAll ok refusal fs)
+of-all ok refusal [] h = tt
+of-all ok refusal (f ∷ fs) h = of-after Placeless (ok (f .1)) (Refused (refusal (f .0))) (overAll ok refusal fs) (h (f .0)) (of-all ok refusal fs h)
