@@ -1,0 +1,31 @@
+-- Request 6/12: "work out each digit of a log line from its number .. for each of 0 to 15 the digit is proved to be the
+-- definition's". `hex_digit` (`crates/word`) makes every digit of a line, and its contract gives hexDigit n for each n below 16. Here
+-- stands which sixteen digits these are, how each comes from its number, and that each digit of H, T, D and an escape is such a one.
+use Prim.Native.Nat.{ℕ, _+_, _-_, _/_, _%_, _^_, _≤_, _<_}
+use Prim.Native.String.{String}
+use mathlib.Core.Path.{_≡_}
+use mathlib.Core.List.{[], _∷_}
+use lib.ListN.{length, getD}
+use Rattle.text.specs.Text.{ascii}
+use Rattle.word.specs.Digits.{hexDigit, hex, decimal}
+
+-- the digit of n is this character
+abbrev Shows : ℕ → String → Type 0
+Shows n text = hexDigit n ∷ [] ≡ ascii text
+
+abbrev pub SixteenDigits : Type 0
+SixteenDigits =
+    Shows 0 "0" × Shows 1 "1" × Shows 2 "2" × Shows 3 "3" × Shows 4 "4" × Shows 5 "5" × Shows 6 "6" × Shows 7 "7" ×
+    Shows 8 "8" × Shows 9 "9" × Shows 10 "A" × Shows 11 "B" × Shows 12 "C" × Shows 13 "D" × Shows 14 "E" × Shows 15 "F"
+
+-- a digit from its number: '0' is 48, and 'A' is 65
+abbrev pub DigitFromNumber : Type 0
+DigitFromNumber = (n : ℕ) → (n < 10 → hexDigit n ≡ 48 + n) × (10 ≤ n → n < 16 → hexDigit n ≡ 65 + (n - 10))
+
+-- of k hex digits the one at i, from the left, has k - 1 - i to its right
+abbrev pub HexDigitByDigit : Type 0
+HexDigitByDigit = (k n i : ℕ) → i < k → getD (hex k n) i 0 ≡ hexDigit (n / 16 ^ (k - 1 - i) % 16)
+
+abbrev pub DecimalDigitByDigit : Type 0
+DecimalDigitByDigit =
+    (n i : ℕ) → i < length (decimal n) → getD (decimal n) i 0 ≡ hexDigit (n / 10 ^ (length (decimal n) - 1 - i) % 10)
