@@ -18,8 +18,8 @@ impl SettingsBits {
 
     pub const CONFIDENTIALITY: u32 = 0x8;
 
-    // Of the defaults only NTLMv2 is yes.
-    pub const DEFAULTS: u32 = SettingsBits::NTLMV2;
+    // Of the defaults 128-bit and NTLMv2 are yes.
+    pub const DEFAULTS: u32 = SettingsBits::DEMAND_128 + SettingsBits::NTLMV2;
 
     pub fn demand_128(self) -> bool
         ensures { λ r. ⌜ r ≡ demand128 self ⌝ }
