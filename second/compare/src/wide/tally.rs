@@ -221,7 +221,7 @@ impl Row {
     }
 }
 
-const COLUMNS: Columns = Columns { name: 24, count: 9 };
+const COLUMNS: Columns = Columns { name: 28, count: 9 };
 
 /// A row for each call, then one for each refusal.
 impl fmt::Display for Tally {
