@@ -325,7 +325,7 @@ uint64_t dialtable_write_response_pairs(uint8_t *out, dialtable_len out_len, con
 #define DIALTABLE_NTLMV2 2u          /* a timestamp in the challenge is the Time, and the LM response then zeros */
 #define DIALTABLE_INTEGRITY 4u       /* with NTLMV2: refuse (21) a challenge that has not both pairs 1 and 2 */
 #define DIALTABLE_CONFIDENTIALITY 8u /* the same */
-#define DIALTABLE_DEFAULTS DIALTABLE_NTLMV2
+#define DIALTABLE_DEFAULTS (DIALTABLE_DEMAND_128 | DIALTABLE_NTLMV2)
 
 enum {
     DIALTABLE_DECISION_FLAGS,
@@ -357,14 +357,16 @@ uint64_t dialtable_respond(uint8_t *out, dialtable_len out_len, const uint8_t *c
                            const uint8_t *domain, dialtable_len domain_len, const uint8_t *user, dialtable_len user_len,
                            const uint8_t *workstation, dialtable_len workstation_len, const uint8_t *key,
                            dialtable_len key_len, uint64_t *numbers, dialtable_len numbers_len);
-/* The same with the default settings: for the bench, for old servers, for the relay. */
+/* The same with the default settings, but for 128-bit: for the bench, which demands it where demand_128 is not 0; for
+ * old servers, of which it is not demanded; for the relay, by the defaults. */
 uint64_t dialtable_respond_for_bench(uint8_t *out, dialtable_len out_len, const uint8_t *challenge,
-                                     dialtable_len challenge_len, uint64_t clock, const uint8_t version[8],
-                                     const uint8_t mic[16], const uint8_t *lm, dialtable_len lm_len, const uint8_t *nt,
-                                     dialtable_len nt_len, const uint8_t *domain, dialtable_len domain_len,
-                                     const uint8_t *user, dialtable_len user_len, const uint8_t *workstation,
-                                     dialtable_len workstation_len, const uint8_t *key, dialtable_len key_len,
-                                     uint64_t *numbers, dialtable_len numbers_len);
+                                     dialtable_len challenge_len, uint64_t clock, uint32_t demand_128,
+                                     const uint8_t version[8], const uint8_t mic[16], const uint8_t *lm,
+                                     dialtable_len lm_len, const uint8_t *nt, dialtable_len nt_len,
+                                     const uint8_t *domain, dialtable_len domain_len, const uint8_t *user,
+                                     dialtable_len user_len, const uint8_t *workstation, dialtable_len workstation_len,
+                                     const uint8_t *key, dialtable_len key_len, uint64_t *numbers,
+                                     dialtable_len numbers_len);
 uint64_t dialtable_respond_to_old_server(uint8_t *out, dialtable_len out_len, const uint8_t *challenge,
                                          dialtable_len challenge_len, uint64_t clock, const uint8_t version[8],
                                          const uint8_t mic[16], const uint8_t *lm, dialtable_len lm_len,

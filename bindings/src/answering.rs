@@ -18,7 +18,7 @@ pub struct Settings {
 impl Default for Settings {
     fn default() -> Self {
         Self {
-            demand_128: false,
+            demand_128: true,
             ntlmv2: true,
             integrity: false,
             confidentiality: false,
@@ -142,10 +142,24 @@ macro_rules! thin_calls {
     )*};
 }
 
+/// Answers with the default settings, for the bench, which says whether 128-bit
+/// is demanded.
+pub fn respond_for_bench<'a>(
+    out: &'a mut [u8],
+    challenge: &[u8],
+    clock: u64,
+    demand_128: bool,
+    parts: &Parts<'_>,
+) -> Result<Answer<'a>, Refusal> {
+    let mut numbers = [0; raw::RESPONSE_NUMBERS];
+    let demand_128 = u32::from(demand_128);
+    let answer = raw::respond_for_bench(out, challenge, clock, demand_128, parts, &mut numbers);
+    Answer::of(answer, numbers, out)
+}
+
 thin_calls! {
-    /// Answers with the default settings, for the bench.
-    respond_for_bench;
-    /// Answers with the default settings, for old servers.
+    /// Answers with the default settings, but without the demand for 128-bit,
+    /// for old servers.
     respond_to_old_server;
     /// Answers with the default settings, for the relay.
     respond_for_relay;

@@ -118,7 +118,7 @@ mod c {
                                  key: *const u8, key_len: usize, numbers: *mut u64, numbers_len: usize) -> u64;
     }
 
-    /// What the three thin calls have in common.
+    /// What the thin calls for old servers and for the relay have in common.
     pub type ThinRespond = unsafe extern "C" fn(
         out: *mut u8, out_len: usize, challenge: *const u8, challenge_len: usize, clock: u64, version: *const u8,
         mic: *const u8, lm: *const u8, lm_len: usize, nt: *const u8, nt_len: usize, domain: *const u8,
@@ -127,11 +127,12 @@ mod c {
 
     extern "C" {
         pub fn dialtable_respond_for_bench(out: *mut u8, out_len: usize, challenge: *const u8, challenge_len: usize,
-                                           clock: u64, version: *const u8, mic: *const u8, lm: *const u8,
-                                           lm_len: usize, nt: *const u8, nt_len: usize, domain: *const u8,
-                                           domain_len: usize, user: *const u8, user_len: usize,
-                                           workstation: *const u8, workstation_len: usize, key: *const u8,
-                                           key_len: usize, numbers: *mut u64, numbers_len: usize) -> u64;
+                                           clock: u64, demand_128: u32, version: *const u8, mic: *const u8,
+                                           lm: *const u8, lm_len: usize, nt: *const u8, nt_len: usize,
+                                           domain: *const u8, domain_len: usize, user: *const u8,
+                                           user_len: usize, workstation: *const u8, workstation_len: usize,
+                                           key: *const u8, key_len: usize, numbers: *mut u64,
+                                           numbers_len: usize) -> u64;
         pub fn dialtable_respond_to_old_server(out: *mut u8, out_len: usize, challenge: *const u8,
                                                challenge_len: usize, clock: u64, version: *const u8, mic: *const u8,
                                                lm: *const u8, lm_len: usize, nt: *const u8, nt_len: usize,
@@ -432,19 +433,46 @@ pub fn respond(
     }
 }
 
-/// [`respond`] with the default settings, for the bench.
+/// [`respond`] with the default settings, for the bench; but 128-bit is demanded
+/// only where `demand_128` is not 0.
 pub fn respond_for_bench(
     out: &mut [u8],
     challenge: &[u8],
     clock: u64,
+    demand_128: u32,
     parts: &Parts<'_>,
     numbers: &mut [u64],
 ) -> u64 {
-    let call = c::dialtable_respond_for_bench;
-    thin_respond(call, out, challenge, clock, parts, numbers)
+    unsafe {
+        c::dialtable_respond_for_bench(
+            out.as_mut_ptr(),
+            out.len(),
+            challenge.as_ptr(),
+            challenge.len(),
+            clock,
+            demand_128,
+            parts.version.as_ptr(),
+            parts.mic.as_ptr(),
+            parts.lm.as_ptr(),
+            parts.lm.len(),
+            parts.nt.as_ptr(),
+            parts.nt.len(),
+            parts.domain.as_ptr(),
+            parts.domain.len(),
+            parts.user.as_ptr(),
+            parts.user.len(),
+            parts.workstation.as_ptr(),
+            parts.workstation.len(),
+            parts.key.as_ptr(),
+            parts.key.len(),
+            numbers.as_mut_ptr(),
+            numbers.len(),
+        )
+    }
 }
 
-/// [`respond`] with the default settings, for old servers.
+/// [`respond`] with the default settings, for old servers; but 128-bit is not
+/// demanded.
 pub fn respond_to_old_server(
     out: &mut [u8],
     challenge: &[u8],

@@ -477,12 +477,12 @@ fn decisions() {
     assert_eq!(decide(settings, &challenge()), Ok(decision));
     let mut weak = challenge();
     weak[23] &= !0x20;
-    let strong = Settings {
-        demand_128: true,
+    let old = Settings {
+        demand_128: false,
         ..settings
     };
-    assert_eq!(refusal(decide(strong, &weak)), (20, 0));
-    assert!(decide(settings, &weak).is_ok());
+    assert_eq!(refusal(decide(settings, &weak)), (20, 0));
+    assert!(decide(old, &weak).is_ok());
     // TargetInfo no longer counts: no names.
     let mut bare = challenge();
     bare[22] &= !0x80;
@@ -631,16 +631,49 @@ fn a_challenge_is_answered() {
 }
 
 #[test]
-fn the_thin_calls_use_the_defaults() {
+fn the_thin_calls_answer_as_the_full_one() {
     let message = challenge();
     let mut room = [0; 300];
     let full = respond(&mut room, &message, Settings::default(), CLOCK, &parts());
-    for call in [respond_for_bench, respond_to_old_server, respond_for_relay] {
+    for call in [respond_to_old_server, respond_for_relay] {
         let mut other = [0; 300];
         assert_eq!(call(&mut other, &message, CLOCK, &parts()), full);
         assert_eq!(refusal(call(&mut other, &[], CLOCK, &parts())), (2, 0));
         assert_eq!(refusal(call(&mut [], &message, CLOCK, &parts())), (33, 0));
     }
+    for demand in [false, true] {
+        let mut other = [0; 300];
+        let bench = respond_for_bench(&mut other, &message, CLOCK, demand, &parts());
+        assert_eq!(bench, full);
+        let bench = respond_for_bench(&mut other, &[], CLOCK, demand, &parts());
+        assert_eq!(refusal(bench), (2, 0));
+        let bench = respond_for_bench(&mut [], &message, CLOCK, demand, &parts());
+        assert_eq!(refusal(bench), (33, 0));
+    }
+}
+
+#[test]
+fn the_thin_calls_demand_128_bit_each_in_its_way() {
+    let mut weak = challenge();
+    weak[23] &= !0x20;
+    let old = Settings {
+        demand_128: false,
+        ..Settings::default()
+    };
+    let mut room = [0; 300];
+    let full = respond(&mut room, &weak, old, CLOCK, &parts());
+    assert!(full.is_ok());
+    let mut out = [0; 300];
+    let bench = respond_for_bench(&mut out, &weak, CLOCK, false, &parts());
+    assert_eq!(bench, full);
+    let old_server = respond_to_old_server(&mut out, &weak, CLOCK, &parts());
+    assert_eq!(old_server, full);
+    let mut out = [0xEE; 300];
+    let bench = respond_for_bench(&mut out, &weak, CLOCK, true, &parts());
+    assert_eq!(refusal(bench), (20, 0));
+    let relay = respond_for_relay(&mut out, &weak, CLOCK, &parts());
+    assert_eq!(refusal(relay), (20, 0));
+    assert_eq!(out, [0xEE; 300]);
 }
 
 /// No bytes make a call panic.
@@ -691,7 +724,7 @@ fn any_bytes_are_answered() {
         assert!(find_pair(message, 7).is_err() || check_pairs(message).is_ok());
         assert!(ntlm_line(message, &mut room).is_ok());
         assert!(nl_auth_program_line(message, &mut room).is_ok());
-        let _ = respond_for_bench(&mut room, message, CLOCK, &parts());
+        let _ = respond_for_bench(&mut room, message, CLOCK, true, &parts());
         let _ = write_response_pairs(&mut room, message, b"n\0", true, &[1; 16]);
     }
 }

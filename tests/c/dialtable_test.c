@@ -625,6 +625,8 @@ static void decides(const message_t *challenge, const message_t *no_timestamp)
 
     other.bytes[23] &= 0xDF; /* the 128-bit flag */
     CHECK(refused(dialtable_decide(DIALTABLE_DEMAND_128, other.bytes, other.len, numbers, 3), 20, 0));
+    CHECK(refused(dialtable_decide(DIALTABLE_DEFAULTS, other.bytes, other.len, numbers, 3), 20, 0));
+    EQUAL(dialtable_decide(DIALTABLE_DEFAULTS & ~DIALTABLE_DEMAND_128, other.bytes, other.len, numbers, 3), 0);
     EQUAL(dialtable_decide(0, other.bytes, other.len, numbers, 3), 0);
     other.bytes[22] &= 0x7F; /* TARGET_INFO */
     CHECK(refused(dialtable_decide(DIALTABLE_NTLMV2 | DIALTABLE_INTEGRITY, other.bytes, other.len, numbers, 3), 21,
@@ -647,11 +649,57 @@ static void finds_domain(const message_t *challenge)
     EQUAL(dialtable_domain_to_send(NULL, 0, NULL, 0, NULL, 0), 0);
 }
 
+enum thin { BENCH_NO, BENCH_YES, OLD_SERVER, RELAY };
+
+static uint64_t respond_thinly(enum thin how, uint8_t *out, dialtable_len out_len, const message_t *challenge,
+                               uint64_t *numbers)
+{
+#define PARTS version, mic, lm, 2, nt, sizeof nt, NULL, 0, box7, sizeof box7, work, sizeof work, key, sizeof key, \
+              numbers, DIALTABLE_RESPONSE_NUMBERS
+    switch (how) {
+    case BENCH_NO: return dialtable_respond_for_bench(out, out_len, challenge->bytes, challenge->len, CLOCK, 0, PARTS);
+    case BENCH_YES:
+        return dialtable_respond_for_bench(out, out_len, challenge->bytes, challenge->len, CLOCK, 0x80000000u, PARTS);
+    case OLD_SERVER:
+        return dialtable_respond_to_old_server(out, out_len, challenge->bytes, challenge->len, CLOCK, PARTS);
+    default: return dialtable_respond_for_relay(out, out_len, challenge->bytes, challenge->len, CLOCK, PARTS);
+    }
+}
+
+/* The thin calls write what the full one wrote, of that length. Where 128-bit is not in the flags, the relay's refuses,
+ * and the bench's where it is demanded. */
+static void answers_thinly(const message_t *challenge, const uint8_t *full, size_t len)
+{
+    static const enum thin calls[] = {BENCH_NO, BENCH_YES, OLD_SERVER, RELAY};
+    uint64_t numbers[DIALTABLE_RESPONSE_NUMBERS];
+    uint8_t out[256];
+    message_t weak = *challenge;
+    size_t i;
+
+    weak.bytes[23] &= 0xDF; /* the 128-bit flag */
+    for (i = 0; i < sizeof calls / sizeof *calls; i++) {
+        memset(out, FILL, sizeof out);
+        memset(numbers, 0, sizeof numbers);
+        EQUAL(respond_thinly(calls[i], out, sizeof out, challenge, numbers), len);
+        CHECK(memcmp(out, full, len) == 0 && untouched(out + len, sizeof out - len));
+        EQUAL(numbers[DIALTABLE_RESPONSE_TIME], CHALLENGE_TIME);
+        EQUAL(numbers[DIALTABLE_RESPONSE_MIC_DUE], 1);
+
+        memset(out, FILL, sizeof out);
+        if (calls[i] == BENCH_NO || calls[i] == OLD_SERVER) {
+            EQUAL(respond_thinly(calls[i], out, sizeof out, &weak, numbers), len);
+        } else {
+            CHECK(refused(respond_thinly(calls[i], out, sizeof out, &weak, numbers), 20, 0));
+            CHECK(untouched(out, sizeof out));
+        }
+    }
+}
+
 /* The challenge has SIGN, KEY_EXCH, VERSION and a timestamp: its own domain is sent, and 24 zero bytes for the LM. */
 static void answers(const message_t *challenge, const message_t *no_timestamp)
 {
     uint64_t numbers[DIALTABLE_RESPONSE_NUMBERS], read[DIALTABLE_AUTHENTICATE_NUMBERS];
-    uint8_t out[256], thin[256], read_mic[16], zeros[24] = {0};
+    uint8_t out[256], read_mic[16], zeros[24] = {0};
     size_t len = 88 + 14 + sizeof box7 + sizeof work + 24 + sizeof nt + sizeof key;
 
     EQUAL(dialtable_respond(out, len, challenge->bytes, challenge->len, DIALTABLE_DEFAULTS, CLOCK, version, mic, lm, 2,
@@ -670,17 +718,7 @@ static void answers(const message_t *challenge, const message_t *no_timestamp)
     CHECK(is_field(out, read, DIALTABLE_AUTHENTICATE_WORKSTATION_OFFSET, work, sizeof work));
     CHECK(is_field(out, read, DIALTABLE_AUTHENTICATE_KEY_OFFSET, key, sizeof key));
 
-#define THIN(call) \
-    memset(thin, FILL, sizeof thin); \
-    memset(numbers, 0, sizeof numbers); \
-    EQUAL(call(thin, sizeof thin, challenge->bytes, challenge->len, CLOCK, version, mic, lm, 2, nt, sizeof nt, NULL, \
-               0, box7, sizeof box7, work, sizeof work, key, sizeof key, numbers, DIALTABLE_RESPONSE_NUMBERS), len); \
-    CHECK(memcmp(thin, out, len) == 0 && untouched(thin + len, sizeof thin - len)); \
-    EQUAL(numbers[DIALTABLE_RESPONSE_TIME], CHALLENGE_TIME); \
-    EQUAL(numbers[DIALTABLE_RESPONSE_MIC_DUE], 1)
-    THIN(dialtable_respond_for_bench);
-    THIN(dialtable_respond_to_old_server);
-    THIN(dialtable_respond_for_relay);
+    answers_thinly(challenge, out, len);
 
     /* No timestamp: the clock, the caller's LM response, and no MIC. */
     EQUAL(dialtable_respond(out, sizeof out, no_timestamp->bytes, no_timestamp->len, DIALTABLE_DEFAULTS, CLOCK,
@@ -740,7 +778,7 @@ static void takes_numbers_in_wide_registers(const message_t *p1, const message_t
     message_t weak = *challenge;
 
     weak.bytes[23] &= 0xDF; /* the 128-bit flag */
-    EQUAL(decide_wide(above | DIALTABLE_DEFAULTS, weak.bytes, weak.len, numbers, DIALTABLE_DECISION_NUMBERS), 0);
+    EQUAL(decide_wide(above | DIALTABLE_NTLMV2, weak.bytes, weak.len, numbers, DIALTABLE_DECISION_NUMBERS), 0);
     CHECK(refused(decide_wide(above | DIALTABLE_DEMAND_128, weak.bytes, weak.len, numbers, 3), 20, 0));
     EQUAL(field_wide(p1->bytes, p1->len, above | 88, above | 8, name, sizeof name), 8);
     CHECK(memcmp(name, box7, 8) == 0);

@@ -156,11 +156,10 @@ static void answers(unsigned room, unsigned places)
     CALL(dialtable_domain_to_send(msg, own % 5, msg, len, out, room));
     CALL(dialtable_respond(out, room, msg, len, settings, clock, version, mic, msg + 2, a, msg + 1, b, msg + 4, own,
                            msg + 6, a & ~1u, msg + 8, b & ~1u, mic, key_len, numbers, places));
-#define THIN(call) CALL(call(out, room, msg, len, clock, version, mic, msg + 2, a, msg + 1, b, msg + 4, own, msg + 6, \
-                             8, msg + 8, 4, mic, 16, numbers, places))
-    THIN(dialtable_respond_for_bench);
-    THIN(dialtable_respond_to_old_server);
-    THIN(dialtable_respond_for_relay);
+#define PARTS version, mic, msg + 2, a, msg + 1, b, msg + 4, own, msg + 6, 8, msg + 8, 4, mic, 16, numbers, places
+    CALL(dialtable_respond_for_bench(out, room, msg, len, clock, settings % 3, PARTS));
+    CALL(dialtable_respond_to_old_server(out, room, msg, len, clock, PARTS));
+    CALL(dialtable_respond_for_relay(out, room, msg, len, clock, PARTS));
 }
 
 int main(void)

@@ -64,14 +64,13 @@ static void measure(const uint8_t *msg, dialtable_len len)
     STACK(write_nl_auth_request, out, sizeof out, 31, msg, 1, msg, 1, msg, 1, msg, 1, msg, 1);
     STACK(write_nl_auth_response, out, sizeof out);
     STACK(write_response_pairs, out, sizeof out, msg, len, zeros, 8, 1, zeros);
-    STACK(decide, DIALTABLE_DEFAULTS | DIALTABLE_INTEGRITY, msg, len, numbers, 16);
+    STACK(decide, DIALTABLE_NTLMV2 | DIALTABLE_INTEGRITY, msg, len, numbers, 16);
     STACK(domain_to_send, NULL, 0, msg, len, out, sizeof out);
-    STACK(respond, out, sizeof out, msg, len, DIALTABLE_DEFAULTS, 5, zeros, zeros, zeros, 24, zeros, 24, NAMES, zeros,
-          16, numbers, 16);
-#define THIN out, sizeof out, msg, len, 5, zeros, zeros, zeros, 24, zeros, 24, NAMES, zeros, 16, numbers, 16
-    STACK(respond_for_bench, THIN);
-    STACK(respond_to_old_server, THIN);
-    STACK(respond_for_relay, THIN);
+#define PARTS zeros, zeros, zeros, 24, zeros, 24, NAMES, zeros, 16, numbers, 16
+    STACK(respond, out, sizeof out, msg, len, DIALTABLE_NTLMV2, 5, PARTS);
+    STACK(respond_for_bench, out, sizeof out, msg, len, 5, 0, PARTS);
+    STACK(respond_to_old_server, out, sizeof out, msg, len, 5, PARTS);
+    STACK(respond_for_relay, out, sizeof out, msg, len, 5, PARTS);
 }
 
 int main(void)

@@ -1,11 +1,11 @@
 -- Laws of what is answered and handed out, by what the decision and the answer are known to be.
 use Prim.Native.Nat.{ℕ, _≤_}
 use mathlib.Core.Path.{_≡_, sym, _∙_}
-use mathlib.Core.Bool.{Bool}
+use mathlib.Core.Bool.{Bool, not}
 use mathlib.Core.List.{List, [], _∷_}
-use lib.Dec.{leb}
+use lib.Dec.{leb, eqb}
 use lib.ListN.{length}
-use borrow.Author.Tests.{leb-true}
+use borrow.Author.Tests.{leb-true, ne-eqb}
 use Rattle.wire.specs.declared.check.Checked.{Checked}
 use Rattle.wire.specs.declared.check.Checked.the-variants.{Held, Failed}
 use Rattle.wire.specs.declared.refusal.Refusal.{Refusal}
@@ -22,7 +22,7 @@ use Rattle.respond.specs.declared.decision.Decided.the-variants.{Taken, Refused
 use Rattle.respond.specs.declared.decision.Decision.{Decision}
 use Rattle.respond.specs.declared.decision.Settings.{Settings}
 use Rattle.respond.specs.Answer.{respondAnswer, respondOut}
-use Rattle.respond.specs.Decision.{decisionOn}
+use Rattle.respond.specs.Decision.{benchSettings, decisionOn}
 use Rattle.c_number.specs.Number.{refusalNumber, bit}
 use Rattle.c_number.specs.Outcome.{numbers, refused}
 use Rattle.c_respond.specs.declared.settings.SettingsBits.{SettingsBits}
@@ -33,6 +33,13 @@ pub settings-are : (asked : SettingsBits) (a b c d : Bool) →
     a ≡ demand128 asked → b ≡ ntlmv2 asked → c ≡ integrity asked → d ≡ confidentiality asked →
     record { «demand_128» = a; ntlmv2 = b; integrity = c; confidentiality = d } ≡ settingsOf (asked .bits)
 settings-are asked a b c d p q r s = simp (p, q, r, s)
+
+-- the bench's bits, by the caller's number
+pub bench-no : (n : ℕ) → n ≡ 0 → settingsOf 0x2 ≡ benchSettings (not (eqb n 0))
+bench-no n h = simp h
+
+pub bench-yes : (n : ℕ) → (n ≡ 0 → ⊥) → settingsOf 0x3 ≡ benchSettings (not (eqb n 0))
+bench-yes n h = simp (ne-eqb n 0 h)
 
 module _ (flags : ℕ) (w : Timestamp) where
   pub timed : (t : ℕ) → w ≡ Time t → (flags ∷ 1 ∷ t ∷ []) ≡ decisionNumbers flags w
@@ -110,3 +117,20 @@ module _ (t u : Settings) (q : t ≡ u) (s : List ℕ) (v mic lm nt domain user 
   pub of-out : (out ys : List ℕ) → ys ≡ respondOut out s t v mic lm nt domain user workstation key →
       ys ≡ respondOut out s u v mic lm nt domain user workstation key
   of-out out ys e = rw (← q) e
+
+-- a call with settings, by what they are known to be
+module _ (t u : Settings) (q : t ≡ u) (s v mic lm nt domain user workstation key : List ℕ) where
+  pub known-number : (r room clock n : ℕ) →
+      r ≡ respondedNumber (respondAnswer room s t clock v mic lm nt domain user workstation key) n →
+      r ≡ respondedNumber (respondAnswer room s u clock v mic lm nt domain user workstation key) n
+  known-number r room clock n e = rw (← q) e
+
+  pub known-numbers : (room clock : ℕ) (ys xs : List ℕ) →
+      ys ≡ respondedNumbers (respondAnswer room s t clock v mic lm nt domain user workstation key) xs →
+      ys ≡ respondedNumbers (respondAnswer room s u clock v mic lm nt domain user workstation key) xs
+  known-numbers room clock ys xs e = rw (← q) e
+
+  pub known-out : (n : ℕ) (out ys : List ℕ) →
+      ys ≡ respondedOut (respondOut out s t v mic lm nt domain user workstation key) n out →
+      ys ≡ respondedOut (respondOut out s u v mic lm nt domain user workstation key) n out
+  known-out n out ys e = rw (← q) e

@@ -1,5 +1,8 @@
 // The settings as one number of the C interface: each bit is named once, with a question for it.
 ghost use mathlib.Core.Path.{_≡_};
+ghost use mathlib.Core.Bool.{not};
+ghost use lib.Dec.{eqb};
+ghost use Rattle.respond.specs.Decision.{benchSettings};
 ghost use Rattle.c_respond.specs.Settings.{demand128, ntlmv2, integrity, confidentiality, settingsOf};
 use respond::decision::Settings;
 use wire::number::has;
@@ -18,8 +21,25 @@ impl SettingsBits {
 
     pub const CONFIDENTIALITY: u32 = 0x8;
 
-    // Of the defaults only NTLMv2 is yes.
-    pub const DEFAULTS: u32 = SettingsBits::NTLMV2;
+    // Of the defaults 128-bit and NTLMv2 are yes.
+    pub const DEFAULTS: u32 = SettingsBits::DEMAND_128 + SettingsBits::NTLMV2;
+
+    // The defaults but for 128-bit, which is not demanded of an old server.
+    pub const OLD_SERVER: u32 = SettingsBits::NTLMV2;
+
+    // The bench's: the defaults but for 128-bit, which is demanded where its caller's number is not 0.
+    pub fn for_bench(demand_128: u32) -> SettingsBits
+        ensures { λ r. ⌜ settingsOf (r .bits) ≡ benchSettings (not (eqb demand_128 0)) ⌝ }
+    {
+        if demand_128 == 0 {
+            return SettingsBits {
+                bits: SettingsBits::OLD_SERVER,
+            };
+        }
+        SettingsBits {
+            bits: SettingsBits::DEFAULTS,
+        }
+    }
 
     pub fn demand_128(self) -> bool
         ensures { λ r. ⌜ r ≡ demand128 self ⌝ }

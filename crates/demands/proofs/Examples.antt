@@ -39,7 +39,17 @@ authenticate-example = record { length-written = refl; bytes-written = refl; lin
 
 answer-example : AnswerExample
 unfolding challengeReadingOf checkInfo fieldsOf challengeFieldsAt challengeEnds challengeBegins challengeNames challengeChecks checkPairs pairsOf stepAt pairOf left timestampIn serverNamesIn domainPart fieldStart decisionOn lmToSend micToSend keyToSend sendAnswer sendOut respondAnswer respondOut readAuthenticate readingOf fieldsAt checkEnds checkBegins checkNames checkShared checkFields micPresent readHead signatureHolds fieldAt fieldBytes hexDigit hex decimalSize decimal escape unitText textOf nameText numberWord nameWord flagsWord setWord startText micWord kindWord authNames authLengths authEnd authText authenticateLine kindOf ntlmLine fieldsTo headsBytes afterHeads fixedBytes payloadBytes authenticateBytes checkNamesToWrite checkToWrite writeAnswer writeOut headBytes versionBytes le16 le32
-answer-example = record { answer = refl; bytes-written = refl; line = refl; no-room = refl; kept = refl }
+answer-example =
+    record {
+      answer = refl;
+      bytes-written = refl;
+      line = refl;
+      no-room = refl;
+      kept = refl;
+      bench-no = refl;
+      bench-yes = refl;
+      by-default = refl;
+    }
 
 pair-list-example : PairListExample
 unfolding challengeReadingOf checkInfo fieldsOf challengeFieldsAt challengeEnds challengeBegins challengeNames challengeChecks readHead signatureHolds fieldAt fieldBytes countPairs checkPairs pairsOf valuesOf stepAt pairOf left dueBits bitsDue addedPairs pairsBack pairsFor pairBytes listBytes listWith listFor checkList listAnswer listOut pairsAnswer pairsOut le16 le32

@@ -137,7 +137,7 @@ pub record AnsweredExactly (answer : Answered) (settings : Settings) (s b : List
   pub sent : (x : Answer) → (answer ≡ Sent x) ↔
       (Agreed settings s b × ((m j : ℕ) → F m j → ⊥) × (x .len ≡ size) × (x .time ≡ time) × ((x .«mic_due» ≡ true) ↔ PairThere b 7))
 
--- for every settings, so also for the three calls with the defaults; Version and MIC are of 8 and 16 bytes, as the call takes them
+-- for every settings, so also for the three thin calls; Version and MIC are of 8 and 16 bytes, as the call takes them
 abbrev pub RespondIsAnswered : Type 0
 RespondIsAnswered =
     (room : ℕ) (s b version mic lm nt domain user workstation key : List ℕ) (settings : Settings) (clock : ℕ) →

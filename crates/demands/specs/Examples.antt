@@ -4,11 +4,11 @@
 use Prim.Native.Nat.{ℕ}
 use Prim.Native.String.{String}
 use mathlib.Core.Path.{_≡_}
-use mathlib.Core.Bool.{true}
+use mathlib.Core.Bool.{true, false}
 use mathlib.Core.List.{List, [], _∷_, _++_}
 use lib.ListN.{take, replicate}
 use Rattle.text.specs.Text.{ascii}
-use Rattle.wire.specs.declared.refusal.Refusal.the-variants.{OddNameToWrite, NoRoom}
+use Rattle.wire.specs.declared.refusal.Refusal.the-variants.{OddNameToWrite, NoRoom, No128Bit}
 use Rattle.negotiate_flags.specs.declared.NegotiateFlags.{NegotiateFlags}
 use Rattle.place.specs.declared.written.Written.the-variants.{Length, Refused}
 use Rattle.av_pairs.specs.declared.Count.the-variants.{Pairs}
@@ -24,7 +24,7 @@ use Rattle.negotiate_writing.specs.Writing.{writeAnswer as negotiateAnswer, wri
 use Rattle.authenticate_writing.specs.Writing.{writeAnswer, writeOut}
 use Rattle.respond.specs.declared.answer.Answered.the-variants.{Sent, Refused as Unanswered}
 use Rattle.respond.specs.Answer.{respondAnswer, respondOut}
-use Rattle.respond.specs.Decision.{defaults}
+use Rattle.respond.specs.Decision.{defaults, benchSettings, oldServerSettings}
 use Rattle.response_pairs.specs.ResponsePairs.{listFor, writeAnswer as pairsAnswer, writeOut as pairsOut}
 use Rattle.line.specs.Line.{ntlmLine}
 use Rattle.nl_auth_flags.specs.declared.NlAuthFlags.{NlAuthFlags}
@@ -155,7 +155,7 @@ pub record AuthenticateExample : Type 0 where
   pub no-room : writeAnswer 171 flagsSent version mic lm nt line16 box16 [] key ≡ Refused NoRoom
   pub kept : writeOut (replicate 171 0xFF) flagsSent version mic lm nt line16 box16 [] key ≡ replicate 171 0xFF
 
--- ---- an answer to the CHALLENGE above, with the default settings and no domain of the settings
+-- ---- an answer to the CHALLENGE above, whose flags have no 128-bit, as to an old server, and no domain of the settings
 
 -- the domain is the challenge's pair 2 and the flags are the challenge's, without VERSION; the LM response is 24 zeros
 abbrev answerMessage : List ℕ
@@ -165,12 +165,15 @@ answerMessage =
 
 -- with a clock reading of 5, which a timestamp puts aside
 pub record AnswerExample : Type 0 where
-  pub answer : respondAnswer 172 challengeMessage defaults 5 version mic lm nt [] box16 [] key ≡
+  pub answer : respondAnswer 172 challengeMessage oldServerSettings 5 version mic lm nt [] box16 [] key ≡
       Sent (record { len = 172; time = 0x0807060504030201; «mic_due» = true })
-  pub bytes-written : respondOut (replicate 172 0xFF) challengeMessage defaults version mic lm nt [] box16 [] key ≡ answerMessage
+  pub bytes-written : respondOut (replicate 172 0xFF) challengeMessage oldServerSettings version mic lm nt [] box16 [] key ≡ answerMessage
   pub line : ntlmLine answerMessage ≡ lineOf "auth flags=40800215 set=U domain=LINE user=box7 work= lm=24 nt=28 key=16 mic=1 kind=v2"
-  pub no-room : respondAnswer 171 challengeMessage defaults 5 version mic lm nt [] box16 [] key ≡ Unanswered NoRoom
-  pub kept : respondOut (replicate 171 0xFF) challengeMessage defaults version mic lm nt [] box16 [] key ≡ replicate 171 0xFF
+  pub no-room : respondAnswer 171 challengeMessage oldServerSettings 5 version mic lm nt [] box16 [] key ≡ Unanswered NoRoom
+  pub kept : respondOut (replicate 171 0xFF) challengeMessage oldServerSettings version mic lm nt [] box16 [] key ≡ replicate 171 0xFF
+  pub bench-no : respondAnswer 171 challengeMessage (benchSettings false) 5 version mic lm nt [] box16 [] key ≡ Unanswered NoRoom
+  pub bench-yes : respondAnswer 171 challengeMessage (benchSettings true) 5 version mic lm nt [] box16 [] key ≡ Unanswered No128Bit
+  pub by-default : respondAnswer 171 challengeMessage defaults 5 version mic lm nt [] box16 [] key ≡ Unanswered No128Bit
 
 -- ---- the pair list that goes back for the CHALLENGE above, with the name "box7", which is marked unverified
 

@@ -25,10 +25,11 @@ use Rattle.nl_auth.specs.NlAuth.{readNlAuth}
 use Rattle.line.specs.Line.{negotiateLine, authenticateLine, challengeLine, ntlmLine, nlAuthLine}
 use Rattle.respond.specs.declared.decision.Settings.{Settings}
 use Rattle.respond.specs.Answer.{respondAnswer, respondOut}
-use Rattle.respond.specs.Decision.{defaults, decisionOn}
+use Rattle.respond.specs.Decision.{decisionOn}
 use Rattle.respond.specs.Domain.{domainPart}
 use Rattle.demands.specs.Message.{negotiate, authenticate, challenge, DifferInIgnored}
 use Rattle.demands.specs.NlAuth.{typeOf}
+use Rattle.demands.specs.ThinCalls.{ThinCall, goesBy}
 
 -- a field has the same bytes in both
 abbrev pub SameBytes : List ℕ → List ℕ → Field → Type 0
@@ -133,6 +134,6 @@ pub record SameAnswering (settings : Settings) (s t : List ℕ) : Type 0 where
 abbrev pub RespondIgnored : Type 0
 RespondIgnored = (settings : Settings) (s t : List ℕ) → DifferInIgnored challenge s t → SameAnswering settings s t
 
--- the three thin calls go by the defaults
+-- so does each of the three thin calls
 abbrev pub ThinCallsIgnored : Type 0
-ThinCallsIgnored = (s t : List ℕ) → DifferInIgnored challenge s t → SameAnswering defaults s t
+ThinCallsIgnored = (call : ThinCall) (s t : List ℕ) → DifferInIgnored challenge s t → SameAnswering (goesBy call) s t

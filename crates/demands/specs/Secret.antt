@@ -20,6 +20,7 @@ use Rattle.respond.specs.Answer.{respondAnswer, respondOut}
 use Rattle.demands.specs.Bench.{p1}
 use Rattle.demands.specs.Ignored.{SameBytes}
 use Rattle.demands.specs.Message.{authenticate, Nonempty, Covers, MicThere}
+use Rattle.demands.specs.ThinCalls.{ThinCall, goesBy}
 
 -- the byte at p is a secret's or a MIC's: "a field's bytes go by its head, in a refused message too: those from its offset
 -- on, Len of them, as far as the message reaches, and none if it doesn't count. A MIC that is there is bytes 72 to 87, as
@@ -84,10 +85,10 @@ pub record AsLong (mic lm nt key mic′ lm′ nt′ key′ : List ℕ) : Type 0 
   pub nt-same : length nt ≡ length nt′
   pub key-same : length key ≡ length key′
 
--- for every settings, so also for the three calls with the defaults
-abbrev pub SecretAnswered : Type 0
-SecretAnswered =
-    (out out′ s version domain user workstation : List ℕ) (settings : Settings) (clock : ℕ)
+-- a call that goes by these settings
+abbrev pub SecretAnsweredBy : Settings → Type 0
+SecretAnsweredBy settings =
+    (out out′ s version domain user workstation : List ℕ) (clock : ℕ)
     (mic lm nt key mic′ lm′ nt′ key′ : List ℕ) →
     length out ≡ length out′ → length version ≡ 8 → AsLong mic lm nt key mic′ lm′ nt′ key′ →
     (respondAnswer (length out) s settings clock version mic lm nt domain user workstation key
@@ -95,3 +96,10 @@ SecretAnswered =
     × ((x : Answer) → respondAnswer (length out) s settings clock version mic lm nt domain user workstation key ≡ Sent x →
     AlikeOutside (take (x .len) (respondOut out s settings version mic lm nt domain user workstation key))
     (take (x .len) (respondOut out′ s settings version mic′ lm′ nt′ domain user workstation key′)))
+
+abbrev pub SecretAnswered : Type 0
+SecretAnswered = (settings : Settings) → SecretAnsweredBy settings
+
+-- and so each of the three thin calls
+abbrev pub ThinCallsSecret : Type 0
+ThinCallsSecret = (call : ThinCall) → SecretAnsweredBy (goesBy call)

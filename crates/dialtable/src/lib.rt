@@ -17,7 +17,7 @@ ghost use Rattle.nl_auth_flags.specs.Flags.{known};
 ghost use Rattle.nl_auth_writing.specs.Writing.{requestAnswer, requestOut, responseAnswer, responseOut};
 ghost use Rattle.line.specs.Line.{negotiateLine, authenticateLine, challengeLine, nlAuthLine, ntlmLine, shownLine};
 ghost use Rattle.respond.specs.Answer.{respondAnswer, respondOut};
-ghost use Rattle.respond.specs.Decision.{defaults, decisionOn};
+ghost use Rattle.respond.specs.Decision.{defaults, benchSettings, oldServerSettings, decisionOn};
 ghost use Rattle.respond.specs.Domain.{domainToSend};
 ghost use Rattle.response_pairs.specs.ResponsePairs.{writeAnswer as pairsAnswer, writeOut as pairsOut};
 ghost use Rattle.c_number.specs.Number.{verdictNumber, writtenNumber};
@@ -38,9 +38,6 @@ use nl_auth_flags::NlAuthFlags;
 use nl_auth_writing::write_request;
 use nl_auth_writing::write_response;
 use respond::domain::domain_to_send;
-
-// What the three thin calls go by.
-const DEFAULTS: u32 = SettingsBits::DEFAULTS;
 
 #[no_mangle]
 pub extern "C" fn dialtable_read_negotiate(msg: &[u8], numbers: &mut [u64]) -> u64
@@ -170,6 +167,7 @@ pub extern "C" fn dialtable_respond_for_bench<'a>(
     out: &mut [u8],
     challenge: &'a [u8],
     clock: u64,
+    demand_128: u32,
     version: &[u8; 8],
     mic: &[u8; 16],
     lm: &[u8],
@@ -180,14 +178,14 @@ pub extern "C" fn dialtable_respond_for_bench<'a>(
     key: &[u8],
     numbers: &mut [u64],
 ) -> u64
-    ensures answer { λ r. ⌜ r ≡ respondedNumber (respondAnswer (length (now (out .entry))) (now (challenge .entry)) defaults clock (now (version .entry)) (now (mic .entry)) (now (lm .entry)) (now (nt .entry)) (now (domain .entry)) (now (user .entry)) (now (workstation .entry)) (now (key .entry))) (length (now (numbers .entry))) ⌝ }
-    ensures content { λ _. ⌜ now (out .exit) ≡ respondedOut (respondOut (now (out .entry)) (now (challenge .entry)) defaults (now (version .entry)) (now (mic .entry)) (now (lm .entry)) (now (nt .entry)) (now (domain .entry)) (now (user .entry)) (now (workstation .entry)) (now (key .entry))) (length (now (numbers .entry))) (now (out .entry)) ⌝ }
-    ensures beside { λ _. ⌜ now (numbers .exit) ≡ respondedNumbers (respondAnswer (length (now (out .entry))) (now (challenge .entry)) defaults clock (now (version .entry)) (now (mic .entry)) (now (lm .entry)) (now (nt .entry)) (now (domain .entry)) (now (user .entry)) (now (workstation .entry)) (now (key .entry))) (now (numbers .entry)) ⌝ }
+    ensures answer { λ r. ⌜ r ≡ respondedNumber (respondAnswer (length (now (out .entry))) (now (challenge .entry)) (benchSettings (not (eqb demand_128 0))) clock (now (version .entry)) (now (mic .entry)) (now (lm .entry)) (now (nt .entry)) (now (domain .entry)) (now (user .entry)) (now (workstation .entry)) (now (key .entry))) (length (now (numbers .entry))) ⌝ }
+    ensures content { λ _. ⌜ now (out .exit) ≡ respondedOut (respondOut (now (out .entry)) (now (challenge .entry)) (benchSettings (not (eqb demand_128 0))) (now (version .entry)) (now (mic .entry)) (now (lm .entry)) (now (nt .entry)) (now (domain .entry)) (now (user .entry)) (now (workstation .entry)) (now (key .entry))) (length (now (numbers .entry))) (now (out .entry)) ⌝ }
+    ensures beside { λ _. ⌜ now (numbers .exit) ≡ respondedNumbers (respondAnswer (length (now (out .entry))) (now (challenge .entry)) (benchSettings (not (eqb demand_128 0))) clock (now (version .entry)) (now (mic .entry)) (now (lm .entry)) (now (nt .entry)) (now (domain .entry)) (now (user .entry)) (now (workstation .entry)) (now (key .entry))) (now (numbers .entry)) ⌝ }
 {
     c_respond::respond(
         out,
         challenge,
-        DEFAULTS,
+        SettingsBits::for_bench(demand_128).bits,
         clock,
         version,
         mic,
@@ -216,14 +214,14 @@ pub extern "C" fn dialtable_respond_to_old_server<'a>(
     key: &[u8],
     numbers: &mut [u64],
 ) -> u64
-    ensures answer { λ r. ⌜ r ≡ respondedNumber (respondAnswer (length (now (out .entry))) (now (challenge .entry)) defaults clock (now (version .entry)) (now (mic .entry)) (now (lm .entry)) (now (nt .entry)) (now (domain .entry)) (now (user .entry)) (now (workstation .entry)) (now (key .entry))) (length (now (numbers .entry))) ⌝ }
-    ensures content { λ _. ⌜ now (out .exit) ≡ respondedOut (respondOut (now (out .entry)) (now (challenge .entry)) defaults (now (version .entry)) (now (mic .entry)) (now (lm .entry)) (now (nt .entry)) (now (domain .entry)) (now (user .entry)) (now (workstation .entry)) (now (key .entry))) (length (now (numbers .entry))) (now (out .entry)) ⌝ }
-    ensures beside { λ _. ⌜ now (numbers .exit) ≡ respondedNumbers (respondAnswer (length (now (out .entry))) (now (challenge .entry)) defaults clock (now (version .entry)) (now (mic .entry)) (now (lm .entry)) (now (nt .entry)) (now (domain .entry)) (now (user .entry)) (now (workstation .entry)) (now (key .entry))) (now (numbers .entry)) ⌝ }
+    ensures answer { λ r. ⌜ r ≡ respondedNumber (respondAnswer (length (now (out .entry))) (now (challenge .entry)) oldServerSettings clock (now (version .entry)) (now (mic .entry)) (now (lm .entry)) (now (nt .entry)) (now (domain .entry)) (now (user .entry)) (now (workstation .entry)) (now (key .entry))) (length (now (numbers .entry))) ⌝ }
+    ensures content { λ _. ⌜ now (out .exit) ≡ respondedOut (respondOut (now (out .entry)) (now (challenge .entry)) oldServerSettings (now (version .entry)) (now (mic .entry)) (now (lm .entry)) (now (nt .entry)) (now (domain .entry)) (now (user .entry)) (now (workstation .entry)) (now (key .entry))) (length (now (numbers .entry))) (now (out .entry)) ⌝ }
+    ensures beside { λ _. ⌜ now (numbers .exit) ≡ respondedNumbers (respondAnswer (length (now (out .entry))) (now (challenge .entry)) oldServerSettings clock (now (version .entry)) (now (mic .entry)) (now (lm .entry)) (now (nt .entry)) (now (domain .entry)) (now (user .entry)) (now (workstation .entry)) (now (key .entry))) (now (numbers .entry)) ⌝ }
 {
     c_respond::respond(
         out,
         challenge,
-        DEFAULTS,
+        SettingsBits::OLD_SERVER,
         clock,
         version,
         mic,
@@ -259,7 +257,7 @@ pub extern "C" fn dialtable_respond_for_relay<'a>(
     c_respond::respond(
         out,
         challenge,
-        DEFAULTS,
+        SettingsBits::DEFAULTS,
         clock,
         version,
         mic,

@@ -18,7 +18,6 @@ use Rattle.respond.specs.declared.decision.Decision.{Decision}
 use Rattle.respond.specs.declared.answer.Answered.{Answered}
 use Rattle.respond.specs.declared.answer.Answered.the-variants.{Sent, Refused}
 use Rattle.respond.specs.Domain.{domainToSend}
-use Rattle.respond.specs.Decision.{defaults}
 use Rattle.respond.specs.Answer.{micDue, timeToSend, lmToSend, micToSend, keyToSend, answerWith, sendAnswer, sendOut, respondAnswer, respondOut}
 
 -- the MIC by whether it was told to be due
@@ -84,15 +83,15 @@ module _ (settings : Settings) (d : Decision) (v mic lm nt own s domain user wor
       o ≡ sendOut out settings d v mic lm nt (domainToSend own s) user workstation key
   out-of-domain out o h = rw (← e) h
 
--- with settings that are the defaults
-module _ (settings : Settings) (e : settings ≡ defaults) (s v mic lm nt domain user workstation key : List ℕ) where
-  pub default-answers : (room clock : ℕ) (r : Answered) →
+-- with settings that were made, by what they are known to be
+module _ (settings known : Settings) (e : settings ≡ known) (s v mic lm nt domain user workstation key : List ℕ) where
+  pub settled-answers : (room clock : ℕ) (r : Answered) →
       r ≡ respondAnswer room s settings clock v mic lm nt domain user workstation key →
-      r ≡ respondAnswer room s defaults clock v mic lm nt domain user workstation key
-  default-answers room clock r h = rw (← e) h
+      r ≡ respondAnswer room s known clock v mic lm nt domain user workstation key
+  settled-answers room clock r h = rw (← e) h
 
-  pub default-leaves : (out o : List ℕ) → o ≡ respondOut out s settings v mic lm nt domain user workstation key →
-      o ≡ respondOut out s defaults v mic lm nt domain user workstation key
-  default-leaves out o h = rw (← e) h
+  pub settled-leaves : (out o : List ℕ) → o ≡ respondOut out s settings v mic lm nt domain user workstation key →
+      o ≡ respondOut out s known v mic lm nt domain user workstation key
+  settled-leaves out o h = rw (← e) h
 
-pub ruleset by-default = (default-answers, default-leaves)
+pub ruleset settled = (settled-answers, settled-leaves)

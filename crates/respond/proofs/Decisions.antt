@@ -23,8 +23,13 @@ use Rattle.respond.specs.declared.decision.Settings.{Settings}
 use Rattle.respond.specs.declared.decision.Decision.{Decision}
 use Rattle.respond.specs.declared.decision.Decided.{Decided}
 use Rattle.respond.specs.declared.decision.Decided.the-variants.{Taken as Answerable, Refused}
-use Rattle.respond.specs.Decision.{strengthHolds, serverNamesHold, decisionOn, onDecided}
+use Rattle.respond.specs.Decision.{defaults, benchSettings, strengthHolds, serverNamesHold, decisionOn, onDecided}
 use Rattle.respond.proofs.Domains.{on-taken}
+
+-- the defaults with another word on 128-bit
+pub but-for-128 : (d : Settings) (demanded : Bool) → d ≡ defaults →
+    record { «demand_128» = demanded; ntlmv2 = d .ntlmv2; integrity = d .integrity; confidentiality = d .confidentiality } ≡ benchSettings demanded
+but-for-128 d demanded h = simp h
 
 pub strength-is : (settings : Settings) (flags : NegotiateFlags) (b : Bool) (r : Checked) → b ≡ negotiate128 flags →
     r ≡ checked (not (settings .«demand_128») || b) → r ≡ strengthHolds settings flags

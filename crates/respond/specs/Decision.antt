@@ -1,5 +1,5 @@
 -- The client's decision on a challenge (MS-NLMP 3.1.5.1.2): reading it, then checks 20 and 21.
-use mathlib.Core.Bool.{true, false, _||_, _&&_}
+use mathlib.Core.Bool.{Bool, true, false, _||_, _&&_}
 use mathlib.Core.List.{List}
 use Prim.Native.Nat.{ℕ}
 use Rattle.wire.specs.declared.check.Checked.{Checked}
@@ -17,9 +17,19 @@ use Rattle.respond.specs.declared.decision.Decision.{Decision}
 use Rattle.respond.specs.declared.decision.Decided.{Decided}
 use Rattle.respond.specs.declared.decision.Decided.the-variants.{Taken, Refused}
 
--- the defaults
+-- the defaults; 128-bit is demanded unless told otherwise (request 7/12). The relay's call goes by these
 abbrev pub defaults : Settings
-defaults = record { «demand_128» = false; ntlmv2 = true; integrity = false; confidentiality = false }
+defaults = record { «demand_128» = true; ntlmv2 = true; integrity = false; confidentiality = false }
+
+-- the bench's call: the defaults, but 128-bit is demanded as its caller says
+abbrev pub benchSettings : Bool → Settings
+benchSettings demanded =
+    record { «demand_128» = demanded; ntlmv2 = defaults .ntlmv2; integrity = defaults .integrity; confidentiality = defaults .confidentiality }
+
+-- the call for old servers: the defaults, but 128-bit is not demanded
+abbrev pub oldServerSettings : Settings
+oldServerSettings =
+    record { «demand_128» = false; ntlmv2 = defaults .ntlmv2; integrity = defaults .integrity; confidentiality = defaults .confidentiality }
 
 -- check 20: if 128-bit is demanded, it is in the flags
 abbrev pub strengthHolds : Settings → NegotiateFlags → Checked

@@ -1,17 +1,18 @@
-// Answering a challenge with the default settings, a call for each of those who do.
+// Answering a challenge by settings that the caller doesn't give whole: the defaults, but for 128-bit.
 ghost use mathlib.Core.Path.{_≡_};
 ghost use lib.ListN.{length};
-ghost use Rattle.respond.specs.Decision.{defaults};
+ghost use Rattle.respond.specs.Decision.{defaults, benchSettings, oldServerSettings};
 ghost use Rattle.respond.specs.Answer.{respondAnswer, respondOut};
 use crate::answer::Answered;
 use crate::answer::respond;
 use crate::decision::Settings;
 
-// For the bench.
+// For the bench, which says whether 128-bit is demanded.
 pub fn respond_for_bench<'a>(
     out: &mut [u8],
     challenge: &'a [u8],
     clock: u64,
+    demand_128: bool,
     version: &[u8; 8],
     mic: &[u8; 16],
     lm: &[u8],
@@ -21,10 +22,10 @@ pub fn respond_for_bench<'a>(
     workstation: &[u8],
     key: &[u8],
 ) -> Answered
-    ensures answer { λ r. ⌜ r ≡ respondAnswer (length (now (out .entry))) (now (challenge .entry)) defaults clock (now (version .entry)) (now (mic .entry)) (now (lm .entry)) (now (nt .entry)) (now (domain .entry)) (now (user .entry)) (now (workstation .entry)) (now (key .entry)) ⌝ }
-    ensures content { λ _. ⌜ now (out .exit) ≡ respondOut (now (out .entry)) (now (challenge .entry)) defaults (now (version .entry)) (now (mic .entry)) (now (lm .entry)) (now (nt .entry)) (now (domain .entry)) (now (user .entry)) (now (workstation .entry)) (now (key .entry)) ⌝ }
+    ensures answer { λ r. ⌜ r ≡ respondAnswer (length (now (out .entry))) (now (challenge .entry)) (benchSettings demand_128) clock (now (version .entry)) (now (mic .entry)) (now (lm .entry)) (now (nt .entry)) (now (domain .entry)) (now (user .entry)) (now (workstation .entry)) (now (key .entry)) ⌝ }
+    ensures content { λ _. ⌜ now (out .exit) ≡ respondOut (now (out .entry)) (now (challenge .entry)) (benchSettings demand_128) (now (version .entry)) (now (mic .entry)) (now (lm .entry)) (now (nt .entry)) (now (domain .entry)) (now (user .entry)) (now (workstation .entry)) (now (key .entry)) ⌝ }
 {
-    let settings = Settings::defaults();
+    let settings = Settings::for_bench(demand_128);
     respond(
         out,
         challenge,
@@ -41,7 +42,7 @@ pub fn respond_for_bench<'a>(
     )
 }
 
-// For old servers.
+// For old servers, of which 128-bit is not demanded.
 pub fn respond_to_old_server<'a>(
     out: &mut [u8],
     challenge: &'a [u8],
@@ -55,10 +56,10 @@ pub fn respond_to_old_server<'a>(
     workstation: &[u8],
     key: &[u8],
 ) -> Answered
-    ensures answer { λ r. ⌜ r ≡ respondAnswer (length (now (out .entry))) (now (challenge .entry)) defaults clock (now (version .entry)) (now (mic .entry)) (now (lm .entry)) (now (nt .entry)) (now (domain .entry)) (now (user .entry)) (now (workstation .entry)) (now (key .entry)) ⌝ }
-    ensures content { λ _. ⌜ now (out .exit) ≡ respondOut (now (out .entry)) (now (challenge .entry)) defaults (now (version .entry)) (now (mic .entry)) (now (lm .entry)) (now (nt .entry)) (now (domain .entry)) (now (user .entry)) (now (workstation .entry)) (now (key .entry)) ⌝ }
+    ensures answer { λ r. ⌜ r ≡ respondAnswer (length (now (out .entry))) (now (challenge .entry)) oldServerSettings clock (now (version .entry)) (now (mic .entry)) (now (lm .entry)) (now (nt .entry)) (now (domain .entry)) (now (user .entry)) (now (workstation .entry)) (now (key .entry)) ⌝ }
+    ensures content { λ _. ⌜ now (out .exit) ≡ respondOut (now (out .entry)) (now (challenge .entry)) oldServerSettings (now (version .entry)) (now (mic .entry)) (now (lm .entry)) (now (nt .entry)) (now (domain .entry)) (now (user .entry)) (now (workstation .entry)) (now (key .entry)) ⌝ }
 {
-    let settings = Settings::defaults();
+    let settings = Settings::for_old_server();
     respond(
         out,
         challenge,
@@ -75,7 +76,7 @@ pub fn respond_to_old_server<'a>(
     )
 }
 
-// For the relay.
+// For the relay, by the defaults.
 pub fn respond_for_relay<'a>(
     out: &mut [u8],
     challenge: &'a [u8],

@@ -8,7 +8,7 @@ ghost use Rattle.challenge.specs.Challenge.{readingOf};
 ghost use Rattle.target_info.specs.TargetInfo.{serverNamesIn};
 ghost use Rattle.respond.specs.declared.decision.Decision.{Decision};
 ghost use Rattle.respond.specs.declared.decision.Decided.the-variants.{Taken, Refused};
-ghost use Rattle.respond.specs.Decision.{defaults, strengthHolds, serverNamesHold, decisionOn};
+ghost use Rattle.respond.specs.Decision.{defaults, benchSettings, oldServerSettings, strengthHolds, serverNamesHold, decisionOn};
 use challenge::Challenge;
 use challenge::Reading;
 use challenge::read;
@@ -44,11 +44,29 @@ impl Settings {
         ensures { λ r. ⌜ r ≡ defaults ⌝ }
     {
         Settings {
-            demand_128: false,
+            demand_128: true,
             ntlmv2: true,
             integrity: false,
             confidentiality: false,
         }
+    }
+
+    // The defaults but for 128-bit, which the bench asks for or not.
+    pub fn for_bench(demand_128: bool) -> Settings
+        ensures { λ r. ⌜ r ≡ benchSettings demand_128 ⌝ }
+    {
+        let mut settings = Settings::defaults();
+        settings.demand_128 = demand_128;
+        settings
+    }
+
+    // The defaults but for 128-bit, which an old server doesn't offer.
+    pub fn for_old_server() -> Settings
+        ensures { λ r. ⌜ r ≡ oldServerSettings ⌝ }
+    {
+        let mut settings = Settings::defaults();
+        settings.demand_128 = false;
+        settings
     }
 
     // Check 20.

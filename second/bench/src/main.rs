@@ -541,6 +541,7 @@ fn respond(challenge: Vec<u8>, account: Account) -> Measured {
             &mut out,
             black_box(&challenge),
             1,
+            black_box(0),
             black_box(&lent(&account)),
             &mut numbers
         )),
@@ -558,7 +559,14 @@ fn respond(challenge: Vec<u8>, account: Account) -> Measured {
                 user: parts.user,
                 workstation: parts.workstation,
             };
-            answer_for_bench(black_box(&other), &account, 1, &secrets, &mut other_out)
+            answer_for_bench(
+                black_box(&other),
+                &account,
+                1,
+                black_box(false),
+                &secrets,
+                &mut other_out,
+            )
         }),
     }
 }

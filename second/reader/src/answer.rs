@@ -6,7 +6,8 @@ use crate::refusal::{Reason, Refusal};
 use crate::write_authenticate::{write_authenticate, AuthenticateParts};
 
 /// What the box demands of a challenge. "Settings and their defaults: 128-bit
-/// demanded no, NTLMv2 yes, integrity no, confidentiality no."
+/// demanded no, NTLMv2 yes, integrity no, confidentiality no." Request 7/12 on
+/// the first: "The default becomes yes."
 #[derive(Clone, Copy, Debug, PartialEq, Eq)]
 pub struct Policy {
     /// 128-bit demanded
@@ -22,7 +23,7 @@ pub struct Policy {
 impl Default for Policy {
     fn default() -> Self {
         Self {
-            require_128: false,
+            require_128: true,
             ntlmv2: true,
             integrity: false,
             confidentiality: false,
@@ -54,6 +55,17 @@ pub struct Settings<'a> {
 }
 
 impl<'a> Account<'a> {
+    /// This account with the default policy, but for what it says of 128-bit.
+    fn requiring_128(&self, require_128: bool) -> Settings<'a> {
+        Settings {
+            policy: Policy {
+                require_128,
+                ..Policy::default()
+            },
+            account: *self,
+        }
+    }
+
     /// This account with the default policy.
     fn by_default(&self) -> Settings<'a> {
         Settings {
@@ -205,18 +217,21 @@ fn choose_domain<'a>(setting: &'a [u8], challenge: Option<&Challenge<'a>>) -> Do
     }
 }
 
-/// "Three thin calls use the defaults": for the bench.
+/// "Three thin calls use the defaults": for the bench, where since request 7/12
+/// "the bench call takes yes or no from its caller".
 pub fn answer_for_bench(
     challenge: &[u8],
     account: &Account<'_>,
     clock: u64,
+    require_128: bool,
     secrets: &Secrets<'_>,
     out: &mut [u8],
 ) -> Result<Answer, Refusal> {
-    answer(challenge, &account.by_default(), clock, secrets, out)
+    let settings = account.requiring_128(require_128);
+    answer(challenge, &settings, clock, secrets, out)
 }
 
-/// For old servers; see [`answer_for_bench`].
+/// For old servers: "the old-server call now says no itself".
 pub fn answer_for_old_servers(
     challenge: &[u8],
     account: &Account<'_>,
@@ -224,10 +239,11 @@ pub fn answer_for_old_servers(
     secrets: &Secrets<'_>,
     out: &mut [u8],
 ) -> Result<Answer, Refusal> {
-    answer(challenge, &account.by_default(), clock, secrets, out)
+    let settings = account.requiring_128(false);
+    answer(challenge, &settings, clock, secrets, out)
 }
 
-/// For the relay; see [`answer_for_bench`].
+/// For the relay: "the relay call takes the new default".
 pub fn answer_for_relay(
     challenge: &[u8],
     account: &Account<'_>,

@@ -21,9 +21,13 @@ fn secrets() -> Secrets<'static> {
     }
 }
 
+/// The defaults but for 128-bit, which few of the challenges here have.
 fn settings() -> Settings<'static> {
     Settings {
-        policy: Policy::default(),
+        policy: Policy {
+            require_128: false,
+            ..Policy::default()
+        },
         account: Account {
             version: VERSION_BYTES,
             domain: b"",
@@ -65,7 +69,7 @@ fn the_defaults() {
     assert_eq!(
         Policy::default(),
         Policy {
-            require_128: false,
+            require_128: true,
             ntlmv2: true,
             integrity: false,
             confidentiality: false,
@@ -293,23 +297,54 @@ fn the_domain_sent_is_the_domain_to_send() {
     }
 }
 
+/// Request 7/12: the bench says whether 128-bit is demanded, of old servers it
+/// isn't, and the relay goes by the defaults.
 #[test]
-fn the_three_calls_use_the_defaults() {
-    let account = settings().account;
-    for message in [
+fn the_three_calls_and_128_bit() {
+    let weak = settings();
+    let (account, secrets) = (&weak.account, &secrets());
+    let strong = Settings {
+        policy: Policy::default(),
+        ..weak
+    };
+    for message in &[
         challenge(UNICODE | TARGET_INFO, b"", &with_time()),
+        challenge(UNICODE | TARGET_INFO | BITS_128, b"", &with_time()),
         challenge(UNICODE | TARGET_INFO, b"", &list(&[])),
         challenge(OEM | KEY_EXCH | SEAL, b"", b""),
+        challenge(OEM | KEY_EXCH | SEAL | BITS_128, b"", b""),
         b"not a challenge".to_vec(),
     ] {
-        let expected = answered(&message, &settings(), &secrets());
-        for call in [answer_for_bench, answer_for_old_servers, answer_for_relay] {
-            let mut out = vec![0xEE; 1 << 10];
-            let answer = call(&message, &account, CLOCK, &secrets(), &mut out);
+        let same = |answer: Result<Answer, Refusal>, out: &[u8], settings: &Settings<'_>| {
             let written = &out[..answer.map_or(0, |answer| answer.len)];
+            let expected = answered(message, settings, secrets);
             assert_eq!(answer.map(|answer| (answer, written.to_vec())), expected);
+        };
+        let out = &mut [0xEE; 1 << 10];
+        for (require_128, settings) in [(true, &strong), (false, &weak)] {
+            let answer = answer_for_bench(message, account, CLOCK, require_128, secrets, out);
+            same(answer, out, settings);
         }
+        let answer = answer_for_old_servers(message, account, CLOCK, secrets, out);
+        same(answer, out, &weak);
+        let answer = answer_for_relay(message, account, CLOCK, secrets, out);
+        same(answer, out, &strong);
     }
+}
+
+#[test]
+fn a_challenge_without_128_bit_is_refused_unless_told_otherwise() {
+    let account = settings().account;
+    let secrets = secrets();
+    let weak = challenge(UNICODE | TARGET_INFO, b"", &with_time());
+    let mut out = [0xEE; 300];
+    let relay = answer_for_relay(&weak, &account, CLOCK, &secrets, &mut out);
+    assert_eq!(refused(relay), (20, 0));
+    let bench = answer_for_bench(&weak, &account, CLOCK, true, &secrets, &mut out);
+    assert_eq!(refused(bench), (20, 0));
+    assert_eq!(out, [0xEE; 300]);
+    assert!(answer_for_bench(&weak, &account, CLOCK, false, &secrets, &mut out).is_ok());
+    assert!(answer_for_old_servers(&weak, &account, CLOCK, &secrets, &mut out).is_ok());
 }
 
 #[test]

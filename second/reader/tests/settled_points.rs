@@ -23,7 +23,10 @@ fn account(domain: &'static [u8]) -> Account<'static> {
 
 fn settings() -> Settings<'static> {
     Settings {
-        policy: Policy::default(),
+        policy: Policy {
+            require_128: false,
+            ..Policy::default()
+        },
         account: account(b""),
     }
 }

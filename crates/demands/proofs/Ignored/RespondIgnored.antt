@@ -17,10 +17,11 @@ use Rattle.respond.specs.declared.answer.Answered.the-variants.{Refused as Unan
 use Rattle.respond.specs.declared.decision.Decided.{Decided}
 use Rattle.respond.specs.declared.decision.Decided.the-variants.{Taken, Refused}
 use Rattle.respond.specs.Answer.{sendAnswer, sendOut, respondAnswer, respondOut}
-use Rattle.respond.specs.Decision.{defaults, decisionOn, onDecided, strengthHolds, serverNamesHold}
+use Rattle.respond.specs.Decision.{decisionOn, onDecided, strengthHolds, serverNamesHold}
 use Rattle.respond.specs.Domain.{Part, ownPart, onFound, domainPart, domainToSend}
 use Rattle.target_info.specs.TargetInfo.{firstBy, timestampIn, serverNamesIn}
 use Rattle.demands.specs.Ignored.{DecisionIgnored, DomainIgnored, RespondIgnored, ThinCallsIgnored}
+use Rattle.demands.specs.ThinCalls.{goesBy}
 use Rattle.demands.proofs.Ignored.ChallengeIgnored.{made-same}
 
 pub decision-ignored : DecisionIgnored
@@ -68,4 +69,4 @@ respond-ignored settings s t d =
     }
 
 pub thin-calls-ignored : ThinCallsIgnored
-thin-calls-ignored s t d = respond-ignored defaults s t d
+thin-calls-ignored call s t d = respond-ignored (goesBy call) s t d

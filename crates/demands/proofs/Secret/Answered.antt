@@ -23,7 +23,8 @@ use Rattle.respond.specs.declared.decision.Settings.{Settings}
 use Rattle.respond.specs.Answer.{micDue, timeToSend, lmToSend, micToSend, keyToSend, answerWith, sendAnswer, sendOut, respondAnswer, respondOut}
 use Rattle.respond.specs.Decision.{decisionOn, onDecided}
 use Rattle.respond.specs.Domain.{domainToSend}
-use Rattle.demands.specs.Secret.{AsLong, AlikeOutside, SecretAnswered}
+use Rattle.demands.specs.Secret.{AsLong, AlikeOutside, SecretAnswered, ThinCallsSecret}
+use Rattle.demands.specs.ThinCalls.{goesBy}
 use Rattle.demands.proofs.ReadBack.{written-is}
 use Rattle.demands.proofs.ReadBack.WriteBack.{messages-alike, key-held}
 
@@ -97,7 +98,7 @@ sent-written (Unwritten e) time due x h = absurd (let z : _≡_ {A = ℕ} 0 1 = 
 
 pub secret-answered : SecretAnswered
 unfolding respondAnswer respondOut sendAnswer sendOut
-secret-answered out out′ s v dom usr wks settings clock mic lm nt key mic′ lm′ nt′ key′ rooms v8 same = go (decisionOn settings s) where
+secret-answered settings out out′ s v dom usr wks clock mic lm nt key mic′ lm′ nt′ key′ rooms v8 same = go (decisionOn settings s) where
   go : (d : Decided) →
       (onDecided Refused d (λ x. sendAnswer (length out) settings x clock v mic lm nt (domainToSend dom s) usr wks key)
       ≡ onDecided Refused d (λ x. sendAnswer (length out′) settings x clock v mic′ lm′ nt′ (domainToSend dom s) usr wks key′))
@@ -114,3 +115,6 @@ secret-answered out out′ s v dom usr wks settings clock mic lm nt key mic′ l
             (sent-written _ (timeToSend settings ts clock) (micDue ts) x h),
       )
   go (Declines e) = (refl, λ x h. absurd (let z : _≡_ {A = ℕ} 0 1 = cc in omega arith))
+
+pub thin-calls-secret : ThinCallsSecret
+thin-calls-secret call = secret-answered (goesBy call)

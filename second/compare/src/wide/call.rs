@@ -49,24 +49,48 @@ impl Line {
     }
 }
 
-/// The calls that answer a challenge.
+/// The calls that answer a challenge without the caller's settings.
 #[derive(Clone, Copy, Debug, PartialEq, Eq)]
-pub enum Respond {
-    With { settings: u32 },
-    ForBench,
+pub enum Thin {
+    ForBench { demand_128: u32 },
     ToOldServer,
     ForRelay,
 }
 
+/// The calls that answer a challenge: the full one, a thin one of the library,
+/// and the code of the thin one itself, which the library's is no jump to.
+#[derive(Clone, Copy, Debug, PartialEq, Eq)]
+pub enum Respond {
+    With { settings: u32 },
+    Thin(Thin),
+    Itself(Thin),
+}
+
 impl Respond {
-    pub const THIN: [Self; 3] = [Self::ForBench, Self::ToOldServer, Self::ForRelay];
+    /// Every thin call and its own code, the bench's without and with a demand.
+    pub fn thin(demand_128: u32) -> [Self; 8] {
+        let [bench, strong] = [0, demand_128].map(|demand_128| Thin::ForBench { demand_128 });
+        [
+            Self::Thin(bench),
+            Self::Itself(bench),
+            Self::Thin(strong),
+            Self::Itself(strong),
+            Self::Thin(Thin::ToOldServer),
+            Self::Itself(Thin::ToOldServer),
+            Self::Thin(Thin::ForRelay),
+            Self::Itself(Thin::ForRelay),
+        ]
+    }
 
     const fn index(self) -> usize {
         match self {
             Self::With { .. } => const { place_of("respond") },
-            Self::ForBench => const { place_of("respond_for_bench") },
-            Self::ToOldServer => const { place_of("respond_to_old_server") },
-            Self::ForRelay => const { place_of("respond_for_relay") },
+            Self::Thin(Thin::ForBench { .. }) => const { place_of("respond_for_bench") },
+            Self::Thin(Thin::ToOldServer) => const { place_of("respond_to_old_server") },
+            Self::Thin(Thin::ForRelay) => const { place_of("respond_for_relay") },
+            Self::Itself(Thin::ForBench { .. }) => const { place_of("thin_respond_for_bench") },
+            Self::Itself(Thin::ToOldServer) => const { place_of("thin_respond_to_old_server") },
+            Self::Itself(Thin::ForRelay) => const { place_of("thin_respond_for_relay") },
         }
     }
 }
@@ -150,8 +174,9 @@ pub enum Call<'a> {
     },
 }
 
-/// The names of the calls, without `dialtable_`, by [`Call::index`].
-pub const NAMES: [&str; 29] = [
+/// The names of the calls, without `dialtable_`, by [`Call::index`]; those of
+/// `crates/thin_calls` last.
+pub const NAMES: [&str; 32] = [
     "read_authenticate",
     "read_challenge",
     "read_timestamp",
@@ -181,6 +206,9 @@ pub const NAMES: [&str; 29] = [
     "respond_for_bench",
     "respond_to_old_server",
     "respond_for_relay",
+    "thin_respond_for_bench",
+    "thin_respond_to_old_server",
+    "thin_respond_for_relay",
 ];
 
 /// Where a name stands among [`NAMES`]. One that isn't there doesn't compile.
@@ -327,6 +355,10 @@ impl Call<'_> {
             Self::Decide { settings, .. } => format!(" settings={settings:X}"),
             Self::Respond { how, clock, .. } => match how {
                 Respond::With { settings } => format!(" settings={settings:X} clock={clock:016X}"),
+                Respond::Thin(Thin::ForBench { demand_128 })
+                | Respond::Itself(Thin::ForBench { demand_128 }) => {
+                    format!(" clock={clock:016X} demand_128={demand_128:X}")
+                }
                 _ => format!(" clock={clock:016X}"),
             },
             _ => String::new(),

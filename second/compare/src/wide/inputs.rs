@@ -284,8 +284,9 @@ pub fn odd_or_long_name(random: &mut Random, others: usize) -> Vec<u8> {
     vec![random.byte(); len]
 }
 
-/// A mark that a name is unverified: anything but 0.
-pub fn mark(random: &mut Random) -> u32 {
+/// A yes, as a mark that a name is unverified or a demand for 128-bit: anything
+/// but 0.
+pub fn yes(random: &mut Random) -> u32 {
     random.pick(&[1, 2, 4, 0x100, 0x1_0000, 0x8000_0000, 0xFFFF_FFFF])
 }
 

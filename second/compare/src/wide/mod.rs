@@ -279,7 +279,8 @@ impl<L: Library> Run<L> {
             self.hold_respond(Respond::With { settings }, challenge, &drawn);
             drawn = Drawn::new(&mut self.random, flags);
         }
-        for how in Respond::THIN {
+        let demand_128 = inputs::yes(&mut self.random);
+        for how in Respond::thin(demand_128) {
             self.hold_respond(how, challenge, &drawn);
         }
         let parts = drawn.parts();
@@ -292,7 +293,7 @@ impl<L: Library> Run<L> {
     /// with a mark, then with a name of odd length or a long one.
     fn going_back(&mut self, challenge: &[u8]) {
         let bindings = self.random.array();
-        let mark = inputs::mark(&mut self.random);
+        let mark = inputs::yes(&mut self.random);
         let name = inputs::target_name(&mut self.random);
         let call = |target_name, unverified| Call::WriteResponsePairs {
             challenge,
@@ -373,7 +374,8 @@ impl<L: Library> Run<L> {
         let others = drawn.other_secrets(&mut self.random);
         let (clock, mic) = (self.random.bits(), self.random.array());
         let [settings, _] = self.settings();
-        let thin = self.random.pick(&Respond::THIN);
+        let demand_128 = inputs::yes(&mut self.random);
+        let thin = self.random.pick(&Respond::thin(demand_128));
         for how in [Respond::With { settings }, thin] {
             let call = |parts| Call::Respond {
                 how,

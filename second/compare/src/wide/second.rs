@@ -9,7 +9,7 @@ use reader::{
     ResponsePairs, Settings, TargetInfo,
 };
 
-use super::call::{refused_at, Call, Line, Parts, Respond};
+use super::call::{refused_at, Call, Line, Parts, Respond, Thin};
 
 /// Makes a call: `out` and `numbers` are what is lent for its outputs.
 pub fn second(call: &Call<'_>, out: &mut [u8], numbers: &mut [u64]) -> u64 {
@@ -197,9 +197,13 @@ fn respond(
             };
             answer(challenge, &settings, clock, secrets, out)
         }
-        Respond::ForBench => answer_for_bench(challenge, account, clock, secrets, out),
-        Respond::ToOldServer => answer_for_old_servers(challenge, account, clock, secrets, out),
-        Respond::ForRelay => answer_for_relay(challenge, account, clock, secrets, out),
+        Respond::Thin(thin) | Respond::Itself(thin) => match thin {
+            Thin::ForBench { demand_128 } => {
+                answer_for_bench(challenge, account, clock, demand_128 != 0, secrets, out)
+            }
+            Thin::ToOldServer => answer_for_old_servers(challenge, account, clock, secrets, out),
+            Thin::ForRelay => answer_for_relay(challenge, account, clock, secrets, out),
+        },
     }
 }
 

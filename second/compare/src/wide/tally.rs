@@ -18,7 +18,7 @@ const OF_WRITING: [Refusals; 6] = [
 
 /// Numbers, their fields and the readings and writings that can refuse by them:
 /// each must have done so itself, since kinds of message share numbers.
-const OF_CALLS: [(&[u8], &[u8], &[&str]); 18] = [
+const OF_CALLS: [(&[u8], &[u8], &[&str]); 19] = [
     (
         &[1, 2, 4, 33],
         &[0],
@@ -82,6 +82,18 @@ const OF_CALLS: [(&[u8], &[u8], &[&str]); 18] = [
     (&[31], &[2], &["write_response_pairs"]),
     (&[30], &[0], &["write_response_pairs"]),
     (&[6, 33], &[0], &["field_bytes"]),
+    (
+        &[20],
+        &[0],
+        &[
+            "decide",
+            "respond",
+            "respond_for_bench",
+            "respond_for_relay",
+            "thin_respond_for_bench",
+            "thin_respond_for_relay",
+        ],
+    ),
 ];
 
 /// What a kind of place is called, and whether a place is of it.
@@ -122,7 +134,7 @@ const OF_PLACES: [(&[usize], &[&str]); 3] = [
 ];
 
 /// The calls that are given two inputs which only secrets tell apart.
-const WITH_SECRETS: [&str; 8] = [
+const WITH_SECRETS: [&str; 11] = [
     "read_authenticate",
     "authenticate_line",
     "ntlm_line",
@@ -131,6 +143,9 @@ const WITH_SECRETS: [&str; 8] = [
     "respond_for_bench",
     "respond_to_old_server",
     "respond_for_relay",
+    "thin_respond_for_bench",
+    "thin_respond_to_old_server",
+    "thin_respond_for_relay",
 ];
 
 /// All refusals, by their numbers.
@@ -284,7 +299,7 @@ impl Row {
     }
 }
 
-const COLUMNS: Columns = Columns { name: 24, count: 9 };
+const COLUMNS: Columns = Columns { name: 28, count: 9 };
 
 /// A row for each call, then one for each refusal.
 impl fmt::Display for Tally {

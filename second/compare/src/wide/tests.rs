@@ -4,7 +4,7 @@ use std::io::sink;
 
 use reader::NegotiateParts;
 
-use super::call::{place, refusal, refused, refused_at, Call, Line, Respond, FARTHEST, NAMES};
+use super::call::{place, refusal, refused, refused_at, Call, Line, Respond, Thin, FARTHEST, NAMES};
 use super::hold::{Difference, Library};
 use super::{run_on, second, Report};
 
@@ -293,7 +293,7 @@ fn time_from_the_clock_is_found() {
         "respond_for_relay",
         planted(|call, answer, _, numbers| {
             if let Call::Respond {
-                how: Respond::ForRelay,
+                how: Respond::Thin(Thin::ForRelay),
                 clock,
                 ..
             } = call
@@ -347,6 +347,66 @@ fn settings_that_are_left_out_are_found() {
             call => call,
         }),
     );
+}
+
+/// A thin call that goes by the settings of another, in the library or in the
+/// call's own code.
+#[test]
+fn a_thin_call_by_other_settings_is_found() {
+    let faults: [(&str, fn(Respond) -> Respond); 7] = [
+        ("respond_for_bench", |how| match how {
+            Respond::Thin(Thin::ForBench { .. }) => Respond::Thin(Thin::ForBench { demand_128: 0 }),
+            how => how,
+        }),
+        ("respond_for_bench", |how| match how {
+            Respond::Thin(Thin::ForBench { .. }) => Respond::Thin(Thin::ForRelay),
+            how => how,
+        }),
+        // Only the lowest byte of the caller's number.
+        ("respond_for_bench", |how| match how {
+            Respond::Thin(Thin::ForBench { demand_128 }) => Respond::Thin(Thin::ForBench {
+                demand_128: demand_128 & 0xFF,
+            }),
+            how => how,
+        }),
+        ("respond_to_old_server", |how| match how {
+            Respond::Thin(Thin::ToOldServer) => Respond::Thin(Thin::ForRelay),
+            how => how,
+        }),
+        ("respond_for_relay", |how| match how {
+            Respond::Thin(Thin::ForRelay) => Respond::Thin(Thin::ToOldServer),
+            how => how,
+        }),
+        ("thin_respond_to_old_server", |how| match how {
+            Respond::Itself(Thin::ToOldServer) => Respond::Itself(Thin::ForRelay),
+            how => how,
+        }),
+        ("thin_respond_for_relay", |how| match how {
+            // Integrity wanted as well.
+            Respond::Itself(Thin::ForRelay) => Respond::With { settings: 7 },
+            how => how,
+        }),
+    ];
+    for (name, change) in faults {
+        found(
+            "DIFFERENT",
+            name,
+            other_call(move |call| match call {
+                Call::Respond {
+                    how,
+                    challenge,
+                    clock,
+                    parts,
+                } => Call::Respond {
+                    how: change(how),
+                    challenge,
+                    clock,
+                    parts,
+                },
+                call => call,
+            }),
+        );
+    }
 }
 
 #[test]

@@ -1,0 +1,58 @@
+-- Request 7/12: "The default becomes yes. .. the old-server call now says no itself, the bench call takes yes or no from its caller,
+-- the relay call takes the new default. Rule 20 stands." The contracts of the three thin calls, in Rattle and from C, name the
+-- settings that `goesBy` has.
+use Prim.Native.Nat.{ℕ}
+use mathlib.Core.Path.{_≡_}
+use mathlib.Core.Bool.{Bool, true, false}
+use mathlib.Core.Logic.{_↔_}
+use mathlib.Core.List.{List}
+use lib.ListN.{length}
+use Rattle.respond.specs.declared.decision.Settings.{Settings}
+use Rattle.respond.specs.Answer.{respondAnswer}
+use Rattle.respond.specs.Decision.{defaults, benchSettings, oldServerSettings}
+use Rattle.c_respond.specs.Settings.{settingsOf}
+use Rattle.demands.specs.Message.{challenge, Set}
+use Rattle.demands.specs.TakenExactly.{InfoBytes, ChallengeHolds}
+use Rattle.demands.specs.Answering.{AnswerRefusedWith}
+
+-- the three calls; the bench's with what its caller says of 128-bit
+pub data ThinCall : Type 0 where
+  for-bench : Bool → ThinCall
+  to-old-server : ThinCall
+  for-relay : ThinCall
+
+-- the settings that each goes by
+abbrev pub goesBy : ThinCall → Settings
+goesBy (for-bench demanded) = benchSettings demanded
+goesBy to-old-server = oldServerSettings
+goesBy for-relay = defaults
+
+-- whether each demands 128-bit
+abbrev pub demands128 : ThinCall → Bool
+demands128 (for-bench demanded) = demanded
+demands128 to-old-server = false
+demands128 for-relay = true
+
+-- that is all that was changed: "NTLMv2 yes, integrity no, confidentiality no" for each of them
+pub record SettingsAre (settings : Settings) (demanded : Bool) : Type 0 where
+  pub demand-128 : settings .«demand_128» ≡ demanded
+  pub ntlmv2 : settings .ntlmv2 ≡ true
+  pub integrity : settings .integrity ≡ false
+  pub confidentiality : settings .confidentiality ≡ false
+
+abbrev pub ThinSettings : Type 0
+ThinSettings = (call : ThinCall) → SettingsAre (goesBy call) (demands128 call)
+
+-- the header's DIALTABLE_DEFAULTS, which is DIALTABLE_DEMAND_128 and DIALTABLE_NTLMV2
+abbrev pub HeaderDefaults : Type 0
+HeaderDefaults = settingsOf 0x3 ≡ defaults
+
+-- A thin call refuses by 20 exactly those challenges that are read, whose flags don't have 128-bit, where it demands it: the relay's
+-- all of them, the bench's where its caller says yes, the old-server call none. By 21 none of the three refuses
+abbrev pub ThinCallsRefuse : Type 0
+ThinCallsRefuse =
+    (call : ThinCall) (room clock : ℕ) (s b version mic lm nt domain user workstation key : List ℕ) →
+    length version ≡ 8 → length mic ≡ 16 → InfoBytes s b →
+    (AnswerRefusedWith (respondAnswer room s (goesBy call) clock version mic lm nt domain user workstation key) 20 0
+    ↔ (ChallengeHolds s b × (demands128 call ≡ true) × (Set challenge s 0x20000000 → ⊥)))
+    × ((i : ℕ) → AnswerRefusedWith (respondAnswer room s (goesBy call) clock version mic lm nt domain user workstation key) 21 i → ⊥)
