@@ -103,23 +103,26 @@ fn server_names_numbers(names: ServerNames) -> [u64; 2]
     [bit(names.nb_computer_name), bit(names.nb_domain_name)]
 }
 
-fn nl_auth_numbers(m: NlAuth) -> [u64; 12]
+fn nl_auth_numbers(m: NlAuth) -> [u64; 15]
     ensures { λ r. ⌜ r ≡ nlAuthNumbers m ⌝ }
 {
     let s = m.strings;
     [
         m.message_type as u64,
         m.flags.bits as u64,
-        offset_of(s.nb_domain),
-        len_of(s.nb_domain),
-        offset_of(s.nb_computer),
-        len_of(s.nb_computer),
-        offset_of(s.dns_domain),
-        len_of(s.dns_domain),
-        offset_of(s.dns_host),
-        len_of(s.dns_host),
-        offset_of(s.utf8_computer),
-        len_of(s.utf8_computer),
+        s.nb_domain.offset as u64,
+        s.nb_domain.len as u64,
+        s.nb_computer.offset as u64,
+        s.nb_computer.len as u64,
+        s.dns_domain.offset as u64,
+        s.dns_domain.len as u64,
+        s.dns_host.offset as u64,
+        s.dns_host.len as u64,
+        s.utf8_computer.offset as u64,
+        s.utf8_computer.len as u64,
+        s.dns_domain.jumps as u64,
+        s.dns_host.jumps as u64,
+        s.utf8_computer.jumps as u64,
     ]
 }
 
@@ -225,10 +228,10 @@ pub fn read_server_names(msg: &[u8], numbers: &mut [u64]) -> u64
 
 // Reads NL_AUTH.
 pub fn read_nl_auth(msg: &[u8], numbers: &mut [u64]) -> u64
-    ensures answer { λ r. ⌜ r ≡ callNumber 12 (nlAuthOutcome (readNlAuth (now (msg .entry)))) (length (now (numbers .entry))) ⌝ }
-    ensures content { λ _. ⌜ now (numbers .exit) ≡ callOut 12 (nlAuthOutcome (readNlAuth (now (msg .entry)))) (now (numbers .entry)) ⌝ }
+    ensures answer { λ r. ⌜ r ≡ callNumber 15 (nlAuthOutcome (readNlAuth (now (msg .entry)))) (length (now (numbers .entry))) ⌝ }
+    ensures content { λ _. ⌜ now (numbers .exit) ≡ callOut 15 (nlAuthOutcome (readNlAuth (now (msg .entry)))) (now (numbers .entry)) ⌝ }
 {
-    let Checked::Held = room_holds(12, numbers.len()) else {
+    let Checked::Held = room_holds(15, numbers.len()) else {
         return refusal_number(Refusal::NoRoom);
     };
     match nl_auth::read(msg) {

@@ -3,9 +3,11 @@ use Prim.Native.Nat.{ℕ, _+_, _-_, _^_, _≤_, _<_}
 use mathlib.Core.Path.{_≡_, refl, sym, ap, _∙_, subst}
 use mathlib.Core.Bool.{Bool, true, false, cond}
 use mathlib.Core.List.{List, []}
+use native.Mathlib.Nat.{sub-self}
 use native.Mathlib.Omega.{arith}
-use lib.ListN.{length, take, drop, length-drop}
+use lib.ListN.{length, take, drop, length-take, length-drop, drop-of-length-le}
 use lib.Seq.{take-all}
+use lib.Dec.{leb}
 use borrow.Author.Tests.{le-leb, lt-leb}
 use mir.Syntax.{w8, w16, w64}
 use mir.Val.{Fits}
@@ -30,9 +32,12 @@ pub is-found : (v : NameScan) (w : NlString) (n : ℕ) → v ≡ Found w n → I
 is-found v w n h = subst IsFound (sym h) tt
 
 -- the buffer, as it is lent
+pub buffer-whole : (s : List ℕ) → take (length s - 8) (drop 8 s) ≡ bufferOf s
+buffer-whole s = take-all (length s - 8) (drop 8 s) (simp length-drop (omega arith))
+
 module _ (s : List ℕ) (at : ℕ) (r : Reading) (e : r ≡ readName (take (length s - 8) (drop 8 s)) (at - 8)) where
   whole : r ≡ readName (bufferOf s) (inBuffer at)
-  whole = e ∙ ap (λ (x : List ℕ). readName x (at - 8)) (take-all (length s - 8) (drop 8 s) (simp length-drop (omega arith)))
+  whole = e ∙ ap (λ (x : List ℕ). readName x (at - 8)) (buffer-whole s)
 
   module _ (m : Name) (h : r ≡ Taken m) where
     ends : 8 ≤ at → at ≤ length s → (at < 8 + m .next) × (8 + m .next ≤ length s)
@@ -105,6 +110,11 @@ module _ (s : List ℕ) (at n : ℕ) (set : Bool) (r : NameScan) (e : r ≡ name
 
 pub ruleset past-name = (next-behind, next-within)
 
+-- ---- the buffer, as a part of the message
+
+pub buffer-none : (s : List ℕ) → length s < 8 → take (length s - length s) (drop (length s) s) ≡ bufferOf s
+buffer-none s h = simp (sub-self, drop-of-length-le s {i = length s} (omega arith), drop-of-length-le s {i = 8} (omega arith))
+
 -- ---- a string's own bytes
 
 module _ (s : List ℕ) (x : NlString) (h : x .offset + x .len ≤ length s) where
@@ -124,3 +134,11 @@ module _ (s : List ℕ) (x : NlString) (h : length s < x .offset + x .len) where
   pub no-start : stringStart s x ≡ 0
   unfolding stringStart
   no-start = simp (lt-leb _ _ h)
+
+-- they are no more than its length
+pub string-small : (s : List ℕ) (x : NlString) → length (stringBytes s x) ≤ x .len
+unfolding stringBytes
+string-small s x = go (leb (x .offset + x .len) (length s)) where
+  go : (t : Bool) → length (cond t (take (x .len) (drop (x .offset) s)) []) ≤ x .len
+  go true = simp length-take (omega arith)
+  go false = omega arith

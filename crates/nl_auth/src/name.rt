@@ -1,11 +1,12 @@
 // Strings C, D and E: names by RFC 1035 in the buffer, which starts at byte 8 of the message.
 ghost use mathlib.Core.Path.{_≡_};
 ghost use mathlib.Core.Logic.{_⊎_};
-ghost use Prim.Native.Nat.{_≤_, _<_};
+ghost use Prim.Native.Nat.{_≤_, _<_, min};
 ghost use lib.ListN.{length};
 ghost use Rattle.wire.specs.Number.{has};
+ghost use Rattle.field.specs.Field.{PartAt};
 ghost use Rattle.nl_auth.specs.declared.name.NameScan.the-variants.{Refused};
-ghost use Rattle.nl_auth.specs.NlAuth.{IsFound, refusalIn, nameAt, nameUnder};
+ghost use Rattle.nl_auth.specs.NlAuth.{bufferOf, inBuffer, IsFound, refusalIn, nameAt, nameUnder};
 use crate::string::NlString;
 use dns_name::Fault;
 use dns_name::Reading;
@@ -13,6 +14,28 @@ use dns_name::read_name;
 use nl_auth_flags::NlAuthFlags;
 use wire::number::has;
 use wire::refusal::Refusal;
+
+// The buffer of a message; of one that is too short for it, the empty part at its end.
+pub fn buffer(msg: &[u8]) -> &[u8]
+    ensures content { λ r. ⌜ now r ≡ bufferOf (now (msg .entry)) ⌝ }
+    ensures place { λ r. ⌜ PartAt (r .ptr) (msg .entry .ptr) (min 8 (length (now (msg .entry)))) ⌝ }
+{
+    if msg.len() < 8 {
+        let end = msg.len();
+        return &msg[end..];
+    }
+    &msg[8..]
+}
+
+// A place of the message, counted from the first byte of the buffer; 0 for one before it.
+pub fn in_buffer(at: u32) -> usize
+    ensures { λ r. ⌜ r ≡ inBuffer at ⌝ }
+{
+    if at < 8 {
+        return 0;
+    }
+    (at - 8) as usize
+}
 
 // What stands at a place: a string and the place where the next one starts, or why its name is refused.
 pub enum NameScan {
