@@ -33,6 +33,7 @@ use negotiate::Negotiate;
 use negotiate::Reading as NegotiateReading;
 use nl_auth::NlAuth;
 use nl_auth::Reading as NlAuthReading;
+use nl_auth::string::NlString;
 use place::written::room_holds;
 use target_info::ServerNames;
 use target_info::Timestamp;
@@ -103,6 +104,24 @@ fn server_names_numbers(names: ServerNames) -> [u64; 2]
     [bit(names.nb_computer_name), bit(names.nb_domain_name)]
 }
 
+fn string_offset(x: NlString) -> u64
+    ensures { λ r. ⌜ r ≡ x .offset ⌝ }
+{
+    x.offset as u64
+}
+
+fn string_len(x: NlString) -> u64
+    ensures { λ r. ⌜ r ≡ x .len ⌝ }
+{
+    x.len as u64
+}
+
+fn string_jumps(x: NlString) -> u64
+    ensures { λ r. ⌜ r ≡ x .jumps ⌝ }
+{
+    x.jumps as u64
+}
+
 fn nl_auth_numbers(m: NlAuth) -> [u64; 15]
     ensures { λ r. ⌜ r ≡ nlAuthNumbers m ⌝ }
 {
@@ -110,19 +129,19 @@ fn nl_auth_numbers(m: NlAuth) -> [u64; 15]
     [
         m.message_type as u64,
         m.flags.bits as u64,
-        s.nb_domain.offset as u64,
-        s.nb_domain.len as u64,
-        s.nb_computer.offset as u64,
-        s.nb_computer.len as u64,
-        s.dns_domain.offset as u64,
-        s.dns_domain.len as u64,
-        s.dns_host.offset as u64,
-        s.dns_host.len as u64,
-        s.utf8_computer.offset as u64,
-        s.utf8_computer.len as u64,
-        s.dns_domain.jumps as u64,
-        s.dns_host.jumps as u64,
-        s.utf8_computer.jumps as u64,
+        string_offset(s.nb_domain),
+        string_len(s.nb_domain),
+        string_offset(s.nb_computer),
+        string_len(s.nb_computer),
+        string_offset(s.dns_domain),
+        string_len(s.dns_domain),
+        string_offset(s.dns_host),
+        string_len(s.dns_host),
+        string_offset(s.utf8_computer),
+        string_len(s.utf8_computer),
+        string_jumps(s.dns_domain),
+        string_jumps(s.dns_host),
+        string_jumps(s.utf8_computer),
     ]
 }
 
