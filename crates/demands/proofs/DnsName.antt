@@ -30,7 +30,7 @@ name-refused s start n = (
     go (Taken m) e h = absurd h
     go (Refused f) e h = subst (λ (x : ℕ). FirstFault s start x) h (refused s start f e)
 
-nextOf : Reading → ℕ
+abbrev nextOf : Reading → ℕ
 nextOf (Taken m) = m .next
 nextOf (Refused e) = 0
 

@@ -26,3 +26,4 @@ pub mod Answers
 pub mod Printed
 pub mod ResponsePairs
 pub mod DnsName
+pub mod DnsText

@@ -529,7 +529,7 @@ nl-auth-refused s n i = go (readNlAuth s) (judged s) where
   go (Taken m) j = (λ t. absurd t, λ f. j .0 n i (f .fails))
   go (Refused e) j = (
     λ t. subst (λ (x : ℕ). NlFirst s n x) (t .1) (subst (λ (x : ℕ). NlFirst s x (fieldOf e)) (t .0) j),
-    λ f. only-raise (numberOf e) (fieldOf e) n i j f,
+    λ f. only-one s (numberOf e) (fieldOf e) n i j f,
   )
 
 pub nl-auth-own : NlAuthOwn

@@ -146,7 +146,7 @@ pieces-plain (b ∷ t) = go (eqb b 0x2E) refl (pieces-plain t) where
   go true p h = (refl, h)
   go false p h = no-stop-on b p (pieces t) h
 
-piece-then : (l t : List ℕ) → beforeStop l ≡ length l → pieces (l ++ (0x2E ∷ t)) ≡ l ∷ pieces t
+pub piece-then : (l t : List ℕ) → beforeStop l ≡ length l → pieces (l ++ (0x2E ∷ t)) ≡ l ∷ pieces t
 unfolding pieces beforeStop
 piece-then [] t h = refl
 piece-then (b ∷ l) t h = go (eqb b 0x2E) h (λ e. piece-then l t e) where

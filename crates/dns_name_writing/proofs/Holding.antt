@@ -102,7 +102,7 @@ module _ (t : List ℕ) where
   pub size-empty : length t ≡ 0 → 1 ≡ min 65536 (length (nameBytes t))
   size-empty h = omega (arith, ap length (bytes-empty t h))
 
-  size-all : (length t ≡ 0 → ⊥) → length (nameBytes t) ≡ length t + 2
+  pub size-all : (length t ≡ 0 → ⊥) → length (nameBytes t) ≡ length t + 2
   size-all h = ap length (bytes-some t h) ∙ coded-size (pieces t) ∙ coded-pieces t
 
   pub size-some : (n : ℕ) → (length t ≡ 0 → ⊥) → n ≡ min 65536 (2 + length t) → n ≡ min 65536 (length (nameBytes t))

@@ -1,11 +1,11 @@
 -- How long a line is at most, by the lengths of its names: a name's text has at most four bytes for each of the name's.
-use Prim.Native.Nat.{ℕ, _+_, _*_, _≤_}
+use Prim.Native.Nat.{ℕ, _+_, _-_, _*_, _≤_}
 use mathlib.Core.Path.{refl}
 use mathlib.Core.Bool.{Bool, true, false, cond}
 use mathlib.Core.List.{List}
 use native.Mathlib.Omega.{arith}
 use lib.Dec.{eqb}
-use lib.ListN.{length, length-append}
+use lib.ListN.{length, drop, length-append}
 use Rattle.text.specs.Text.{ascii}
 use Rattle.field.specs.declared.Field.{Field}
 use Rattle.field.specs.Field.{fieldBytes}
