@@ -13,7 +13,7 @@ use Rattle.negotiate.specs.Negotiate.{fieldsAt as negotiateFieldsAt, checkEnds 
 use Rattle.negotiate_writing.specs.Writing.{flagsToWrite, fieldsTo as negotiateFieldsTo, afterType, fixedBytes as negotiateFixed, negotiateBytes, checkToWrite as negotiateCheck, writeAnswer as negotiateAnswer, writeOut as negotiateOut}
 use Rattle.authenticate.specs.Authenticate.{fieldsAt, checkEnds, checkBegins, checkNames, checkShared, checkFields, micPresent, readingOf, readAuthenticate}
 use Rattle.authenticate_writing.specs.Writing.{fieldsTo, headsBytes, afterHeads, fixedBytes, payloadBytes, authenticateBytes, checkNamesToWrite, checkToWrite, writeAnswer, writeOut}
-use Rattle.nl_auth_writing.specs.Writing.{headBytes as nlHeadBytes, stringBytes, bytesUnder, utf8Bytes, requestBytes, responseBytes, checkZeros, checkRequest, requestAnswer, requestOut, responseAnswer, responseOut}
+use Rattle.nl_auth_writing.specs.Writing.{headBytes as nlHeadBytes, stringBytes, bytesUnder, nameUnder, utf8Bytes, requestBytes, responseBytes, checkZeros, labelsUnder, checkLabels, codedUnder, checkCoded, checkNames as checkTexts, checkRequest, requestAnswer, requestOut, responseAnswer, responseOut}
 use Rattle.respond.specs.Domain.{domainPart}
 use Rattle.respond.specs.Decision.{decisionOn}
 use Rattle.respond.specs.Answer.{lmToSend, micToSend, keyToSend, sendAnswer, sendOut, respondAnswer, respondOut}
@@ -57,7 +57,7 @@ pair-list-example =
     record { length-written = refl; bytes-written = refl; pairs = refl; no-room = refl; kept = refl; odd-name = refl; with-all = refl }
 
 nl-auth-example : NlAuthExample
-unfolding nlHeadBytes stringBytes bytesUnder utf8Bytes requestBytes responseBytes checkZeros checkRequest requestAnswer requestOut responseAnswer responseOut le16 le32
+unfolding nlHeadBytes stringBytes bytesUnder nameUnder utf8Bytes requestBytes responseBytes checkZeros labelsUnder checkLabels codedUnder checkCoded checkTexts checkRequest requestAnswer requestOut responseAnswer responseOut le16 le32
 nl-auth-example =
     record {
       request-length = refl;

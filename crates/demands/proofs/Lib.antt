@@ -27,3 +27,5 @@ pub mod Printed
 pub mod ResponsePairs
 pub mod DigitByDigit
 pub mod ThinCalls
+pub mod DnsName
+pub mod DnsText

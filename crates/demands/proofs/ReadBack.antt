@@ -2,25 +2,23 @@
 pub mod WriteBack
 pub mod NegotiateBack
 pub mod Sent
-use Prim.Native.Nat.{ℕ, suc, _+_, _/_, _%_, _≤_}
+use Prim.Native.Nat.{ℕ, zero, suc, _+_, _-_, _/_, _%_, _≤_}
 use mathlib.Core.Path.{_≡_, refl, sym, ap, _∙_, subst}
 use mathlib.Core.Bool.{Bool, true, false, not, cond}
 use mathlib.Core.List.{List, [], _∷_, _++_, append-assoc}
 use native.Mathlib.Omega.{arith}
 use lib.Dec.{leb, ltb, eqb}
-use lib.ListN.{length, take, drop, length-append}
-use lib.Seq.{take-append-seam, drop-append-seam}
+use lib.ListN.{length, take, drop, length-append, length-drop}
+use lib.Seq.{take-append-seam, drop-append-seam, drop-append-le}
 use borrow.Author.Tests.{ltb-false, lt-ltb, le-ltb, le-leb, eq-eqb}
 use Rattle.wire.specs.declared.check.Checked.the-variants.{Held}
 use Rattle.wire.specs.declared.check.Verdict.{Verdict}
 use Rattle.wire.specs.declared.check.Verdict.the-variants.{Clear, Refused as Not}
 use Rattle.wire.proofs.Laws.{held-true}
-use Rattle.field.specs.declared.Field.{Field}
-use Rattle.wire.specs.declared.refusal.Refusal.the-variants.{NoRoom, ZeroInString}
+use Rattle.wire.specs.declared.refusal.Refusal.the-variants.{NoRoom, ZeroInString, WrongLabel, NameTooLong}
 use Rattle.wire.specs.Check.{checked, after}
-use Rattle.field.specs.Field.{noField, fieldBytes}
 use Rattle.wire.specs.Number.{u32At}
-use Rattle.field.proofs.Fields.{own-bytes}
+use Rattle.nl_auth.proofs.Names.{own-bytes}
 use Rattle.place.specs.declared.written.Written.the-variants.{Length, Refused as Unwritten}
 use Rattle.place.specs.Place.{le16, le32}
 use Rattle.place.specs.Written.{atFront, answered, outAfter}
@@ -28,12 +26,22 @@ use Rattle.place.proofs.Numbers.{length-le32, back32}
 use Rattle.nl_auth_flags.specs.declared.NlAuthFlags.{NlAuthFlags}
 use Rattle.nl_auth.specs.declared.NlAuth.{NlAuth}
 use Rattle.nl_auth.specs.declared.Reading.the-variants.{Taken}
+use Rattle.nl_auth.specs.declared.string.NlString.{NlString}
 use Rattle.nl_auth.specs.declared.string.Scan.the-variants.{Found}
+use Rattle.nl_auth.specs.declared.name.NameScan.the-variants.{Found as Named, Refused as NotNamed}
+use Rattle.nl_auth_text.specs.StringText.{utf8Text}
+use Rattle.dns_name.specs.declared.Reading.{Reading as NameReading}
+use Rattle.dns_name.specs.declared.Reading.the-variants.{Taken as Read}
+use Rattle.dns_name.specs.DnsName.{readName, labelsAt}
+use Rattle.dns_name_text.specs.DnsNameText.{nameText as dnsText}
+use Rattle.dns_name_writing.specs.Writing.{labelsOf, nameBytes, textHolds, codedHolds}
+use Rattle.dns_name_writing.proofs.Back.{back as name-back}
 use Rattle.nl_auth_flags.specs.Flags.{nbDomain, nbComputer, dnsDomain, dnsHost, utf8Computer, known, noFlags, stringsHold}
-use Rattle.nl_auth.specs.NlAuth.{beforeZero, holdsZero, stringAt, stringUnder, flagsAt, readUtf8, emptyStrings, readRequest, readResponse, readNlAuth}
-use Rattle.nl_auth_writing.specs.Writing.{headBytes, stringBytes, bytesUnder, utf8Bytes, requestBytes, responseBytes, noZero, checkZeros, checkRequest, requestAnswer, requestOut, responseAnswer, responseOut}
-use Rattle.demands.specs.ReadBack.{NlRequestReadsBack, ResponseBack, NlResponseReadsBack}
-use Rattle.demands.proofs.Kept.{request-holds}
+use Rattle.nl_auth.specs.NlAuth.{noString, stringBytes as ownBytes, labelsOf as labelsIn, beforeZero, holdsZero, stringAt, stringUnder, refusalIn, nameString, onName, nameAt, nameUnder as readUnder, flagsAt, readUtf8, emptyStrings, readRequest, readResponse, readNlAuth}
+use Rattle.nl_auth_writing.specs.Writing.{headBytes, stringBytes, bytesUnder, nameUnder, utf8Bytes, requestBytes, responseBytes, noZero, checkZeros, labelsUnder, checkLabels, codedUnder, checkCoded, checkNames, checkRequest, requestAnswer, requestOut, responseAnswer, responseOut}
+use Rattle.demands.specs.ReadBack.{NameBack, NlRequestReadsBack, ResponseBack, NlResponseReadsBack}
+use Rattle.demands.proofs.DnsText.{text-labels, text-shown}
+use Rattle.demands.proofs.Kept.{request-holds, clear-both}
 use Rattle.demands.proofs.Bools.{true-not-false, after-held, bit1, bit2, bit4, bit8, bit16}
 
 -- ---- one string
@@ -49,13 +57,13 @@ up-to-zero (y ∷ ys) rest h = go (eqb y 0) refl h (up-to-zero ys rest) where
   go false p q ih =
       ap suc (ih (le-ltb (beforeZero ys) (length ys) (omega (arith, ltb-false (suc (beforeZero ys)) (suc (length ys)) q))))
 
--- the field of a string that is written after `pre`
-abbrev fieldFor : Bool → ℕ → List ℕ → Field
-fieldFor b at x = cond b (record { offset = at; len = length x }) noField
+-- string A or B that is written after `pre`
+abbrev stringFor : Bool → ℕ → List ℕ → NlString
+stringFor b at x = cond b (record { offset = at; len = length x; jumps = 0 }) noString
 
 module _ (s pre x rest : List ℕ) where
   found : s ≡ pre ++ (stringBytes x ++ rest) → holdsZero x ≡ false →
-      stringAt s (length pre) ≡ Found (record { offset = length pre; len = length x }) (length (pre ++ stringBytes x))
+      stringAt s (length pre) ≡ Found (record { offset = length pre; len = length x; jumps = 0 }) (length (pre ++ stringBytes x))
   unfolding stringAt stringBytes
   found e h =
       let buffer : drop (length pre) s ≡ (x ++ (0 ∷ [])) ++ rest = ap (λ (l : List ℕ). drop (length pre) l) e ∙ drop-append-seam pre ((x ++ (0 ∷ [])) ++ rest) in
@@ -64,10 +72,10 @@ module _ (s pre x rest : List ℕ) where
       let inside : ltb (length x) (length ((x ++ (0 ∷ [])) ++ rest)) ≡ true = lt-ltb (length x) (length ((x ++ (0 ∷ [])) ++ rest)) (simp length-append (omega arith)) in
       simp (buffer, zero, inside, next)
 
-  bytes : s ≡ pre ++ (stringBytes x ++ rest) → fieldBytes s (record { offset = length pre; len = length x }) ≡ x
+  bytes : s ≡ pre ++ (stringBytes x ++ rest) → ownBytes s (record { offset = length pre; len = length x; jumps = 0 }) ≡ x
   unfolding stringBytes
   bytes e =
-      own-bytes s (record { offset = length pre; len = length x }) (simp (e, length-append) (omega arith))
+      own-bytes s (record { offset = length pre; len = length x; jumps = 0 }) (simp (e, length-append) (omega arith))
       ∙ ap (λ (l : List ℕ). take (length x) l) (ap (λ (l : List ℕ). drop (length pre) l) e ∙ drop-append-seam pre ((x ++ (0 ∷ [])) ++ rest) ∙ append-assoc x (0 ∷ []) rest)
       ∙ take-append-seam x ((0 ∷ []) ++ rest)
 
@@ -76,15 +84,66 @@ append-none [] = refl
 append-none (x ∷ xs) = ap (λ (l : List ℕ). x ∷ l) (append-none xs)
 
 scan : (s pre x rest : List ℕ) (b : Bool) → s ≡ pre ++ (bytesUnder b x ++ rest) → (b ≡ true → holdsZero x ≡ false) →
-    stringUnder b s (length pre) ≡ Found (fieldFor b (length pre) x) (length (pre ++ bytesUnder b x))
+    stringUnder b s (length pre) ≡ Found (stringFor b (length pre) x) (length (pre ++ bytesUnder b x))
 unfolding stringUnder bytesUnder
 scan s pre x rest true e h = found s pre x rest e (h refl)
 scan s pre x rest false e h = simp append-none
 
-scan-bytes : (s pre x rest : List ℕ) (b : Bool) → s ≡ pre ++ (bytesUnder b x ++ rest) → b ≡ true → fieldBytes s (fieldFor b (length pre) x) ≡ x
+scan-bytes : (s pre x rest : List ℕ) (b : Bool) → s ≡ pre ++ (bytesUnder b x ++ rest) → b ≡ true → ownBytes s (stringFor b (length pre) x) ≡ x
 unfolding bytesUnder
 scan-bytes s pre x rest true e h = bytes s pre x rest e
 scan-bytes s pre x rest false e h = absurd (true-not-false (sym h))
+
+-- ---- a name
+
+-- string C, D or E
+abbrev nameFor : Bool → ℕ → List ℕ → NlString
+nameFor b at x = cond b (record { offset = at; len = length (nameBytes x); jumps = 0 }) noString
+
+module _ (s pre x rest : List ℕ) (e : s ≡ pre ++ (nameBytes x ++ rest)) (l : 8 ≤ length pre) (h : textHolds x ≡ Held) (g : codedHolds x ≡ Held) where
+  buffer : drop 8 s ≡ drop 8 pre ++ (nameBytes x ++ rest)
+  buffer = ap (λ (k : List ℕ). drop 8 k) e ∙ drop-append-le 8 pre (nameBytes x ++ rest) l
+
+  place : length (drop 8 pre) ≡ length pre - 8
+  place = length-drop 8 pre
+
+  name-read : readName (drop 8 s) (length pre - 8) ≡ Read (record { jumps = 0; next = length pre - 8 + length (nameBytes x) })
+  name-read =
+      subst (λ (n : ℕ). readName (drop 8 s) n ≡ Read (record { jumps = 0; next = n + length (nameBytes x) })) place
+      (ap (λ (k : List ℕ). readName k (length (drop 8 pre))) buffer ∙ name-back x (drop 8 pre) rest h g .0)
+
+  name-labels : labelsAt (drop 8 s) (length pre - 8) ≡ labelsOf x
+  name-labels =
+      subst (λ (n : ℕ). labelsAt (drop 8 s) n ≡ labelsOf x) place
+      (ap (λ (k : List ℕ). labelsAt k (length (drop 8 pre))) buffer ∙ name-back x (drop 8 pre) rest h g .1)
+
+  name-found : (i : ℕ) → nameAt s (length pre) i ≡ Named (record { offset = length pre; len = length (nameBytes x); jumps = 0 }) (length (pre ++ nameBytes x))
+  unfolding nameAt
+  name-found i =
+      let len : 8 + (length pre - 8 + length (nameBytes x)) - length pre ≡ length (nameBytes x) = omega arith in
+      let next : 8 + (length pre - 8 + length (nameBytes x)) ≡ length (pre ++ nameBytes x) = simp length-append (omega arith) in
+      ap (λ (r : NameReading). onName r (λ m. Named (nameString (length pre) m) (8 + m .next)) (λ f. NotNamed (refusalIn f i))) name-read
+      ∙ ap (λ (n : ℕ). Named (record { offset = length pre; len = n; jumps = 0 }) (8 + (length pre - 8 + length (nameBytes x)))) len
+      ∙ ap (λ (n : ℕ). Named (record { offset = length pre; len = length (nameBytes x); jumps = 0 }) n) next
+
+name-scan : (s pre x rest : List ℕ) (b : Bool) (i : ℕ) → s ≡ pre ++ (nameUnder b x ++ rest) → 8 ≤ length pre →
+    labelsUnder (b, x) ≡ Held → codedUnder (b, x) ≡ Held →
+    readUnder b s (length pre) i ≡ Named (nameFor b (length pre) x) (length (pre ++ nameUnder b x))
+unfolding readUnder nameUnder labelsUnder codedUnder
+name-scan s pre x rest true i e l h g = name-found s pre x rest e l h g i
+name-scan s pre x rest false i e l h g = simp append-none
+
+name-same : (s pre x rest : List ℕ) (b : Bool) → s ≡ pre ++ (nameUnder b x ++ rest) → 8 ≤ length pre →
+    labelsUnder (b, x) ≡ Held → codedUnder (b, x) ≡ Held → b ≡ true → NameBack s (nameFor b (length pre) x) x
+unfolding nameUnder labelsUnder codedUnder utf8Text
+name-same s pre x rest true e l h g q =
+    let ls : labelsAt (drop 8 s) (length pre - 8) ≡ labelsOf x = name-labels s pre x rest e l h g in
+    record {
+      labels = rw ls (text-labels x);
+      no-jumps = refl;
+      shown = λ p. ap dnsText ls ∙ text-shown x p;
+    }
+name-same s pre x rest false e l h g q = absurd (true-not-false (sym q))
 
 -- ---- a request
 
@@ -107,10 +166,31 @@ abbrev pre2 : NlAuthFlags → List ℕ → List ℕ → List ℕ
 pre2 w a b = pre1 w a ++ bytesUnder (nbComputer w) b
 
 abbrev pre3 : NlAuthFlags → List ℕ → List ℕ → List ℕ → List ℕ
-pre3 w a b c = pre2 w a b ++ bytesUnder (dnsDomain w) c
+pre3 w a b c = pre2 w a b ++ nameUnder (dnsDomain w) c
 
 abbrev pre4 : NlAuthFlags → List ℕ → List ℕ → List ℕ → List ℕ → List ℕ
-pre4 w a b c d = pre3 w a b c ++ bytesUnder (dnsHost w) d
+pre4 w a b c d = pre3 w a b c ++ nameUnder (dnsHost w) d
+
+-- checks 50 and 53 held for each of C, D and E
+record NamesHold (w : NlAuthFlags) (c d e : List ℕ) : Type 0 where
+  labels-c : labelsUnder (dnsDomain w, c) ≡ Held
+  labels-d : labelsUnder (dnsHost w, d) ≡ Held
+  labels-e : labelsUnder (utf8Computer w, e) ≡ Held
+  coded-c : codedUnder (dnsDomain w, c) ≡ Held
+  coded-d : codedUnder (dnsHost w, d) ≡ Held
+  coded-e : codedUnder (utf8Computer w, e) ≡ Held
+
+names-hold : (w : NlAuthFlags) (c d e : List ℕ) → checkNames w c d e ≡ Clear → NamesHold w c d e
+unfolding checkNames checkLabels checkCoded
+names-hold w c d e h =
+    let k = clear-both (checkLabels w c d e) (checkCoded w c d e) h in
+    let l3 = after-held (labelsUnder (dnsDomain w, c)) (WrongLabel 3) _ (k .0) in
+    let l4 = after-held (labelsUnder (dnsHost w, d)) (WrongLabel 4) _ (l3 .1) in
+    let l5 = after-held (labelsUnder (utf8Computer w, e)) (WrongLabel 5) _ (l4 .1) in
+    let c3 = after-held (codedUnder (dnsDomain w, c)) (NameTooLong 3) _ (k .1) in
+    let c4 = after-held (codedUnder (dnsHost w, d)) (NameTooLong 4) _ (c3 .1) in
+    let c5 = after-held (codedUnder (utf8Computer w, e)) (NameTooLong 5) _ (c4 .1) in
+    record { labels-c = l3 .0; labels-d = l4 .0; labels-e = l5 .0; coded-c = c3 .0; coded-d = c4 .0; coded-e = c5 .0 }
 
 -- the message that a request reads back as
 abbrev back : NlAuthFlags → List ℕ → List ℕ → List ℕ → List ℕ → List ℕ → NlAuth
@@ -119,11 +199,11 @@ back w a b c d e =
       «message_type» = 0;
       flags = w;
       strings = record {
-        «nb_domain» = fieldFor (nbDomain w) (length (headBytes 0 w)) a;
-        «nb_computer» = fieldFor (nbComputer w) (length (pre1 w a)) b;
-        «dns_domain» = fieldFor (dnsDomain w) (length (pre2 w a b)) c;
-        «dns_host» = fieldFor (dnsHost w) (length (pre3 w a b c)) d;
-        «utf8_computer» = fieldFor (utf8Computer w) (length (pre4 w a b c d)) e;
+        «nb_domain» = stringFor (nbDomain w) (length (headBytes 0 w)) a;
+        «nb_computer» = stringFor (nbComputer w) (length (pre1 w a)) b;
+        «dns_domain» = nameFor (dnsDomain w) (length (pre2 w a b)) c;
+        «dns_host» = nameFor (dnsHost w) (length (pre3 w a b c)) d;
+        «utf8_computer» = nameFor (utf8Computer w) (length (pre4 w a b c d)) e;
       };
     }
 
@@ -132,57 +212,64 @@ unfolding headBytes
 head-long t w = simp (length-append, length-le32)
 
 module _ (w : NlAuthFlags) (a b c d e : List ℕ) where
-  at0 : requestBytes w a b c d e ≡ headBytes 0 w ++ (bytesUnder (nbDomain w) a ++ (bytesUnder (nbComputer w) b ++ (bytesUnder (dnsDomain w) c ++ (bytesUnder (dnsHost w) d ++ bytesUnder (utf8Computer w) e))))
+  at0 : requestBytes w a b c d e ≡ headBytes 0 w ++ (bytesUnder (nbDomain w) a ++ (bytesUnder (nbComputer w) b ++ (nameUnder (dnsDomain w) c ++ (nameUnder (dnsHost w) d ++ nameUnder (utf8Computer w) e))))
   unfolding requestBytes utf8Bytes
   at0 = refl
 
-  at1 : requestBytes w a b c d e ≡ pre1 w a ++ (bytesUnder (nbComputer w) b ++ (bytesUnder (dnsDomain w) c ++ (bytesUnder (dnsHost w) d ++ bytesUnder (utf8Computer w) e)))
+  at1 : requestBytes w a b c d e ≡ pre1 w a ++ (bytesUnder (nbComputer w) b ++ (nameUnder (dnsDomain w) c ++ (nameUnder (dnsHost w) d ++ nameUnder (utf8Computer w) e)))
   at1 = regroup (requestBytes w a b c d e) (headBytes 0 w) (bytesUnder (nbDomain w) a) _ at0
 
-  at2 : requestBytes w a b c d e ≡ pre2 w a b ++ (bytesUnder (dnsDomain w) c ++ (bytesUnder (dnsHost w) d ++ bytesUnder (utf8Computer w) e))
+  at2 : requestBytes w a b c d e ≡ pre2 w a b ++ (nameUnder (dnsDomain w) c ++ (nameUnder (dnsHost w) d ++ nameUnder (utf8Computer w) e))
   at2 = regroup (requestBytes w a b c d e) (pre1 w a) (bytesUnder (nbComputer w) b) _ at1
 
-  at3 : requestBytes w a b c d e ≡ pre3 w a b c ++ (bytesUnder (dnsHost w) d ++ bytesUnder (utf8Computer w) e)
-  at3 = regroup (requestBytes w a b c d e) (pre2 w a b) (bytesUnder (dnsDomain w) c) _ at2
+  at3 : requestBytes w a b c d e ≡ pre3 w a b c ++ (nameUnder (dnsHost w) d ++ nameUnder (utf8Computer w) e)
+  at3 = regroup (requestBytes w a b c d e) (pre2 w a b) (nameUnder (dnsDomain w) c) _ at2
 
-  at4 : requestBytes w a b c d e ≡ pre4 w a b c d ++ (bytesUnder (utf8Computer w) e ++ [])
+  at4 : requestBytes w a b c d e ≡ pre4 w a b c d ++ (nameUnder (utf8Computer w) e ++ [])
   at4 =
-      regroup (requestBytes w a b c d e) (pre3 w a b c) (bytesUnder (dnsHost w) d) _ at3
-      ∙ ap (λ (l : List ℕ). pre4 w a b c d ++ l) (sym (append-none (bytesUnder (utf8Computer w) e)))
+      regroup (requestBytes w a b c d e) (pre3 w a b c) (nameUnder (dnsHost w) d) _ at3
+      ∙ ap (λ (l : List ℕ). pre4 w a b c d ++ l) (sym (append-none (nameUnder (utf8Computer w) e)))
 
-  at5 : requestBytes w a b c d e ≡ pre4 w a b c d ++ bytesUnder (utf8Computer w) e
-  at5 = regroup (requestBytes w a b c d e) (pre3 w a b c) (bytesUnder (dnsHost w) d) _ at3
+  at5 : requestBytes w a b c d e ≡ pre4 w a b c d ++ nameUnder (utf8Computer w) e
+  at5 = regroup (requestBytes w a b c d e) (pre3 w a b c) (nameUnder (dnsHost w) d) _ at3
+
+  -- each stands behind the head
+  pub long2 : 8 ≤ length (pre2 w a b)
+  long2 = simp length-append (omega (arith, head-long 0 w))
+
+  pub long3 : 8 ≤ length (pre3 w a b c)
+  long3 = simp length-append (omega (arith, head-long 0 w))
+
+  pub long4 : 8 ≤ length (pre4 w a b c d)
+  long4 = simp length-append (omega (arith, head-long 0 w))
 
   -- the strings that are read are those that were written
-  utf8-back : (fa fb : Field) → (dnsDomain w ≡ true → holdsZero c ≡ false) → (dnsHost w ≡ true → holdsZero d ≡ false) → (utf8Computer w ≡ true → holdsZero e ≡ false) →
+  utf8-back : (fa fb : NlString) → NamesHold w c d e →
       readUtf8 w (requestBytes w a b c d e) fa fb (length (pre2 w a b)) ≡
-      Taken (record { «message_type» = 0; flags = w; strings = record { «nb_domain» = fa; «nb_computer» = fb; «dns_domain» = fieldFor (dnsDomain w) (length (pre2 w a b)) c; «dns_host» = fieldFor (dnsHost w) (length (pre3 w a b c)) d; «utf8_computer» = fieldFor (utf8Computer w) (length (pre4 w a b c d)) e } })
+      Taken (record { «message_type» = 0; flags = w; strings = record { «nb_domain» = fa; «nb_computer» = fb; «dns_domain» = nameFor (dnsDomain w) (length (pre2 w a b)) c; «dns_host» = nameFor (dnsHost w) (length (pre3 w a b c)) d; «utf8_computer» = nameFor (utf8Computer w) (length (pre4 w a b c d)) e } })
   unfolding readUtf8
-  utf8-back fa fb zc zd ze =
+  utf8-back fa fb h =
       simp (
-        scan (requestBytes w a b c d e) (pre2 w a b) c _ (dnsDomain w) at2 zc,
-        scan (requestBytes w a b c d e) (pre3 w a b c) d _ (dnsHost w) at3 zd,
-        scan (requestBytes w a b c d e) (pre4 w a b c d) e _ (utf8Computer w) at4 ze,
-        eq-eqb (length (pre4 w a b c d ++ bytesUnder (utf8Computer w) e)) (length (requestBytes w a b c d e)) (ap length (sym at5)),
+        name-scan (requestBytes w a b c d e) (pre2 w a b) c _ (dnsDomain w) 3 at2 long2 (h .labels-c) (h .coded-c),
+        name-scan (requestBytes w a b c d e) (pre3 w a b c) d _ (dnsHost w) 4 at3 long3 (h .labels-d) (h .coded-d),
+        name-scan (requestBytes w a b c d e) (pre4 w a b c d) e _ (utf8Computer w) 5 at4 long4 (h .labels-e) (h .coded-e),
+        eq-eqb (length (pre4 w a b c d ++ nameUnder (utf8Computer w) e)) (length (requestBytes w a b c d e)) (ap length (sym at5)),
       )
 
-  request-back : stringsHold w ≡ Held → checkZeros w a b c d e ≡ Clear → readRequest w (requestBytes w a b c d e) ≡ Taken (back w a b c d e)
+  request-back : stringsHold w ≡ Held → checkZeros w a b c d e ≡ Clear → NamesHold w c d e → readRequest w (requestBytes w a b c d e) ≡ Taken (back w a b c d e)
   unfolding readRequest checkZeros
-  request-back held zeros =
+  request-back held zeros names =
       let s = requestBytes w a b c d e in
       let z1 = after-held (noZero (nbDomain w, a)) (ZeroInString 1) _ zeros in
       let z2 = after-held (noZero (nbComputer w, b)) (ZeroInString 2) _ (z1 .1) in
-      let z3 = after-held (noZero (dnsDomain w, c)) (ZeroInString 3) _ (z2 .1) in
-      let z4 = after-held (noZero (dnsHost w, d)) (ZeroInString 4) _ (z3 .1) in
-      let z5 = after-held (noZero (utf8Computer w, e)) (ZeroInString 5) _ (z4 .1) in
-      let s1 : stringUnder (nbDomain w) s 8 ≡ Found (fieldFor (nbDomain w) (length (headBytes 0 w)) a) (length (pre1 w a)) =
-      subst (λ (k : ℕ). stringUnder (nbDomain w) s k ≡ Found (fieldFor (nbDomain w) (length (headBytes 0 w)) a) (length (pre1 w a))) (head-long 0 w)
+      let s1 : stringUnder (nbDomain w) s 8 ≡ Found (stringFor (nbDomain w) (length (headBytes 0 w)) a) (length (pre1 w a)) =
+      subst (λ (k : ℕ). stringUnder (nbDomain w) s k ≡ Found (stringFor (nbDomain w) (length (headBytes 0 w)) a) (length (pre1 w a))) (head-long 0 w)
       (scan s (headBytes 0 w) a _ (nbDomain w) at0 (no-zero (nbDomain w) a (z1 .0))) in
       simp (
         held,
         s1,
         scan s (pre1 w a) b _ (nbComputer w) at1 (no-zero (nbComputer w) b (z2 .0)),
-        utf8-back (fieldFor (nbDomain w) (length (headBytes 0 w)) a) (fieldFor (nbComputer w) (length (pre1 w a)) b) (no-zero (dnsDomain w) c (z3 .0)) (no-zero (dnsHost w) d (z4 .0)) (no-zero (utf8Computer w) e (z5 .0)),
+        utf8-back (stringFor (nbDomain w) (length (headBytes 0 w)) a) (stringFor (nbComputer w) (length (pre1 w a)) b) names,
       )
 
   -- the head reads back
@@ -198,12 +285,12 @@ module _ (w : NlAuthFlags) (a b c d e : List ℕ) where
   long = simp (at0, length-append) (omega (arith, head-long 0 w))
 
   -- with bits A to E alone
-  read-back : w .bits % 32 ≡ w .bits → stringsHold w ≡ Held → checkZeros w a b c d e ≡ Clear → length (requestBytes w a b c d e) ≤ 65535 →
+  read-back : w .bits % 32 ≡ w .bits → stringsHold w ≡ Held → checkZeros w a b c d e ≡ Clear → NamesHold w c d e → length (requestBytes w a b c d e) ≤ 65535 →
       readNlAuth (requestBytes w a b c d e) ≡ Taken (back w a b c d e)
   unfolding readNlAuth
-  read-back low held zeros size =
+  read-back low held zeros names size =
       let w-same : flagsAt (requestBytes w a b c d e) ≡ w = ap (λ (n : ℕ). record { bits = n }) (ap (λ (n : ℕ). n % 32) flags-back ∙ low) in
-      simp (le-leb (length (requestBytes w a b c d e)) 65535 size, le-leb 8 (length (requestBytes w a b c d e)) long, type-back, w-same) (request-back held zeros)
+      simp (le-leb (length (requestBytes w a b c d e)) 65535 size, le-leb 8 (length (requestBytes w a b c d e)) long, type-back, w-same) (request-back held zeros names)
 
 -- the bytes that were written are the whole message
 pub written-is : (v : Verdict) (bytes out : List ℕ) (n : ℕ) → answered v bytes ≡ Length n → (v ≡ Clear) × (take n (outAfter v bytes out) ≡ bytes)
@@ -218,17 +305,18 @@ nl-request-reads-back out flags a b c d e n h =
     let w = known flags in
     let t = written-is (checkRequest (length out) w a b c d e) (requestBytes w a b c d e) out n h in
     let r = request-holds (length out) w a b c d e (t .0) in
+    let k = names-hold w c d e (r .names) in
     rw (t .1)
     (record {
       message = back w a b c d e;
-      read = read-back w a b c d e (low (flags .bits)) (r .strings) (r .zeros) (r .size);
+      read = read-back w a b c d e (low (flags .bits)) (r .strings) (r .zeros) k (r .size);
       message-type = refl;
       flags-same = refl;
       a-same = λ q. scan-bytes (requestBytes w a b c d e) (headBytes 0 w) a _ (nbDomain w) (at0 w a b c d e) (bit 0x1 (bit1 (flags .bits)) q);
       b-same = λ q. scan-bytes (requestBytes w a b c d e) (pre1 w a) b _ (nbComputer w) (at1 w a b c d e) (bit 0x2 (bit2 (flags .bits)) q);
-      c-same = λ q. scan-bytes (requestBytes w a b c d e) (pre2 w a b) c _ (dnsDomain w) (at2 w a b c d e) (bit 0x4 (bit4 (flags .bits)) q);
-      d-same = λ q. scan-bytes (requestBytes w a b c d e) (pre3 w a b c) d _ (dnsHost w) (at3 w a b c d e) (bit 0x8 (bit8 (flags .bits)) q);
-      e-same = λ q. scan-bytes (requestBytes w a b c d e) (pre4 w a b c d) e _ (utf8Computer w) (at4 w a b c d e) (bit 0x10 (bit16 (flags .bits)) q);
+      c-same = λ q. name-same (requestBytes w a b c d e) (pre2 w a b) c _ (dnsDomain w) (at2 w a b c d e) (long2 w a b c d e) (k .labels-c) (k .coded-c) (bit 0x4 (bit4 (flags .bits)) q);
+      d-same = λ q. name-same (requestBytes w a b c d e) (pre3 w a b c) d _ (dnsHost w) (at3 w a b c d e) (long3 w a b c d e) (k .labels-d) (k .coded-d) (bit 0x8 (bit8 (flags .bits)) q);
+      e-same = λ q. name-same (requestBytes w a b c d e) (pre4 w a b c d) e _ (utf8Computer w) (at4 w a b c d e) (long4 w a b c d e) (k .labels-e) (k .coded-e) (bit 0x10 (bit16 (flags .bits)) q);
     })
   where
     low : (v : ℕ) → v % 0x20 % 32 ≡ v % 0x20

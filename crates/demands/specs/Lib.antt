@@ -26,3 +26,4 @@ pub mod Printed
 pub mod ResponsePairs
 pub mod DigitByDigit
 pub mod ThinCalls
+pub mod DnsName

@@ -1,5 +1,6 @@
 -- Demand 2: "An AUTHENTICATE we write reads back with the same flags, six fields and MIC." And NL_AUTH: type, flags A to E and
--- each string under a set bit. And, by request 1/12, NEGOTIATE: both names, and the caller's flags with the bits of the names as
+-- each string under a set bit; C, D and E with the labels of their texts and no jumps, and in the line with the text again where
+-- its bytes are plain. And, by request 1/12, NEGOTIATE: both names, and the caller's flags with the bits of the names as
 -- the names make them.
 use Prim.Native.Nat.{ℕ, _/_, _%_, _<_}
 use mathlib.Core.Path.{_≡_}
@@ -22,8 +23,17 @@ use Rattle.nl_auth_flags.specs.declared.NlAuthFlags.{NlAuthFlags}
 use Rattle.nl_auth.specs.declared.NlAuth.{NlAuth}
 use Rattle.nl_auth.specs.declared.Reading.the-variants.{Taken}
 use Rattle.nl_auth_flags.specs.Flags.{nbDomain, nbComputer, dnsDomain, dnsHost, utf8Computer, known}
-use Rattle.nl_auth.specs.NlAuth.{readNlAuth}
+use Rattle.nl_auth.specs.declared.string.NlString.{NlString}
+use Rattle.nl_auth.specs.NlAuth.{stringBytes, labelsOf, readNlAuth}
+use Rattle.nl_auth_text.specs.StringText.{utf8Text}
 use Rattle.nl_auth_writing.specs.Writing.{requestAnswer, requestOut, responseAnswer, responseOut}
+use Rattle.demands.specs.DnsName.{TextLabels, Plain}
+
+-- the name x read back from the bytes s, of this text
+pub record NameBack (s : List ℕ) (x : NlString) (text : List ℕ) : Type 0 where
+  pub labels : TextLabels text (labelsOf s x)
+  pub no-jumps : x .jumps ≡ 0
+  pub shown : Plain text → utf8Text s x ≡ text
 
 -- the message m read back from the bytes s: a request with these flags and strings
 pub record RequestBack (s : List ℕ) (flags : NlAuthFlags) (a b c d e : List ℕ) : Type 0 where
@@ -31,11 +41,11 @@ pub record RequestBack (s : List ℕ) (flags : NlAuthFlags) (a b c d e : List �
   pub read : readNlAuth s ≡ Taken message
   pub message-type : message .«message_type» ≡ 0
   pub flags-same : message .flags ≡ known flags
-  pub a-same : nbDomain flags ≡ true → fieldBytes s (message .strings .«nb_domain») ≡ a
-  pub b-same : nbComputer flags ≡ true → fieldBytes s (message .strings .«nb_computer») ≡ b
-  pub c-same : dnsDomain flags ≡ true → fieldBytes s (message .strings .«dns_domain») ≡ c
-  pub d-same : dnsHost flags ≡ true → fieldBytes s (message .strings .«dns_host») ≡ d
-  pub e-same : utf8Computer flags ≡ true → fieldBytes s (message .strings .«utf8_computer») ≡ e
+  pub a-same : nbDomain flags ≡ true → stringBytes s (message .strings .«nb_domain») ≡ a
+  pub b-same : nbComputer flags ≡ true → stringBytes s (message .strings .«nb_computer») ≡ b
+  pub c-same : dnsDomain flags ≡ true → NameBack s (message .strings .«dns_domain») c
+  pub d-same : dnsHost flags ≡ true → NameBack s (message .strings .«dns_host») d
+  pub e-same : utf8Computer flags ≡ true → NameBack s (message .strings .«utf8_computer») e
 
 -- for every call that is not refused: the first n bytes of the output, n being the answer
 abbrev pub NlRequestReadsBack : Type 0

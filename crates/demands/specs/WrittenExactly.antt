@@ -20,6 +20,7 @@ use Rattle.nl_auth_flags.specs.Flags.{known}
 use Rattle.nl_auth_writing.specs.Writing.{requestAnswer, responseAnswer}
 use Rattle.demands.specs.Order.{FirstIn, check}
 use Rattle.demands.specs.Message.{FlagSet}
+use Rattle.demands.specs.DnsName.{LabelsFail, codedSize}
 use Rattle.demands.specs.NlAuth.{maskOf}
 
 abbrev pub WritingRefusedWith : Written → ℕ → ℕ → Type 0
@@ -101,9 +102,13 @@ NegotiateIsWritten =
 abbrev pub sizeUnder : ℕ → ℕ → List ℕ → ℕ
 sizeUnder bits mask x = cond (eqb (bits / mask % 2) 1) (length x + 1) 0
 
+-- and a name, C to E
+abbrev pub nameSizeUnder : ℕ → ℕ → List ℕ → ℕ
+nameSizeUnder bits mask x = cond (eqb (bits / mask % 2) 1) (codedSize x) 0
+
 abbrev pub requestSize : ℕ → List ℕ → List ℕ → List ℕ → List ℕ → List ℕ → ℕ
 requestSize bits a b c d e =
-    8 + (sizeUnder bits 0x1 a + (sizeUnder bits 0x2 b + (sizeUnder bits 0x4 c + (sizeUnder bits 0x8 d + sizeUnder bits 0x10 e))))
+    8 + (sizeUnder bits 0x1 a + (sizeUnder bits 0x2 b + (nameSizeUnder bits 0x4 c + (nameSizeUnder bits 0x8 d + nameSizeUnder bits 0x10 e))))
 
 -- A to E are strings 1 to 5
 abbrev pub stringOf : List ℕ → List ℕ → List ℕ → List ℕ → List ℕ → ℕ → List ℕ
@@ -116,15 +121,21 @@ abbrev pub RequestWritingFails : ℕ → ℕ → List ℕ → List ℕ → List 
 RequestWritingFails room bits a b c d e n i =
     check 14 n ((i ≡ 0) × ((k : ℕ) → 1 ≤ k → k ≤ 5 → FlagSet bits (maskOf k) → ⊥)) (
     check 34 n ((1 ≤ i) × (i ≤ 5) × FlagSet bits (maskOf i) × HoldsZero (stringOf a b c d e i)) (
+    check 50 n ((3 ≤ i) × (i ≤ 5) × FlagSet bits (maskOf i) × LabelsFail (stringOf a b c d e i)) (
+    check 53 n ((3 ≤ i) × (i ≤ 5) × FlagSet bits (maskOf i) × (255 < codedSize (stringOf a b c d e i))) (
     check 30 n (Fails30 (requestSize bits a b c d e) i) (
     check 33 n (Fails33 room (requestSize bits a b c d e) i)
-    ⊥)))
+    ⊥)))))
 
--- "Writing an NL_AUTH request: 14, 34, 30, 33; a response: 33." Only bits A to E of the flags have a part in it.
+-- "Writing an NL_AUTH request: 14, 34, 30, 33; a response: 33", and "50 .. then 53, both between 34 and 30, each over all strings".
+-- Only bits A to E of the flags have a part in it.
+abbrev pub requestOrder : List ℕ
+requestOrder = 14 ∷ 34 ∷ 50 ∷ 53 ∷ 30 ∷ 33 ∷ []
+
 abbrev pub NlRequestIsWritten : Type 0
 NlRequestIsWritten =
     (room : ℕ) (flags : NlAuthFlags) (a b c d e : List ℕ) →
-    WrittenExactly (requestAnswer room (known flags) a b c d e) (14 ∷ 34 ∷ 30 ∷ 33 ∷ [])
+    WrittenExactly (requestAnswer room (known flags) a b c d e) requestOrder
     (RequestWritingFails room (flags .bits) a b c d e) (requestSize (flags .bits) a b c d e)
 
 -- a writing whose one check is 33

@@ -1,3 +1,4 @@
 pub mod Scans
 pub mod Laws
 pub mod Places
+pub mod Names

@@ -8,7 +8,7 @@ use mir.Val.{Fits}
 use types.Run.{OneOf, miss}
 use denote.Enum.Declared.{tagOf}
 use Rattle.wire.specs.declared.refusal.Refusal.{Refusal}
-use Rattle.wire.specs.declared.refusal.Refusal.the-variants.{TooLong, TooShort, WrongSignature, WrongType, NoCharset, PastEnd, InFixedPart, OddName, NameOverSecret, PairPastEnd, PairMissing, WrongEndPair, WrongPairSize, NoStrings, Unterminated, BytesLeft, WrongResponse, No128Bit, NoServerNames, TooLongToWrite, OddNameToWrite, WrongKey, NoRoom, ZeroInString}
+use Rattle.wire.specs.declared.refusal.Refusal.the-variants.{TooLong, TooShort, WrongSignature, WrongType, NoCharset, PastEnd, InFixedPart, OddName, NameOverSecret, PairPastEnd, PairMissing, WrongEndPair, WrongPairSize, NoStrings, Unterminated, BytesLeft, WrongResponse, No128Bit, NoServerNames, TooLongToWrite, OddNameToWrite, WrongKey, NoRoom, ZeroInString, WrongLabel, PlaceNotBefore, TooManyJumps, NameTooLong}
 use Rattle.wire.specs.declared.check.Checked.{Checked}
 use Rattle.wire.specs.declared.check.Checked.the-variants.{Held, Failed}
 use Rattle.wire.specs.declared.check.Verdict.{Verdict}
@@ -35,7 +35,7 @@ pub ruleset moving = (fits-10, fits-11, fits-12, fits-13)
 
 -- what has no place stays as it is
 abbrev placeless : List ℕ
-placeless = 0 ∷ 1 ∷ 2 ∷ 3 ∷ 4 ∷ 5 ∷ 6 ∷ 7 ∷ 8 ∷ 13 ∷ 14 ∷ 15 ∷ 16 ∷ 17 ∷ 18 ∷ 19 ∷ 20 ∷ 21 ∷ 22 ∷ 23 ∷ []
+placeless = 0 ∷ 1 ∷ 2 ∷ 3 ∷ 4 ∷ 5 ∷ 6 ∷ 7 ∷ 8 ∷ 13 ∷ 14 ∷ 15 ∷ 16 ∷ 17 ∷ 18 ∷ 19 ∷ 20 ∷ 21 ∷ 22 ∷ 23 ∷ 24 ∷ 25 ∷ 26 ∷ 27 ∷ []
 
 pub stays : (e : Refusal) (n : ℕ) → OneOf placeless (tagOf the-type e) → e ≡ movedBy n e
 stays TooLong n m = refl
@@ -62,6 +62,10 @@ stays (OddNameToWrite f) n m = refl
 stays WrongKey n m = refl
 stays NoRoom n m = refl
 stays (ZeroInString f) n m = refl
+stays (WrongLabel f) n m = refl
+stays (PlaceNotBefore f) n m = refl
+stays (TooManyJumps f) n m = refl
+stays (NameTooLong f) n m = refl
 
 -- a place moves by no more
 pub moved-place : (n : ℕ) (e : Refusal) → placeOf (movedBy n e) ≤ n + placeOf e
@@ -89,6 +93,10 @@ moved-place n (OddNameToWrite f) = omega arith
 moved-place n WrongKey = omega arith
 moved-place n NoRoom = omega arith
 moved-place n (ZeroInString f) = omega arith
+moved-place n (WrongLabel f) = omega arith
+moved-place n (PlaceNotBefore f) = omega arith
+moved-place n (TooManyJumps f) = omega arith
+moved-place n (NameTooLong f) = omega arith
 
 -- its number and field stay
 pub moved-number : (n : ℕ) (e : Refusal) → (numberOf (movedBy n e) ≡ numberOf e) × (fieldOf (movedBy n e) ≡ fieldOf e)
@@ -116,6 +124,10 @@ moved-number n (OddNameToWrite f) = (refl, refl)
 moved-number n WrongKey = (refl, refl)
 moved-number n NoRoom = (refl, refl)
 moved-number n (ZeroInString f) = (refl, refl)
+moved-number n (WrongLabel f) = (refl, refl)
+moved-number n (PlaceNotBefore f) = (refl, refl)
+moved-number n (TooManyJumps f) = (refl, refl)
+moved-number n (NameTooLong f) = (refl, refl)
 
 -- and where there is a place, it moves
 pub moved-at : (n : ℕ) (e : Refusal) → (10 ≤ numberOf e) × (numberOf e ≤ 13) → placeOf (movedBy n e) ≡ n + placeOf e
@@ -143,6 +155,10 @@ moved-at n (OddNameToWrite f) h = absurd (omega (arith, h .0, h .1))
 moved-at n WrongKey h = absurd (omega (arith, h .0, h .1))
 moved-at n NoRoom h = absurd (omega (arith, h .0, h .1))
 moved-at n (ZeroInString f) h = absurd (omega (arith, h .0, h .1))
+moved-at n (WrongLabel f) h = absurd (omega (arith, h .0, h .1))
+moved-at n (PlaceNotBefore f) h = absurd (omega (arith, h .0, h .1))
+moved-at n (TooManyJumps f) h = absurd (omega (arith, h .0, h .1))
+moved-at n (NameTooLong f) h = absurd (omega (arith, h .0, h .1))
 
 -- only 10 to 13 have one
 pub placeless-number : (e : Refusal) → ((10 ≤ numberOf e) × (numberOf e ≤ 13) → ⊥) → placeOf e ≡ 0
@@ -170,6 +186,10 @@ placeless-number (OddNameToWrite f) h = refl
 placeless-number WrongKey h = refl
 placeless-number NoRoom h = refl
 placeless-number (ZeroInString f) h = refl
+placeless-number (WrongLabel f) h = refl
+placeless-number (PlaceNotBefore f) h = refl
+placeless-number (TooManyJumps f) h = refl
+placeless-number (NameTooLong f) h = refl
 
 -- ---- refusals without a place
 

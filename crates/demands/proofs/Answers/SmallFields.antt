@@ -12,7 +12,7 @@ use Rattle.wire.specs.declared.check.Checked.the-variants.{Held, Failed}
 use Rattle.wire.specs.declared.check.Verdict.{Verdict}
 use Rattle.wire.specs.declared.check.Verdict.the-variants.{Clear, Refused as Not}
 use Rattle.wire.specs.declared.refusal.Refusal.{Refusal}
-use Rattle.wire.specs.declared.refusal.Refusal.the-variants.{PairMissing, No128Bit, NoServerNames, OddNameToWrite, NoRoom, ZeroInString}
+use Rattle.wire.specs.declared.refusal.Refusal.the-variants.{PairMissing, No128Bit, NoServerNames, OddNameToWrite, NoRoom, ZeroInString, WrongLabel, NameTooLong}
 use Rattle.wire.specs.Check.{after, onClear}
 use Rattle.wire.specs.Number.{u16At}
 use Rattle.wire.proofs.Places.{moved-number}
@@ -48,7 +48,7 @@ use Rattle.nl_auth.specs.declared.Reading.the-variants.{Taken as NlTaken, Refus
 use Rattle.nl_auth.specs.NlAuth.{readNlAuth}
 use Rattle.nl_auth_flags.specs.declared.NlAuthFlags.{NlAuthFlags}
 use Rattle.nl_auth_flags.specs.Flags.{nbDomain, nbComputer, dnsDomain, dnsHost, utf8Computer, known, stringsHold}
-use Rattle.nl_auth_writing.specs.Writing.{requestBytes, responseBytes, noZero, checkZeros, checkRequest, requestAnswer, responseAnswer}
+use Rattle.nl_auth_writing.specs.Writing.{requestBytes, responseBytes, noZero, checkZeros, labelsUnder, checkLabels, codedUnder, checkCoded, checkNames, checkRequest, requestAnswer, responseAnswer}
 use Rattle.respond.specs.declared.decision.Decided.{Decided}
 use Rattle.respond.specs.declared.decision.Decided.the-variants.{Taken as Decides, Refused as Declines}
 use Rattle.respond.specs.declared.decision.Settings.{Settings}
@@ -107,8 +107,12 @@ nl-fails-field s n i w =
     in-row (eqb n 4) _ _ (i ≤ 5) (λ x. omega (arith, x .0)) (
     in-row (eqb n 14) _ _ (i ≤ 5) (λ x. omega (arith, x .0)) (
     in-row (eqb n 15) _ _ (i ≤ 5) (λ x. x .1) (
+    in-row (eqb n 50) _ _ (i ≤ 5) (λ x. x .1) (
+    in-row (eqb n 51) _ _ (i ≤ 5) (λ x. x .1) (
+    in-row (eqb n 52) _ _ (i ≤ 5) (λ x. x .1) (
+    in-row (eqb n 53) _ _ (i ≤ 5) (λ x. x .1) (
     in-row (eqb n 16) _ _ (i ≤ 5) (λ x. omega (arith, x .0)) (
-    in-row (eqb n 17) _ _ (i ≤ 5) (λ x. omega (arith, x .0)) (λ x. absurd x))))))) w
+    in-row (eqb n 17) _ _ (i ≤ 5) (λ x. omega (arith, x .0)) (λ x. absurd x))))))))))) w
 
 pub nl-auth-small : (s : List ℕ) (e : Refusal) → readNlAuth s ≡ NlRefused e → Small e
 nl-auth-small s e h =
@@ -234,13 +238,28 @@ zeros-small flags a b c d e =
     (small-after SmallV (noZero (dnsHost flags, d)) _ _ (omega arith)
     (small-after SmallV (noZero (utf8Computer flags, e)) (Not (ZeroInString 5)) Clear (omega arith) tt))))
 
+labels-small : (flags : NlAuthFlags) (c d e : List ℕ) → SmallV (checkLabels flags c d e)
+unfolding checkLabels
+labels-small flags c d e =
+    small-after SmallV (labelsUnder (dnsDomain flags, c)) _ _ (omega arith)
+    (small-after SmallV (labelsUnder (dnsHost flags, d)) _ _ (omega arith)
+    (small-after SmallV (labelsUnder (utf8Computer flags, e)) (Not (WrongLabel 5)) Clear (omega arith) tt))
+
+coded-small : (flags : NlAuthFlags) (c d e : List ℕ) → SmallV (checkCoded flags c d e)
+unfolding checkCoded
+coded-small flags c d e =
+    small-after SmallV (codedUnder (dnsDomain flags, c)) _ _ (omega arith)
+    (small-after SmallV (codedUnder (dnsHost flags, d)) _ _ (omega arith)
+    (small-after SmallV (codedUnder (utf8Computer flags, e)) (Not (NameTooLong 5)) Clear (omega arith) tt))
+
 request-checks : (room : ℕ) (flags : NlAuthFlags) (a b c d e : List ℕ) → SmallV (checkRequest room flags a b c d e)
-unfolding checkRequest
+unfolding checkRequest checkNames
 request-checks room flags a b c d e =
     small-after SmallV (stringsHold flags) _ _ (omega arith)
     (small-clear (checkZeros flags a b c d e) _ (zeros-small flags a b c d e)
+    (small-clear (onClear Not (checkLabels flags c d e) (checkCoded flags c d e)) _ (small-clear (checkLabels flags c d e) _ (labels-small flags c d e) (coded-small flags c d e))
     (small-after SmallV (sizeToHold (length (requestBytes flags a b c d e))) _ _ (omega arith)
-    (small-after SmallV (roomHolds (length (requestBytes flags a b c d e)) room) (Not NoRoom) Clear (omega arith) tt)))
+    (small-after SmallV (roomHolds (length (requestBytes flags a b c d e)) room) (Not NoRoom) Clear (omega arith) tt))))
 
 abbrev pub SmallW : Written → Type 0
 SmallW (Length n) = Unit

@@ -1,5 +1,5 @@
 -- An NL_AUTH request or response is written exactly when no check of its writing fails.
-use Prim.Native.Nat.{ℕ, _+_, _/_, _%_, _≤_}
+use Prim.Native.Nat.{ℕ, _+_, _/_, _%_, _≤_, _<_}
 use mathlib.Core.Path.{_≡_, refl, sym, ap, _∙_, subst}
 use mathlib.Core.Logic.{⊎-elim}
 use mathlib.Core.Bool.{Bool, true, false, _||_, _&&_, not, cond}
@@ -7,10 +7,10 @@ use mathlib.Core.List.{List, [], _∷_}
 use native.Mathlib.Omega.{arith}
 use lib.Dec.{eqb, leb}
 use lib.ListN.{length, length-append}
-use borrow.Author.Tests.{eqb-true, eqb-false, eq-eqb, ltb-true, ltb-false}
+use borrow.Author.Tests.{leb-true, leb-false, eqb-true, eqb-false, eq-eqb, ltb-true, ltb-false}
 use Rattle.wire.specs.declared.check.Checked.the-variants.{Held, Failed}
 use Rattle.wire.specs.declared.check.Verdict.the-variants.{Clear, Refused as Not}
-use Rattle.wire.specs.declared.refusal.Refusal.the-variants.{NoRoom, ZeroInString}
+use Rattle.wire.specs.declared.refusal.Refusal.the-variants.{NoRoom, ZeroInString, WrongLabel, NameTooLong}
 use Rattle.wire.specs.Check.{checked, after}
 use Rattle.wire.specs.Number.{has}
 use Rattle.wire.proofs.Laws.{held-true}
@@ -19,12 +19,17 @@ use Rattle.place.specs.Written.{answered}
 use Rattle.nl_auth_flags.specs.declared.NlAuthFlags.{NlAuthFlags}
 use Rattle.nl_auth_flags.specs.Flags.{nbDomain, nbComputer, dnsDomain, dnsHost, utf8Computer, known, stringsHold}
 use Rattle.nl_auth.specs.NlAuth.{beforeZero, holdsZero}
-use Rattle.nl_auth_writing.specs.Writing.{stringBytes, bytesUnder, requestBytes, responseBytes, noZero, checkZeros, checkRequest, requestAnswer, responseAnswer}
+use Rattle.nl_auth_writing.specs.Writing.{stringBytes, bytesUnder, nameUnder, requestBytes, responseBytes, noZero, checkZeros, names, labelsUnder, checkLabels, codedUnder, checkCoded, checkNames, checkRequest, requestAnswer, responseAnswer}
 use Rattle.nl_auth_writing.proofs.Sent.{length-request, length-response}
+use Rattle.dns_name.specs.Rfc1035.{codedLength}
+use Rattle.dns_name_writing.specs.Writing.{labelsOf, coded, nameBytes, codedHolds}
+use Rattle.dns_name_writing.proofs.Holding.{coded-size}
+use Rattle.demands.specs.DnsName.{LabelsFail, codedSize}
+use Rattle.demands.proofs.DnsText.{text-failed, text-held, coded-is}
 use Rattle.demands.specs.Order.{placeIn}
 use Rattle.demands.specs.NlAuth.{maskOf}
 use Rattle.demands.specs.Message.{FlagSet}
-use Rattle.demands.specs.WrittenExactly.{WrittenExactly, HoldsZero, sizeUnder, requestSize, RequestWritingFails, NlRequestIsWritten, RoomFails, NlResponseIsWritten}
+use Rattle.demands.specs.WrittenExactly.{WrittenExactly, HoldsZero, sizeUnder, nameSizeUnder, requestSize, RequestWritingFails, requestOrder, NlRequestIsWritten, RoomFails, NlResponseIsWritten}
 use Rattle.demands.proofs.Bools.{true-not-false, failed-false, or-left, or-right, or-either, chained, bit1, bit2, bit4, bit8, bit16}
 use Rattle.demands.proofs.NlAuth.{before-nonzero, at-zero, five}
 use Rattle.demands.proofs.Order.Rank.{FreeBy, JudgedBy, only-in, first-by, skip-by, then-by, over-judged-by}
@@ -50,8 +55,41 @@ unfolding bytesUnder stringBytes
 under true x = simp length-append
 under false x = refl
 
+-- check 50 at one name, and its length
+labels-failed : (set : Bool) (x : List ℕ) → labelsUnder (set, x) ≡ Failed → (set ≡ true) × LabelsFail x
+unfolding labelsUnder
+labels-failed true x f = (refl, text-failed x f)
+labels-failed false x f = absurd (let z : _≡_ {A = ℕ} 0 1 = cc in omega arith)
+
+labels-held : (set : Bool) (x : List ℕ) → labelsUnder (set, x) ≡ Held → set ≡ true → LabelsFail x → ⊥
+unfolding labelsUnder
+labels-held true x h on w = text-held x h w
+labels-held false x h on w = true-not-false (sym on)
+
+-- check 53
+bytes-are : (x : List ℕ) → length (nameBytes x) ≡ length (coded (labelsOf x))
+unfolding nameBytes
+bytes-are x = refl
+
+coded-failed : (set : Bool) (x : List ℕ) → codedUnder (set, x) ≡ Failed → (set ≡ true) × (255 < codedSize x)
+unfolding codedUnder codedHolds
+coded-failed true x f =
+    (refl, let l = leb-false (codedLength (labelsOf x)) 255 (failed-false _ f) in omega (arith, l, coded-is x, coded-size (labelsOf x), bytes-are x))
+coded-failed false x f = absurd (let z : _≡_ {A = ℕ} 0 1 = cc in omega arith)
+
+coded-held : (set : Bool) (x : List ℕ) → codedUnder (set, x) ≡ Held → set ≡ true → 255 < codedSize x → ⊥
+unfolding codedUnder codedHolds
+coded-held true x h on w =
+    let l = leb-true (codedLength (labelsOf x)) 255 (held-true _ h) in omega (arith, l, coded-is x, coded-size (labelsOf x), bytes-are x)
+coded-held false x h on w = true-not-false (sym on)
+
+name-under : (t : Bool) (x : List ℕ) → length (nameUnder t x) ≡ cond t (codedSize x) 0
+unfolding nameUnder
+name-under true x = coded-is x
+name-under false x = refl
+
 abbrev order : List ℕ
-order = 14 ∷ 34 ∷ 30 ∷ 33 ∷ []
+order = requestOrder
 
 module _ (room : ℕ) (flags : NlAuthFlags) (a b c d e : List ℕ) where
   abbrev w : NlAuthFlags
@@ -67,10 +105,13 @@ module _ (room : ℕ) (flags : NlAuthFlags) (a b c d e : List ℕ) where
   size-under : (m : ℕ) (x : List ℕ) → bits % 32 / m % 2 ≡ bits / m % 2 → length (bytesUnder (has (w .bits) m) x) ≡ sizeUnder bits m x
   size-under m x q = under (has (w .bits) m) x ∙ ap (λ (k : ℕ). cond (eqb k 1) (length x + 1) 0) q
 
+  name-size-under : (m : ℕ) (x : List ℕ) → bits % 32 / m % 2 ≡ bits / m % 2 → length (nameUnder (has (w .bits) m) x) ≡ nameSizeUnder bits m x
+  name-size-under m x q = name-under (has (w .bits) m) x ∙ ap (λ (k : ℕ). cond (eqb k 1) (codedSize x) 0) q
+
   size-is : length (requestBytes w a b c d e) ≡ requestSize bits a b c d e
   size-is =
       length-request w a b c d e
-      ∙ simp (size-under 0x1 a (bit1 bits), size-under 0x2 b (bit2 bits), size-under 0x4 c (bit4 bits), size-under 0x8 d (bit8 bits), size-under 0x10 e (bit16 bits))
+      ∙ simp (size-under 0x1 a (bit1 bits), size-under 0x2 b (bit2 bits), name-size-under 0x4 c (bit4 bits), name-size-under 0x8 d (bit8 bits), name-size-under 0x10 e (bit16 bits))
 
   -- check 14
   abbrev toC : Bool
@@ -103,10 +144,10 @@ module _ (room : ℕ) (flags : NlAuthFlags) (a b c d e : List ℕ) where
       (or-either (toC || dnsHost w) (utf8Computer w) (held-true _ h))
 
   -- check 34
-  zeros-judged : FreeBy (placeIn order) F 34 0 → JudgedBy (placeIn order) F 30 (checkZeros w a b c d e)
+  zeros-judged : FreeBy (placeIn order) F 34 0 → JudgedBy (placeIn order) F 50 (checkZeros w a b c d e)
   unfolding checkZeros
   zeros-judged free =
-      over-judged-by (placeIn order) F 34 30 noZero ZeroInString refl (only-in order 34 (omega arith)) (λ j. (refl, refl))
+      over-judged-by (placeIn order) F 34 50 noZero ZeroInString refl (only-in order 34 (omega arith)) (λ j. (refl, refl))
       ((1, (nbDomain w, a)) ∷ (2, (nbComputer w, b)) ∷ (3, (dnsDomain w, c)) ∷ (4, (dnsHost w, d)) ∷ (5, (utf8Computer w, e)) ∷ []) 1 (
         refl,
         failed 1 0x1 a (omega arith) (omega arith) (bit1 bits),
@@ -139,24 +180,83 @@ module _ (room : ℕ) (flags : NlAuthFlags) (a b c d e : List ℕ) where
           A × B × FlagSet bits m × HoldsZero x → ⊥
       held m x q h y = zero-held (has (w .bits) m) x h (eq-eqb _ 1 (q ∙ y .2)) (y .3)
 
+  -- checks 50 and 53
+  labels-judged : FreeBy (placeIn order) F 50 0 → JudgedBy (placeIn order) F 53 (checkLabels w c d e)
+  unfolding checkLabels
+  labels-judged free =
+      over-judged-by (placeIn order) F 50 53 labelsUnder WrongLabel refl (only-in order 50 (omega arith)) (λ j. (refl, refl))
+      (names w c d e) 3 (
+        refl,
+        failed 3 0x4 c (omega arith) (omega arith) (bit4 bits),
+        held 0x4 c (bit4 bits),
+        (
+          refl,
+          failed 4 0x8 d (omega arith) (omega arith) (bit8 bits),
+          held 0x8 d (bit8 bits),
+          (refl, failed 5 0x10 e (omega arith) (omega arith) (bit16 bits), held 0x10 e (bit16 bits), tt),
+        ),
+      )
+      (skip-by (placeIn order) F 50 3 free (λ j l h. omega (arith, l, h .0)))
+      (λ j l h. omega (arith, l, h .1))
+    where
+      failed : (i m : ℕ) (x : List ℕ) → 3 ≤ i → i ≤ 5 → bits % 32 / m % 2 ≡ bits / m % 2 → labelsUnder (has (w .bits) m, x) ≡ Failed →
+          (3 ≤ i) × (i ≤ 5) × FlagSet bits m × LabelsFail x
+      failed i m x l r q f = let z = labels-failed (has (w .bits) m) x f in (l, r, sym q ∙ eqb-true _ 1 (z .0), z .1)
+
+      held : {A B : Type 0} (m : ℕ) (x : List ℕ) → bits % 32 / m % 2 ≡ bits / m % 2 → labelsUnder (has (w .bits) m, x) ≡ Held →
+          A × B × FlagSet bits m × LabelsFail x → ⊥
+      held m x q h y = labels-held (has (w .bits) m) x h (eq-eqb _ 1 (q ∙ y .2)) (y .3)
+
+  coded-judged : FreeBy (placeIn order) F 53 0 → JudgedBy (placeIn order) F 30 (checkCoded w c d e)
+  unfolding checkCoded
+  coded-judged free =
+      over-judged-by (placeIn order) F 53 30 codedUnder NameTooLong refl (only-in order 53 (omega arith)) (λ j. (refl, refl))
+      (names w c d e) 3 (
+        refl,
+        failed 3 0x4 c (omega arith) (omega arith) (bit4 bits),
+        held 0x4 c (bit4 bits),
+        (
+          refl,
+          failed 4 0x8 d (omega arith) (omega arith) (bit8 bits),
+          held 0x8 d (bit8 bits),
+          (refl, failed 5 0x10 e (omega arith) (omega arith) (bit16 bits), held 0x10 e (bit16 bits), tt),
+        ),
+      )
+      (skip-by (placeIn order) F 53 3 free (λ j l h. omega (arith, l, h .0)))
+      (λ j l h. omega (arith, l, h .1))
+    where
+      failed : (i m : ℕ) (x : List ℕ) → 3 ≤ i → i ≤ 5 → bits % 32 / m % 2 ≡ bits / m % 2 → codedUnder (has (w .bits) m, x) ≡ Failed →
+          (3 ≤ i) × (i ≤ 5) × FlagSet bits m × (255 < codedSize x)
+      failed i m x l r q f = let z = coded-failed (has (w .bits) m) x f in (l, r, sym q ∙ eqb-true _ 1 (z .0), z .1)
+
+      held : {A B : Type 0} (m : ℕ) (x : List ℕ) → bits % 32 / m % 2 ≡ bits / m % 2 → codedUnder (has (w .bits) m, x) ≡ Held →
+          A × B × FlagSet bits m × (255 < codedSize x) → ⊥
+      held m x q h y = coded-held (has (w .bits) m) x h (eq-eqb _ 1 (q ∙ y .2)) (y .3)
+
+  names-judged : FreeBy (placeIn order) F 50 0 → JudgedBy (placeIn order) F 30 (checkNames w c d e)
+  unfolding checkNames
+  names-judged free = then-by (placeIn order) F 53 30 (checkLabels w c d e) _ (labels-judged free) coded-judged
+
   request-judged : JudgedBy (placeIn order) F 0 (checkRequest room w a b c d e)
   unfolding checkRequest
   request-judged =
       let none = free-at-first order F 14 refl in
       chained (JudgedBy (placeIn order) F 0) _ _ _
       (λ f. first-by (placeIn order) F 14 0 none (refl, strings-failed f))
-      (λ h14. then-by (placeIn order) F 30 0 (checkZeros w a b c d e) _
+      (λ h14. then-by (placeIn order) F 50 0 (checkZeros w a b c d e) _
       (zeros-judged (next order F 14 34 refl (omega arith) none (λ j x. strings-held h14 (x .1))))
+      (λ c50. then-by (placeIn order) F 30 0 (checkNames w c d e) _ (names-judged c50)
       (λ c30. size-judged order F (requestSize bits a b c d e) (length (requestBytes w a b c d e)) _ size-is
       (λ l. (refl, l)) (λ j x. x .1) refl (omega arith) c30
       (room-judged order F room (requestSize bits a b c d e) (length (requestBytes w a b c d e)) size-is
-      (λ l. (refl, l)) (λ j x. x .1) refl (omega arith))))
+      (λ l. (refl, l)) (λ j x. x .1) refl (omega arith)))))
 
 pub nl-request-written : NlRequestIsWritten
 unfolding requestAnswer
 nl-request-written room flags a b c d e =
-    by-verdict (14 ∷ 34 ∷ 30 ∷ 33 ∷ []) (RequestWritingFails room (flags .bits) a b c d e)
-    (rows (14 ∷ 34 ∷ 30 ∷ 33 ∷ []) (RequestWritingFails room (flags .bits) a b c d e) (λ n i z h. simp (z .0, z .1 .0, z .1 .1 .0, z .1 .1 .1 .0) at h)) 0 refl
+    by-verdict requestOrder (RequestWritingFails room (flags .bits) a b c d e)
+    (rows requestOrder (RequestWritingFails room (flags .bits) a b c d e)
+    (λ n i z h. simp (z .0, z .1 .0, z .1 .1 .0, z .1 .1 .1 .0, z .1 .1 .1 .1 .0, z .1 .1 .1 .1 .1 .0) at h)) 0 refl
     (checkRequest room (known flags) a b c d e) (requestBytes (known flags) a b c d e) (requestSize (flags .bits) a b c d e)
     (size-is room flags a b c d e) (request-judged room flags a b c d e)
 
