@@ -33,7 +33,8 @@
  * domain must be UTF-16LE or bytes; a target name is always UTF-16LE. Where the own domain is empty the server's may be
  * sent: dialtable_domain_to_send tells it, for a response that is worked out over the domain. Ask for KEY_EXCH only
  * together with SIGN or SEAL: to a challenge with KEY_EXCH and neither of them no key is sent, and Samba and
- * gss-ntlmssp then refuse the sign-in.
+ * gss-ntlmssp then refuse the sign-in. Ask for 128-bit (DIALTABLE_FLAG_128): a challenge without it is refused 20, unless
+ * the settings leave DIALTABLE_DEMAND_128 out.
  *
  * Every call takes bytes as they come, of any length, and always ends. Nothing is kept between calls and nothing is
  * allocated; calls are reentrant. Memory is lent for the length of the call: inputs are only read, an output is written
