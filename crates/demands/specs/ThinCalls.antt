@@ -53,6 +53,6 @@ abbrev pub ThinCallsRefuse : Type 0
 ThinCallsRefuse =
     (call : ThinCall) (room clock : ℕ) (s b version mic lm nt domain user workstation key : List ℕ) →
     length version ≡ 8 → length mic ≡ 16 → InfoBytes s b →
-    (AnswerRefusedWith (respondAnswer room s (goesBy call) clock version mic lm nt domain user workstation key) 20 0
+    (AnswerRefusedWith (respondAnswer room s (goesBy call) clock version mic lm nt domain user workstation key) 20 0 0
     ↔ (ChallengeHolds s b × (demands128 call ≡ true) × (Set challenge s 0x20000000 → ⊥)))
-    × ((i : ℕ) → AnswerRefusedWith (respondAnswer room s (goesBy call) clock version mic lm nt domain user workstation key) 21 i → ⊥)
+    × ((i p : ℕ) → AnswerRefusedWith (respondAnswer room s (goesBy call) clock version mic lm nt domain user workstation key) 21 i p → ⊥)
