@@ -19,6 +19,7 @@
 mod answer;
 mod authenticate;
 mod challenge;
+mod dns_name;
 mod flags;
 mod layout;
 mod line;
@@ -41,9 +42,11 @@ pub use answer::{
 pub use authenticate::Authenticate;
 pub use challenge::Challenge;
 pub use flags::{CharacterSet, NegotiateFlags, NlAuthFlags};
-pub use line::{authenticate_line, challenge_line, negotiate_line, nl_auth_line, ntlm_line};
+pub use line::{
+    authenticate_line, challenge_line, negotiate_line, nl_auth_line, nl_auth_name, ntlm_line,
+};
 pub use negotiate::Negotiate;
-pub use nl_auth::{NlAuth, NlAuthType};
+pub use nl_auth::{NlAuth, NlAuthString, NlAuthType};
 pub use program::{Program, LINE_LIMIT};
 pub use refusal::{Reason, Refusal};
 pub use response_pairs::{write_response_pairs, ResponsePairs};

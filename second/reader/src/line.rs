@@ -2,9 +2,10 @@
 
 use crate::authenticate::Authenticate;
 use crate::challenge::Challenge;
+use crate::dns_name::DnsName;
 use crate::flags::{CharacterSet, NlAuthFlags};
 use crate::negotiate::Negotiate;
-use crate::nl_auth::NlAuth;
+use crate::nl_auth::{NlAuth, NlAuthString};
 use crate::output::{Count, Cursor, Sink};
 use crate::refusal::{Reason, Refusal};
 use crate::wire::{type_of, Field};
@@ -30,6 +31,19 @@ pub fn negotiate_line(message: &[u8], out: &mut [u8]) -> Result<usize, Refusal> 
 /// Writes the line of `message`, read as NL_AUTH; see [`authenticate_line`].
 pub fn nl_auth_line(message: &[u8], out: &mut [u8]) -> Result<usize, Refusal> {
     line_of(NlAuth::read(message), out)
+}
+
+/// Writes the text of one string of `message`, read as NL_AUTH, to the start of
+/// `out`, as its word in the line shows it, and gives its length. `which` is the
+/// string's number, "A = 1"; one that isn't there, and any other number, has an
+/// empty text. Refuses by the reading, then 33, with `out` unchanged.
+pub fn nl_auth_name(message: &[u8], which: u32, out: &mut [u8]) -> Result<usize, Refusal> {
+    let strings = NlAuth::read(message)?.strings;
+    let string = strings.iter().zip(1..).find(|&(_, number)| number == which);
+    write_line(
+        string.map_or(&NlAuthString::default(), |(string, _)| string),
+        out,
+    )
 }
 
 /// Writes the line of `message` read as the NTLM program does: "as CHALLENGE
@@ -65,7 +79,7 @@ pub(crate) fn write_line<L: Line>(line: &L, out: &mut [u8]) -> Result<usize, Ref
     Ok(cursor.len())
 }
 
-/// Something that has a log line.
+/// Something that has a log line, or a text in one.
 pub(crate) trait Line {
     /// A length that the line does not pass.
     fn length_limit(&self) -> usize;
@@ -163,7 +177,8 @@ impl Line for Negotiate<'_> {
 /// NL_AUTH bits".
 impl Line for NlAuth<'_> {
     fn length_limit(&self) -> usize {
-        limit_with(self.strings)
+        let limits = self.strings.iter().map(Line::length_limit);
+        limits.fold(WORDS_LIMIT, usize::saturating_add)
     }
 
     fn put<S: Sink>(&self, sink: &mut S) {
@@ -176,10 +191,42 @@ impl Line for NlAuth<'_> {
         for ((word, (bit, _)), string) in words.zip(&self.strings) {
             if self.flags.has(bit) {
                 sink.put(*word);
-                put_name(sink, CharacterSet::Oem, string.bytes);
+                string.put(sink);
             }
         }
         sink.put(b"\n");
+    }
+}
+
+/// More than the text of a DNS name has: its coded length is at most 255, and an
+/// escaped byte has 4 characters.
+const DNS_NAME_LIMIT: usize = 4 * 255;
+
+/// The text of a string, which is a part of a line and has no 0A.
+impl Line for NlAuthString<'_> {
+    fn length_limit(&self) -> usize {
+        match self.name {
+            None => self.bytes.len().saturating_mul(4),
+            Some(_) => DNS_NAME_LIMIT,
+        }
+    }
+
+    fn put<S: Sink>(&self, sink: &mut S) {
+        match self.name {
+            None => put_name(sink, CharacterSet::Oem, self.bytes),
+            Some(name) => put_dns_name(sink, name),
+        }
+    }
+}
+
+/// "The line joins labels with a full stop, and a full stop inside a label is
+/// `\x2E`."
+fn put_dns_name<S: Sink>(sink: &mut S, name: DnsName<'_>) {
+    for (place, label) in name.labels().enumerate() {
+        if place > 0 {
+            sink.put_byte(b'.');
+        }
+        put_bytes(sink, label, |byte| is_plain(byte) && byte != b'.');
     }
 }
 
@@ -230,16 +277,21 @@ fn put_name<S: Sink>(sink: &mut S, set: CharacterSet, name: &[u8]) {
                 [b'\\', b'u', a, b, c, d]
             },
         ),
-        CharacterSet::Oem => put_units(
-            sink,
-            name,
-            |&byte| is_plain(byte).then_some(byte),
-            |&byte| {
-                let [a, b] = hex_digits(byte);
-                [b'\\', b'x', a, b]
-            },
-        ),
+        CharacterSet::Oem => put_bytes(sink, name, is_plain),
     }
+}
+
+/// Puts bytes, those that aren't plain as escapes.
+fn put_bytes<S: Sink>(sink: &mut S, bytes: &[u8], plain: impl Fn(u8) -> bool) {
+    put_units(
+        sink,
+        bytes,
+        |&byte| plain(byte).then_some(byte),
+        |&byte| {
+            let [a, b] = hex_digits(byte);
+            [b'\\', b'x', a, b]
+        },
+    );
 }
 
 /// Puts the units that stand for themselves run by run, and each unit that
