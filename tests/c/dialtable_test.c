@@ -420,10 +420,10 @@ static void prints_lines(const message_t *p1, const message_t *challenge)
     has_line(dialtable_negotiate_line, nego, NEGO_LEN, opening);
     has_line(dialtable_ntlm_line, nego, NEGO_LEN, opening);
     has_line(dialtable_ntlm_program_line, nego, NEGO_LEN, opening);
-    has_line(dialtable_nl_auth_line, p12, sizeof p12, nl);
-    has_line(dialtable_nl_auth_program_line, p12, sizeof p12, nl);
     has_line(dialtable_nl_auth_line, five, FIVE_LEN,
              "nl type=0 flags=0000001F a=a b=b. c=c\\x2Ec.com d=d.com e=d.com\n");
+    has_line(dialtable_nl_auth_line, p12, sizeof p12, nl);
+    has_line(dialtable_nl_auth_program_line, p12, sizeof p12, nl);
     has_line(dialtable_authenticate_line, NULL, 0, "refused 2 field=0\n");
     has_line(dialtable_challenge_line, p1->bytes, p1->len, "refused 4 field=0\n");
     has_line(dialtable_negotiate_line, p1->bytes, p1->len, "refused 4 field=0\n");

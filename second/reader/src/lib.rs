@@ -25,6 +25,7 @@ mod layout;
 mod line;
 mod negotiate;
 mod nl_auth;
+mod nl_auth_name;
 mod output;
 mod program;
 mod refusal;
@@ -42,11 +43,10 @@ pub use answer::{
 pub use authenticate::Authenticate;
 pub use challenge::Challenge;
 pub use flags::{CharacterSet, NegotiateFlags, NlAuthFlags};
-pub use line::{
-    authenticate_line, challenge_line, negotiate_line, nl_auth_line, nl_auth_name, ntlm_line,
-};
+pub use line::{authenticate_line, challenge_line, negotiate_line, nl_auth_line, ntlm_line};
 pub use negotiate::Negotiate;
 pub use nl_auth::{NlAuth, NlAuthString, NlAuthType};
+pub use nl_auth_name::nl_auth_name;
 pub use program::{Program, LINE_LIMIT};
 pub use refusal::{Reason, Refusal};
 pub use response_pairs::{write_response_pairs, ResponsePairs};

@@ -2,10 +2,9 @@
 
 use crate::authenticate::Authenticate;
 use crate::challenge::Challenge;
-use crate::dns_name::DnsName;
 use crate::flags::{CharacterSet, NlAuthFlags};
 use crate::negotiate::Negotiate;
-use crate::nl_auth::{NlAuth, NlAuthString};
+use crate::nl_auth::NlAuth;
 use crate::output::{Count, Cursor, Sink};
 use crate::refusal::{Reason, Refusal};
 use crate::wire::{type_of, Field};
@@ -31,19 +30,6 @@ pub fn negotiate_line(message: &[u8], out: &mut [u8]) -> Result<usize, Refusal> 
 /// Writes the line of `message`, read as NL_AUTH; see [`authenticate_line`].
 pub fn nl_auth_line(message: &[u8], out: &mut [u8]) -> Result<usize, Refusal> {
     line_of(NlAuth::read(message), out)
-}
-
-/// Writes the text of one string of `message`, read as NL_AUTH, to the start of
-/// `out`, as its word in the line shows it, and gives its length. `which` is the
-/// string's number, "A = 1"; one that isn't there, and any other number, has an
-/// empty text. Refuses by the reading, then 33, with `out` unchanged.
-pub fn nl_auth_name(message: &[u8], which: u32, out: &mut [u8]) -> Result<usize, Refusal> {
-    let strings = NlAuth::read(message)?.strings;
-    let string = strings.iter().zip(1..).find(|&(_, number)| number == which);
-    write_line(
-        string.map_or(&NlAuthString::default(), |(string, _)| string),
-        out,
-    )
 }
 
 /// Writes the line of `message` read as the NTLM program does: "as CHALLENGE
@@ -198,38 +184,6 @@ impl Line for NlAuth<'_> {
     }
 }
 
-/// More than the text of a DNS name has: its coded length is at most 255, and an
-/// escaped byte has 4 characters.
-const DNS_NAME_LIMIT: usize = 4 * 255;
-
-/// The text of a string, which is a part of a line and has no 0A.
-impl Line for NlAuthString<'_> {
-    fn length_limit(&self) -> usize {
-        match self.name {
-            None => self.bytes.len().saturating_mul(4),
-            Some(_) => DNS_NAME_LIMIT,
-        }
-    }
-
-    fn put<S: Sink>(&self, sink: &mut S) {
-        match self.name {
-            None => put_name(sink, CharacterSet::Oem, self.bytes),
-            Some(name) => put_dns_name(sink, name),
-        }
-    }
-}
-
-/// "The line joins labels with a full stop, and a full stop inside a label is
-/// `\x2E`."
-fn put_dns_name<S: Sink>(sink: &mut S, name: DnsName<'_>) {
-    for (place, label) in name.labels().enumerate() {
-        if place > 0 {
-            sink.put_byte(b'.');
-        }
-        put_bytes(sink, label, |byte| is_plain(byte) && byte != b'.');
-    }
-}
-
 /// `refused D field=D`
 impl Line for Refusal {
     fn length_limit(&self) -> usize {
@@ -264,7 +218,7 @@ fn limit_with<const N: usize>(names: [Field<'_>; N]) -> usize {
 /// "In N a unit 0x21 to 0x7E other than backslash stands for itself. Any other
 /// 16-bit unit is `\u` and four hex digits, any other byte `\x` and two, upper
 /// case."
-fn put_name<S: Sink>(sink: &mut S, set: CharacterSet, name: &[u8]) {
+pub(crate) fn put_name<S: Sink>(sink: &mut S, set: CharacterSet, name: &[u8]) {
     match set {
         CharacterSet::Unicode => put_units(
             sink,
@@ -282,7 +236,7 @@ fn put_name<S: Sink>(sink: &mut S, set: CharacterSet, name: &[u8]) {
 }
 
 /// Puts bytes, those that aren't plain as escapes.
-fn put_bytes<S: Sink>(sink: &mut S, bytes: &[u8], plain: impl Fn(u8) -> bool) {
+pub(crate) fn put_bytes<S: Sink>(sink: &mut S, bytes: &[u8], plain: impl Fn(u8) -> bool) {
     put_units(
         sink,
         bytes,
@@ -312,7 +266,7 @@ fn put_units<S: Sink, Unit, const N: usize>(
     }
 }
 
-const fn is_plain(byte: u8) -> bool {
+pub(crate) const fn is_plain(byte: u8) -> bool {
     matches!(byte, 0x21..=0x7E) && byte != b'\\'
 }
 
