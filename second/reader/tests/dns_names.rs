@@ -617,3 +617,46 @@ fn every_short_buffer_reads_as_the_request_says() {
     }
     assert!(taken > 1000 && with_jumps > 200, "{taken}, {with_jumps}");
 }
+
+#[test]
+fn what_is_written_reads_back() {
+    let mut state = 1_u64;
+    let mut below = |limit: usize| {
+        state = state.wrapping_mul(0x5851_F42D_4C95_7F2D).wrapping_add(1);
+        (state >> 33) as usize % limit
+    };
+    for _ in 0..3_000 {
+        let mut names: [Vec<Vec<u8>>; 3] = Default::default();
+        for name in &mut names {
+            let mut left = 254;
+            for _ in 0..below(6) {
+                let len = 1 + below(63);
+                if len + 1 > left {
+                    break;
+                }
+                left -= len + 1;
+                // Any byte but the two that text can't have in a label.
+                let byte = |_| match below(256) as u8 {
+                    0 | b'.' => b'x',
+                    byte => byte,
+                };
+                name.push((0..len).map(byte).collect());
+            }
+        }
+        let texts = names.each_ref().map(|name| name.join(&b'.'));
+        let [c, d, e] = texts.each_ref().map(Vec::as_slice);
+        let message = writes(0x1F, &[b"A", b"B", c, d, e], 1000).unwrap();
+        let read = NlAuth::read(&message).unwrap();
+        for (which, name) in (3..).zip(&names) {
+            let string = read.strings[which as usize - 1];
+            let labels: Vec<&[u8]> = name.iter().map(Vec::as_slice).collect();
+            assert_eq!((string.bytes, string.jumps), (&dns(&labels)[..], 0));
+            let shown = |&byte: &u8| match byte {
+                0x21..=0x5B | 0x5D..=0x7E => char::from(byte).to_string(),
+                _ => format!("\\x{byte:02X}"),
+            };
+            let shown: String = name.join(&b'.').iter().map(shown).collect();
+            assert_eq!(text(&message, which), Ok(shown));
+        }
+    }
+}
