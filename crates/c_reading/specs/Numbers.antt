@@ -68,7 +68,7 @@ timestampNumbers Nothing = 0 ∷ 0 ∷ []
 unfoldable pub serverNamesNumbers : ServerNames → List ℕ
 serverNamesNumbers n = bit (n .«nb_computer_name») ∷ bit (n .«nb_domain_name») ∷ []
 
--- type, flags, and the offset and length of strings A to E
+-- type, flags, the offset and length of strings A to E, and the jumps of C to E
 unfoldable pub nlAuthNumbers : NlAuth → List ℕ
 nlAuthNumbers m =
     m .«message_type» ∷
@@ -82,7 +82,10 @@ nlAuthNumbers m =
     m .strings .«dns_host» .offset ∷
     m .strings .«dns_host» .len ∷
     m .strings .«utf8_computer» .offset ∷
-    m .strings .«utf8_computer» .len ∷ []
+    m .strings .«utf8_computer» .len ∷
+    m .strings .«dns_domain» .jumps ∷
+    m .strings .«dns_host» .jumps ∷
+    m .strings .«utf8_computer» .jumps ∷ []
 
 -- ---- what each reading hands out
 

@@ -33,6 +33,7 @@ use negotiate::Negotiate;
 use negotiate::Reading as NegotiateReading;
 use nl_auth::NlAuth;
 use nl_auth::Reading as NlAuthReading;
+use nl_auth::string::NlString;
 use place::written::room_holds;
 use target_info::ServerNames;
 use target_info::Timestamp;
@@ -103,23 +104,44 @@ fn server_names_numbers(names: ServerNames) -> [u64; 2]
     [bit(names.nb_computer_name), bit(names.nb_domain_name)]
 }
 
-fn nl_auth_numbers(m: NlAuth) -> [u64; 12]
+fn string_offset(x: NlString) -> u64
+    ensures { λ r. ⌜ r ≡ x .offset ⌝ }
+{
+    x.offset as u64
+}
+
+fn string_len(x: NlString) -> u64
+    ensures { λ r. ⌜ r ≡ x .len ⌝ }
+{
+    x.len as u64
+}
+
+fn string_jumps(x: NlString) -> u64
+    ensures { λ r. ⌜ r ≡ x .jumps ⌝ }
+{
+    x.jumps as u64
+}
+
+fn nl_auth_numbers(m: NlAuth) -> [u64; 15]
     ensures { λ r. ⌜ r ≡ nlAuthNumbers m ⌝ }
 {
     let s = m.strings;
     [
         m.message_type as u64,
         m.flags.bits as u64,
-        offset_of(s.nb_domain),
-        len_of(s.nb_domain),
-        offset_of(s.nb_computer),
-        len_of(s.nb_computer),
-        offset_of(s.dns_domain),
-        len_of(s.dns_domain),
-        offset_of(s.dns_host),
-        len_of(s.dns_host),
-        offset_of(s.utf8_computer),
-        len_of(s.utf8_computer),
+        string_offset(s.nb_domain),
+        string_len(s.nb_domain),
+        string_offset(s.nb_computer),
+        string_len(s.nb_computer),
+        string_offset(s.dns_domain),
+        string_len(s.dns_domain),
+        string_offset(s.dns_host),
+        string_len(s.dns_host),
+        string_offset(s.utf8_computer),
+        string_len(s.utf8_computer),
+        string_jumps(s.dns_domain),
+        string_jumps(s.dns_host),
+        string_jumps(s.utf8_computer),
     ]
 }
 
@@ -225,10 +247,10 @@ pub fn read_server_names(msg: &[u8], numbers: &mut [u64]) -> u64
 
 // Reads NL_AUTH.
 pub fn read_nl_auth(msg: &[u8], numbers: &mut [u64]) -> u64
-    ensures answer { λ r. ⌜ r ≡ callNumber 12 (nlAuthOutcome (readNlAuth (now (msg .entry)))) (length (now (numbers .entry))) ⌝ }
-    ensures content { λ _. ⌜ now (numbers .exit) ≡ callOut 12 (nlAuthOutcome (readNlAuth (now (msg .entry)))) (now (numbers .entry)) ⌝ }
+    ensures answer { λ r. ⌜ r ≡ callNumber 15 (nlAuthOutcome (readNlAuth (now (msg .entry)))) (length (now (numbers .entry))) ⌝ }
+    ensures content { λ _. ⌜ now (numbers .exit) ≡ callOut 15 (nlAuthOutcome (readNlAuth (now (msg .entry)))) (now (numbers .entry)) ⌝ }
 {
-    let Checked::Held = room_holds(12, numbers.len()) else {
+    let Checked::Held = room_holds(15, numbers.len()) else {
         return refusal_number(Refusal::NoRoom);
     };
     match nl_auth::read(msg) {

@@ -14,6 +14,7 @@ ghost use Rattle.negotiate.specs.Negotiate.{readNegotiate};
 ghost use Rattle.negotiate_writing.specs.Writing.{writeAnswer as negotiateAnswer, writeOut as negotiateOut};
 ghost use Rattle.nl_auth.specs.NlAuth.{readNlAuth};
 ghost use Rattle.nl_auth_flags.specs.Flags.{known};
+ghost use Rattle.nl_auth_text.specs.StringText.{textAnswer, textAfter};
 ghost use Rattle.nl_auth_writing.specs.Writing.{requestAnswer, requestOut, responseAnswer, responseOut};
 ghost use Rattle.line.specs.Line.{negotiateLine, authenticateLine, challengeLine, nlAuthLine, ntlmLine, shownLine};
 ghost use Rattle.respond.specs.Answer.{respondAnswer, respondOut};
@@ -90,8 +91,8 @@ pub extern "C" fn dialtable_read_server_names(msg: &[u8], numbers: &mut [u64]) -
 
 #[no_mangle]
 pub extern "C" fn dialtable_read_nl_auth(msg: &[u8], numbers: &mut [u64]) -> u64
-    ensures answer { λ r. ⌜ r ≡ callNumber 12 (nlAuthOutcome (readNlAuth (now (msg .entry)))) (length (now (numbers .entry))) ⌝ }
-    ensures content { λ _. ⌜ now (numbers .exit) ≡ callOut 12 (nlAuthOutcome (readNlAuth (now (msg .entry)))) (now (numbers .entry)) ⌝ }
+    ensures answer { λ r. ⌜ r ≡ callNumber 15 (nlAuthOutcome (readNlAuth (now (msg .entry)))) (length (now (numbers .entry))) ⌝ }
+    ensures content { λ _. ⌜ now (numbers .exit) ≡ callOut 15 (nlAuthOutcome (readNlAuth (now (msg .entry)))) (now (numbers .entry)) ⌝ }
 {
     c_reading::read_nl_auth(msg, numbers)
 }
@@ -303,6 +304,14 @@ pub extern "C" fn dialtable_nl_auth_line(msg: &[u8], out: &mut [u8]) -> u64
     ensures content { λ _. ⌜ now (out .exit) ≡ bytesAfter (nlAuthLine (now (msg .entry))) (now (out .entry)) ⌝ }
 {
     line_number(line::nl_auth_line(msg, out))
+}
+
+#[no_mangle]
+pub extern "C" fn dialtable_nl_auth_name(msg: &[u8], which: u32, out: &mut [u8]) -> u64
+    ensures answer { λ r. ⌜ r ≡ writtenNumber (textAnswer (now (msg .entry)) which (now (out .entry))) ⌝ }
+    ensures content { λ _. ⌜ now (out .exit) ≡ textAfter (now (msg .entry)) which (now (out .entry)) ⌝ }
+{
+    written_number(nl_auth_text::write(msg, which, out))
 }
 
 #[no_mangle]

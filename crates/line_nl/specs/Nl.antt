@@ -2,9 +2,9 @@
 use Prim.Native.Nat.{ℕ}
 use mathlib.Core.List.{List, _++_}
 use Rattle.text.specs.Text.{ascii}
-use Rattle.field.specs.Field.{fieldBytes}
 use Rattle.nl_auth_flags.specs.Flags.{nbDomain, nbComputer, dnsDomain, dnsHost, utf8Computer}
 use Rattle.nl_auth.specs.declared.NlAuth.{NlAuth}
+use Rattle.nl_auth_text.specs.StringText.{oemText, utf8Text}
 use Rattle.word.specs.Words.{numberWord, stringWord, flagsWord, lineEnd}
 
 unfoldable pub nlStart : ℕ → ℕ → List ℕ
@@ -13,15 +13,15 @@ nlStart type bits = numberWord (ascii "nl type=") type ++ flagsWord bits
 -- the OEM strings, each where its bit is set
 unfoldable pub nlOem : List ℕ → NlAuth → List ℕ
 nlOem s m =
-    stringWord (ascii " a=") (nbDomain (m .flags)) (fieldBytes s (m .strings .«nb_domain»)) ++
-    stringWord (ascii " b=") (nbComputer (m .flags)) (fieldBytes s (m .strings .«nb_computer»))
+    stringWord (ascii " a=") (nbDomain (m .flags)) (oemText s (m .strings .«nb_domain»)) ++
+    stringWord (ascii " b=") (nbComputer (m .flags)) (oemText s (m .strings .«nb_computer»))
 
--- the UTF-8 strings
+-- the UTF-8 strings, each where its bit is set
 unfoldable pub nlUtf8 : List ℕ → NlAuth → List ℕ
 nlUtf8 s m =
-    stringWord (ascii " c=") (dnsDomain (m .flags)) (fieldBytes s (m .strings .«dns_domain»)) ++ (
-    stringWord (ascii " d=") (dnsHost (m .flags)) (fieldBytes s (m .strings .«dns_host»)) ++
-    stringWord (ascii " e=") (utf8Computer (m .flags)) (fieldBytes s (m .strings .«utf8_computer»)))
+    stringWord (ascii " c=") (dnsDomain (m .flags)) (utf8Text s (m .strings .«dns_domain»)) ++ (
+    stringWord (ascii " d=") (dnsHost (m .flags)) (utf8Text s (m .strings .«dns_host»)) ++
+    stringWord (ascii " e=") (utf8Computer (m .flags)) (utf8Text s (m .strings .«utf8_computer»)))
 
 unfoldable pub nlText : List ℕ → NlAuth → List ℕ
 nlText s m = nlStart (m .«message_type») (m .flags .bits) ++ (nlOem s m ++ (nlUtf8 s m ++ lineEnd))

@@ -1,44 +1,62 @@
 // The line of an NL_AUTH message that was taken.
 ghost use mathlib.Core.Path.{_≡_};
+ghost use mathlib.Core.List.{_++_};
 ghost use Prim.Native.Nat.{_-_, _<_};
 ghost use lib.ListN.{length};
-ghost use Rattle.field.specs.Field.{fieldBytes};
 ghost use Rattle.place.specs.Place.{Wrote};
 ghost use Rattle.place.specs.Written.{roomHolds, bytesAnswer, bytesAfter};
 ghost use Rattle.wire.specs.Number.{has};
 ghost use Rattle.word.specs.Words.{Room, stringWord};
 ghost use Rattle.nl_auth.specs.declared.Reading.the-variants.{Taken};
 ghost use Rattle.nl_auth.specs.NlAuth.{readNlAuth};
+ghost use Rattle.nl_auth_text.specs.StringText.{oemText, utf8Text};
 ghost use Rattle.line_nl.specs.Nl.{nlStart, nlOem, nlUtf8, nlText};
-use field::Field;
 use nl_auth::NlAuth;
+use nl_auth::string::NlString;
 use nl_auth_flags::NlAuthFlags;
 use place::Place;
 use place::written::Written;
+use place::written::room_after;
 use place::written::room_holds;
 use wire::check::Checked;
 use wire::number::has;
 use wire::refusal::Refusal;
 use word::words::put_flags_word;
-use word::words::put_name_word;
 use word::words::put_number_word;
-use word::words::room_after_name_word;
 use word::words::room_after_number_word;
 
-// What a string's word leaves of a room; it is left out where its bit is clear.
-fn room_after_string(
+// What the word of string A or B leaves of a room; it is left out where its bit is clear.
+fn room_after_oem_string(
     room: usize,
     label: &[u8],
     msg: &[u8],
     flags: NlAuthFlags,
     mask: u32,
-    string: Field,
+    string: NlString,
 ) -> usize
     requires { ⌜ 0 < mask ⌝ }
-    ensures { λ r. ⌜ r ≡ room - length (stringWord (now (label .entry)) (has (flags .bits) mask) (fieldBytes (now (msg .entry)) string)) ⌝ }
+    ensures { λ r. ⌜ r ≡ room - length (stringWord (now (label .entry)) (has (flags .bits) mask) (oemText (now (msg .entry)) string)) ⌝ }
 {
     if has(flags.bits, mask) {
-        return room_after_name_word(room, label, msg, string, false);
+        return nl_auth_text::room_after_oem(room_after(room, label.len()), msg, string);
+    }
+    room
+}
+
+// What the word of string C, D or E leaves of a room; it is left out where its bit is clear.
+fn room_after_utf8_string(
+    room: usize,
+    label: &[u8],
+    msg: &[u8],
+    flags: NlAuthFlags,
+    mask: u32,
+    string: NlString,
+) -> usize
+    requires { ⌜ 0 < mask ⌝ }
+    ensures { λ r. ⌜ r ≡ room - length (stringWord (now (label .entry)) (has (flags .bits) mask) (utf8Text (now (msg .entry)) string)) ⌝ }
+{
+    if has(flags.bits, mask) {
+        return nl_auth_text::room_after_utf8(room_after(room, label.len()), msg, string);
     }
     room
 }
@@ -48,7 +66,7 @@ fn room_after_oem(room: usize, msg: &[u8], m: NlAuth) -> usize
     ensures { λ r. ⌜ r ≡ room - length (nlOem (now (msg .entry)) m) ⌝ }
 {
     let s = m.strings;
-    let left = room_after_string(
+    let left = room_after_oem_string(
         room,
         b" a=",
         msg,
@@ -56,7 +74,7 @@ fn room_after_oem(room: usize, msg: &[u8], m: NlAuth) -> usize
         NlAuthFlags::NB_DOMAIN,
         s.nb_domain,
     );
-    room_after_string(
+    room_after_oem_string(
         left,
         b" b=",
         msg,
@@ -71,7 +89,7 @@ fn room_after_utf8(room: usize, msg: &[u8], m: NlAuth) -> usize
     ensures { λ r. ⌜ r ≡ room - length (nlUtf8 (now (msg .entry)) m) ⌝ }
 {
     let s = m.strings;
-    let left = room_after_string(
+    let left = room_after_utf8_string(
         room,
         b" c=",
         msg,
@@ -79,7 +97,7 @@ fn room_after_utf8(room: usize, msg: &[u8], m: NlAuth) -> usize
         NlAuthFlags::DNS_DOMAIN,
         s.dns_domain,
     );
-    let left = room_after_string(
+    let left = room_after_utf8_string(
         left,
         b" d=",
         msg,
@@ -87,7 +105,7 @@ fn room_after_utf8(room: usize, msg: &[u8], m: NlAuth) -> usize
         NlAuthFlags::DNS_HOST,
         s.dns_host,
     );
-    room_after_string(
+    room_after_utf8_string(
         left,
         b" e=",
         msg,
@@ -115,21 +133,60 @@ fn put_start(out: &mut [u8], message_type: u32, bits: u32) -> Place
     put_flags_word(p, out, bits)
 }
 
-fn put_string(
+fn put_oem_word(p: Place, out: &mut [u8], label: &[u8], msg: &[u8], string: NlString) -> Place
+    requires { ⌜ Room (p .at) (now label ++ oemText (now msg) string) (length (now out)) ⌝ }
+    ensures { λ r. ⌜ Wrote (now (out .entry)) (now (out .exit)) (p .at) (r .at) (now (label .entry) ++ oemText (now (msg .entry)) string) ⌝ }
+{
+    let p = p.put_bytes(out, label);
+    let at = p.at;
+    let text = nl_auth_text::put_oem(&mut out[at..], msg, string);
+    Place { at: at + text.at }
+}
+
+fn put_oem_string(
     p: Place,
     out: &mut [u8],
     label: &[u8],
     msg: &[u8],
     flags: NlAuthFlags,
     mask: u32,
-    string: Field,
+    string: NlString,
 ) -> Place
     requires { ⌜ 0 < mask ⌝ }
-    requires { ⌜ Room (p .at) (stringWord (now label) (has (flags .bits) mask) (fieldBytes (now msg) string)) (length (now out)) ⌝ }
-    ensures { λ r. ⌜ Wrote (now (out .entry)) (now (out .exit)) (p .at) (r .at) (stringWord (now (label .entry)) (has (flags .bits) mask) (fieldBytes (now (msg .entry)) string)) ⌝ }
+    requires { ⌜ Room (p .at) (stringWord (now label) (has (flags .bits) mask) (oemText (now msg) string)) (length (now out)) ⌝ }
+    ensures { λ r. ⌜ Wrote (now (out .entry)) (now (out .exit)) (p .at) (r .at) (stringWord (now (label .entry)) (has (flags .bits) mask) (oemText (now (msg .entry)) string)) ⌝ }
 {
     if has(flags.bits, mask) {
-        return put_name_word(p, out, label, msg, string, false);
+        return put_oem_word(p, out, label, msg, string);
+    }
+    p
+}
+
+fn put_utf8_word(p: Place, out: &mut [u8], label: &[u8], msg: &[u8], string: NlString) -> Place
+    requires { ⌜ Room (p .at) (now label ++ utf8Text (now msg) string) (length (now out)) ⌝ }
+    ensures { λ r. ⌜ Wrote (now (out .entry)) (now (out .exit)) (p .at) (r .at) (now (label .entry) ++ utf8Text (now (msg .entry)) string) ⌝ }
+{
+    let p = p.put_bytes(out, label);
+    let at = p.at;
+    let text = nl_auth_text::put_utf8(&mut out[at..], msg, string);
+    Place { at: at + text.at }
+}
+
+fn put_utf8_string(
+    p: Place,
+    out: &mut [u8],
+    label: &[u8],
+    msg: &[u8],
+    flags: NlAuthFlags,
+    mask: u32,
+    string: NlString,
+) -> Place
+    requires { ⌜ 0 < mask ⌝ }
+    requires { ⌜ Room (p .at) (stringWord (now label) (has (flags .bits) mask) (utf8Text (now msg) string)) (length (now out)) ⌝ }
+    ensures { λ r. ⌜ Wrote (now (out .entry)) (now (out .exit)) (p .at) (r .at) (stringWord (now (label .entry)) (has (flags .bits) mask) (utf8Text (now (msg .entry)) string)) ⌝ }
+{
+    if has(flags.bits, mask) {
+        return put_utf8_word(p, out, label, msg, string);
     }
     p
 }
@@ -139,7 +196,7 @@ fn put_oem(p: Place, out: &mut [u8], msg: &[u8], m: NlAuth) -> Place
     ensures { λ r. ⌜ Wrote (now (out .entry)) (now (out .exit)) (p .at) (r .at) (nlOem (now (msg .entry)) m) ⌝ }
 {
     let s = m.strings;
-    let p = put_string(
+    let p = put_oem_string(
         p,
         out,
         b" a=",
@@ -148,7 +205,7 @@ fn put_oem(p: Place, out: &mut [u8], msg: &[u8], m: NlAuth) -> Place
         NlAuthFlags::NB_DOMAIN,
         s.nb_domain,
     );
-    put_string(
+    put_oem_string(
         p,
         out,
         b" b=",
@@ -164,7 +221,7 @@ fn put_utf8(p: Place, out: &mut [u8], msg: &[u8], m: NlAuth) -> Place
     ensures { λ r. ⌜ Wrote (now (out .entry)) (now (out .exit)) (p .at) (r .at) (nlUtf8 (now (msg .entry)) m) ⌝ }
 {
     let s = m.strings;
-    let p = put_string(
+    let p = put_utf8_string(
         p,
         out,
         b" c=",
@@ -173,7 +230,7 @@ fn put_utf8(p: Place, out: &mut [u8], msg: &[u8], m: NlAuth) -> Place
         NlAuthFlags::DNS_DOMAIN,
         s.dns_domain,
     );
-    let p = put_string(
+    let p = put_utf8_string(
         p,
         out,
         b" d=",
@@ -182,7 +239,7 @@ fn put_utf8(p: Place, out: &mut [u8], msg: &[u8], m: NlAuth) -> Place
         NlAuthFlags::DNS_HOST,
         s.dns_host,
     );
-    put_string(
+    put_utf8_string(
         p,
         out,
         b" e=",

@@ -1,6 +1,7 @@
 -- Laws of NL_AUTH's chain of checks.
 use Prim.Native.Nat.{ℕ, _≤_}
-use mathlib.Core.Path.{_≡_, sym, _∙_}
+use mathlib.Core.Path.{_≡_, sym, subst, _∙_}
+use mathlib.Core.Logic.{_⊎_, inl, inr}
 use mathlib.Core.Bool.{cond}
 use mathlib.Core.List.{List}
 use lib.Dec.{leb, eqb}
@@ -8,27 +9,42 @@ use lib.ListN.{length, getD}
 use borrow.Author.Tests.{leb-true, eq-eqb, ne-eqb}
 use Rattle.wire.specs.declared.check.Checked.{Checked}
 use Rattle.wire.specs.declared.check.Checked.the-variants.{Held, Failed}
-use Rattle.field.specs.declared.Field.{Field}
+use Rattle.wire.specs.declared.refusal.Refusal.{Refusal}
 use Rattle.wire.specs.Check.{checked}
 use Rattle.head.specs.Head.{lengthHolds}
 use Rattle.wire.specs.Number.{u32At}
 use Rattle.wire.proofs.Laws.{chain, held-true}
 use Rattle.nl_auth_flags.specs.declared.NlAuthFlags.{NlAuthFlags}
 use Rattle.nl_auth.specs.declared.Reading.{Reading}
+use Rattle.nl_auth.specs.declared.Reading.the-variants.{Refused}
+use Rattle.nl_auth.specs.declared.name.NameScan.{NameScan}
+use Rattle.nl_auth.specs.declared.name.NameScan.the-variants.{Found as Named, Refused as Not}
+use Rattle.nl_auth.specs.declared.string.NlString.{NlString}
 use Rattle.nl_auth.specs.declared.string.Scan.{Scan}
 use Rattle.nl_auth.specs.declared.string.Scan.the-variants.{Found, Missing}
 use Rattle.nl_auth_flags.specs.Flags.{known}
-use Rattle.nl_auth.specs.NlAuth.{onFound, flagsAt, typeHolds, responseHolds, readRequest, readResponse}
+use Rattle.nl_auth.specs.NlAuth.{onFound, IsFound, onNamed, flagsAt, typeHolds, responseHolds, readRequest, readResponse}
 
 -- a string that was found: what follows decides; one that wasn't: its answer
-module _ {A : Type 0} (k r : Scan) (e : A) (x : Field → ℕ → A) where
-  pub string-found : (w : Field) (n : ℕ) (y : A) → r ≡ k → r ≡ Found w n → y ≡ x w n → y ≡ onFound k e x
+module _ {A : Type 0} (k r : Scan) (e : A) (x : NlString → ℕ → A) where
+  pub string-found : (w : NlString) (n : ℕ) (y : A) → r ≡ k → r ≡ Found w n → y ≡ x w n → y ≡ onFound k e x
   string-found w n y p h z = simp (← p, h) z
 
   pub string-missing : r ≡ k → r ≡ Missing → e ≡ onFound k e x
   string-missing p h = simp (← p, h)
 
+-- and so a name, or its refusal
+module _ (k r : NameScan) (x : NlString → ℕ → Reading) where
+  pub name-found : (w : NlString) (n : ℕ) (y : Reading) → r ≡ k → r ≡ Named w n → y ≡ x w n → y ≡ onNamed k x
+  name-found w n y p h z = simp (← p, h) z
+
+  pub name-refused : (e d : Refusal) → r ≡ k → r ≡ Not e → (r ≡ Not d) ⊎ IsFound r → Refused d ≡ onNamed k x
+  name-refused e d p h (inl q) = simp (← p, q)
+  name-refused e d p h (inr q) = absurd (subst IsFound h q)
+
 pub ruleset request = (chain, string-found, string-missing)
+
+pub ruleset names = (chain, name-found, name-refused)
 
 pub flags-is : (s : List ℕ) (v : ℕ) (r : NlAuthFlags) → v ≡ u32At s 4 → r ≡ known (record { bits = v }) → r ≡ flagsAt s
 flags-is s v r p q = q ∙ simp p

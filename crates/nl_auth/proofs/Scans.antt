@@ -1,4 +1,4 @@
--- Laws of one string: the search for its zero byte, and where it ends.
+-- Laws of strings A and B: the search for the zero byte, and where a string ends.
 use Prim.Native.Nat.{ℕ, suc, _+_, _-_, _≤_, _<_}
 use mathlib.Core.Path.{_≡_, refl, sym, ap, _∙_}
 use mathlib.Core.Bool.{Bool, true, false, cond}
@@ -9,11 +9,10 @@ use native.Mathlib.Omega.{arith}
 use lib.ListN.{length, getD, take, drop, length-drop, drop-of-length-le}
 use lib.Seq.{drop-cons, take-all}
 use borrow.Author.Tests.{eq-eqb, ne-eqb, lt-ltb, le-ltb, ltb-true}
-use Rattle.field.specs.declared.Field.{Field}
-use Rattle.field.specs.Field.{noField}
+use Rattle.nl_auth.specs.declared.string.NlString.{NlString}
 use Rattle.nl_auth.specs.declared.string.Scan.{Scan}
 use Rattle.nl_auth.specs.declared.string.Scan.the-variants.{Found, Missing}
-use Rattle.nl_auth.specs.NlAuth.{beforeZero, holdsZero, stringAt, stringUnder}
+use Rattle.nl_auth.specs.NlAuth.{noString, beforeZero, holdsZero, stringAt, stringUnder}
 
 -- no zero byte stands before i
 pub record Passed (s : List ℕ) (i : ℕ) : Type 0 where
@@ -47,7 +46,7 @@ module _ (s : List ℕ) (at n : ℕ) (e : n ≡ beforeZero (take (length s - at)
   count = e ∙ ap beforeZero (rest s at)
 
   -- a zero byte stands there
-  pub found : n < length (take (length s - at) (drop at s)) → Found (record { offset = at; len = n }) (at + n + 1) ≡ stringAt s at
+  pub found : n < length (take (length s - at) (drop at s)) → Found (record { offset = at; len = n; jumps = 0 }) (at + n + 1) ≡ stringAt s at
   unfolding stringAt
   found h = simp (← count, lt-ltb n (length (drop at s)) (rw (rest s at) at h))
 
@@ -62,22 +61,40 @@ module _ (s : List ℕ) (at : ℕ) (b d : Bool) (q : b ≡ d) where
   unfolding stringUnder
   under-set r h e = rw (← q, h) e
 
-  pub under-clear : b ≡ false → Found noField at ≡ stringUnder d s at
+  pub under-clear : b ≡ false → Found noString at ≡ stringUnder d s at
   unfolding stringUnder
   under-clear h = rw (← q, h)
 
 pub ruleset scanned = (found, missing, under-set, under-clear)
 
--- after a string that was found the next one starts within the message
-ends-inside : (k at : ℕ) (b t : Bool) (x w : Field) (m n : ℕ) →
-    cond b (cond t (Found x m) Missing) (Found noField at) ≡ Found w n → (t ≡ true → m ≤ k) → at ≤ k → n ≤ k
+-- after a string that was found the next one starts within the message, and not before it
+ends-inside : (k at : ℕ) (b t : Bool) (x w : NlString) (m n : ℕ) →
+    cond b (cond t (Found x m) Missing) (Found noString at) ≡ Found w n → (t ≡ true → m ≤ k) → at ≤ k → n ≤ k
 ends-inside k at true true x w m n e f g = let q : m ≡ n = cc in omega (arith, f refl)
 ends-inside k at true false x w m n e f g = absurd (let z : _≡_ {A = ℕ} 0 1 = cc in omega arith)
 ends-inside k at false t x w m n e f g = let q : at ≡ n = cc in omega arith
 
-pub inside : (s : List ℕ) (at : ℕ) (b : Bool) (w : Field) (n : ℕ) (r : Scan) →
+pub inside : (s : List ℕ) (at : ℕ) (b : Bool) (w : NlString) (n : ℕ) (r : Scan) →
     r ≡ Found w n → r ≡ stringUnder b s at → at ≤ length s → n ≤ length s
 unfolding stringUnder stringAt
 inside s at b w n r h e l =
     ends-inside (length s) at b (holdsZero (drop at s)) _ w _ n (sym e ∙ h)
     (λ t. omega (arith, simp length-drop at (ltb-true (beforeZero (drop at s)) (length (drop at s)) t))) l
+
+starts-behind : (at : ℕ) (b t : Bool) (x w : NlString) (m n : ℕ) →
+    cond b (cond t (Found x m) Missing) (Found noString at) ≡ Found w n → at ≤ m → at ≤ n
+starts-behind at true true x w m n e f = let q : m ≡ n = cc in omega arith
+starts-behind at true false x w m n e f = absurd (let z : _≡_ {A = ℕ} 0 1 = cc in omega arith)
+starts-behind at false t x w m n e f = let q : at ≡ n = cc in omega arith
+
+pub behind : (s : List ℕ) (at : ℕ) (b : Bool) (w : NlString) (n : ℕ) (r : Scan) →
+    r ≡ Found w n → r ≡ stringUnder b s at → 8 ≤ at → 8 ≤ n
+unfolding stringUnder stringAt
+behind s at b w n r h e l =
+    omega (arith, starts-behind at b (holdsZero (drop at s)) _ w (at + beforeZero (drop at s) + 1) n (sym e ∙ h) (omega arith))
+
+-- the first string starts at 8
+pub at-first : 8 ≤ 8
+at-first = omega arith
+
+pub ruleset onward = (inside, behind, at-first)

@@ -1,13 +1,16 @@
 // NL_AUTH_MESSAGE (MS-NRPC 2.2.1.3.1): reading.
+pub mod name;
 pub mod string;
 
 ghost use mathlib.Core.Path.{_≡_};
 ghost use Prim.Native.Nat.{_≤_};
 ghost use lib.ListN.{length};
 ghost use Rattle.nl_auth.specs.NlAuth.{flagsAt, typeHolds, endHolds, readUtf8, readRequest, responseHolds, readResponse, readNlAuth};
+use crate::name::NameScan;
+use crate::name::name_under;
+use crate::string::NlString;
 use crate::string::Scan;
 use crate::string::string_under;
-use field::Field;
 use head::fixed_part_holds;
 use head::length_holds;
 use nl_auth_flags::NlAuthFlags;
@@ -18,11 +21,11 @@ use wire::refusal::Refusal;
 
 // Where the five strings stand, A to E. Empty at place 0: a string whose bit is clear, and every string of a response.
 pub struct Strings {
-    pub nb_domain: Field,
-    pub nb_computer: Field,
-    pub dns_domain: Field,
-    pub dns_host: Field,
-    pub utf8_computer: Field,
+    pub nb_domain: NlString,
+    pub nb_computer: NlString,
+    pub dns_domain: NlString,
+    pub dns_host: NlString,
+    pub utf8_computer: NlString,
 }
 
 pub struct NlAuth {
@@ -66,26 +69,28 @@ fn end_holds(msg: &[u8], next: usize) -> Checked
     check(next == msg.len())
 }
 
-// Check 15 for the UTF-8 strings, C to E, which start at `at` after those before them, then 16.
+// 15 and 50 to 53 for the UTF-8 strings, C to E, which start at `at` after those before them, then 16.
 fn read_utf8(
     msg: &[u8],
     flags: NlAuthFlags,
-    nb_domain: Field,
-    nb_computer: Field,
+    nb_domain: NlString,
+    nb_computer: NlString,
     at: usize,
 ) -> Reading
-    requires { ⌜ (at ≤ length (now msg)) × (length (now msg) ≤ 65535) ⌝ }
+    requires { ⌜ (8 ≤ at) × ((at ≤ length (now msg)) × (length (now msg) ≤ 65535)) ⌝ }
     ensures { λ r. ⌜ r ≡ readUtf8 flags (now (msg .entry)) «nb_domain» «nb_computer» at ⌝ }
 {
-    let Scan::Found(dns_domain, at) = string_under(msg, at, flags, NlAuthFlags::DNS_DOMAIN) else {
-        return Reading::Refused(Refusal::Unterminated(3));
+    let c = name_under(msg, at, flags, NlAuthFlags::DNS_DOMAIN, 3);
+    let NameScan::Found(dns_domain, at) = c else {
+        return Reading::Refused(c.refusal());
     };
-    let Scan::Found(dns_host, at) = string_under(msg, at, flags, NlAuthFlags::DNS_HOST) else {
-        return Reading::Refused(Refusal::Unterminated(4));
+    let d = name_under(msg, at, flags, NlAuthFlags::DNS_HOST, 4);
+    let NameScan::Found(dns_host, at) = d else {
+        return Reading::Refused(d.refusal());
     };
-    let Scan::Found(utf8_computer, at) = string_under(msg, at, flags, NlAuthFlags::UTF8_COMPUTER)
-    else {
-        return Reading::Refused(Refusal::Unterminated(5));
+    let e = name_under(msg, at, flags, NlAuthFlags::UTF8_COMPUTER, 5);
+    let NameScan::Found(utf8_computer, at) = e else {
+        return Reading::Refused(e.refusal());
     };
     let Checked::Held = end_holds(msg, at) else {
         return Reading::Refused(Refusal::BytesLeft);
@@ -137,7 +142,11 @@ fn read_response(msg: &[u8]) -> Reading
     let Checked::Held = response_holds(msg) else {
         return Reading::Refused(Refusal::WrongResponse);
     };
-    let none = Field { offset: 0, len: 0 };
+    let none = NlString {
+        offset: 0,
+        len: 0,
+        jumps: 0,
+    };
     Reading::Taken(NlAuth {
         message_type: NlAuth::RESPONSE,
         flags: NlAuthFlags { bits: 0 },

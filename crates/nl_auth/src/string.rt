@@ -1,16 +1,38 @@
-// One string of an NL_AUTH buffer: the bytes up to its first zero byte.
+// One string of an NL_AUTH message, and strings A and B: the bytes up to the first zero byte.
 ghost use mathlib.Core.Path.{_≡_};
 ghost use Prim.Native.Nat.{_≤_, _<_};
 ghost use lib.ListN.{length};
 ghost use Rattle.wire.specs.Number.{has};
-ghost use Rattle.nl_auth.specs.NlAuth.{beforeZero, stringAt, stringUnder};
-use field::Field;
+ghost use Rattle.field.specs.Field.{PartAt};
+ghost use Rattle.nl_auth.specs.NlAuth.{stringBytes, stringStart, beforeZero, stringAt, stringUnder};
 use nl_auth_flags::NlAuthFlags;
 use wire::number::has;
 
+// Where a string stands in its message, and how many jumps were taken in reading it. One that isn't there has 0 in all three.
+pub struct NlString {
+    pub offset: u32,
+    pub len: u16,
+    pub jumps: u8,
+}
+
+impl NlString {
+    // The string's own bytes, as a part of the message; of a record that doesn't fit this message, the empty part.
+    pub fn bytes(self, msg: &[u8]) -> &[u8]
+        ensures content { λ r. ⌜ now r ≡ stringBytes (now (msg .entry)) self ⌝ }
+        ensures place { λ r. ⌜ PartAt (r .ptr) (msg .entry .ptr) (stringStart (now (msg .entry)) self) ⌝ }
+    {
+        let at = self.offset as usize;
+        let end = at + self.len as usize;
+        if end <= msg.len() {
+            return &msg[at..end];
+        }
+        &msg[..0]
+    }
+}
+
 // What stands at a place: a string and the place where the next one starts, or bytes without a zero byte.
 pub enum Scan {
-    Found(Field, usize),
+    Found(NlString, usize),
     Missing,
 }
 
@@ -36,9 +58,10 @@ fn string_at(msg: &[u8], at: usize) -> Scan
     let rest = &msg[at..];
     let len = before_zero(rest);
     if len < rest.len() {
-        let string = Field {
+        let string = NlString {
             offset: at as u32,
             len: len as u16,
+            jumps: 0,
         };
         return Scan::Found(string, at + len + 1);
     }
@@ -53,5 +76,10 @@ pub(crate) fn string_under(msg: &[u8], at: usize, flags: NlAuthFlags, mask: u32)
     if has(flags.bits, mask) {
         return string_at(msg, at);
     }
-    Scan::Found(Field { offset: 0, len: 0 }, at)
+    let none = NlString {
+        offset: 0,
+        len: 0,
+        jumps: 0,
+    };
+    Scan::Found(none, at)
 }

@@ -43,7 +43,7 @@ fn unit_at(name: &[u8], at: usize, unicode: bool) -> u16
 }
 
 // How many bytes a unit's text has.
-fn unit_size(u: u16, unicode: bool) -> usize
+pub fn unit_size(u: u16, unicode: bool) -> usize
     ensures { λ r. ⌜ r ≡ length (unitText unicode u) ⌝ }
 {
     if is_plain(u) {
@@ -56,7 +56,7 @@ fn unit_size(u: u16, unicode: bool) -> usize
 }
 
 // What a name's text leaves of a room: nothing where it passes it, and the first unit that does is the last that is looked at.
-fn room_after_name(room: usize, name: &[u8], unicode: bool) -> usize
+pub fn room_after_name(room: usize, name: &[u8], unicode: bool) -> usize
     ensures { λ r. ⌜ r ≡ room - length (nameText unicode (now (name .entry))) ⌝ }
 {
     let width = unit_width(unicode);
@@ -74,7 +74,7 @@ fn room_after_name(room: usize, name: &[u8], unicode: bool) -> usize
 }
 
 // A backslash, a letter and so many hex digits.
-fn put_escape(p: Place, out: &mut [u8], letter: u8, u: u16, k: usize) -> Place
+pub fn put_escape(p: Place, out: &mut [u8], letter: u8, u: u16, k: usize) -> Place
     requires { ⌜ p .at + (2 + k) ≤ length (now out) ⌝ }
     ensures { λ r. ⌜ Wrote (now (out .entry)) (now (out .exit)) (p .at) (r .at) (0x5C ∷ letter ∷ hex k u) ⌝ }
 {
@@ -85,7 +85,8 @@ fn put_escape(p: Place, out: &mut [u8], letter: u8, u: u16, k: usize) -> Place
     Place { at: at + digits.at }
 }
 
-fn put_unit(p: Place, out: &mut [u8], u: u16, unicode: bool) -> Place
+// A unit's text.
+pub fn put_unit(p: Place, out: &mut [u8], u: u16, unicode: bool) -> Place
     requires { ⌜ p .at + length (unitText unicode u) ≤ length (now out) ⌝ }
     ensures { λ r. ⌜ Wrote (now (out .entry)) (now (out .exit)) (p .at) (r .at) (unitText unicode u) ⌝ }
 {
@@ -99,7 +100,7 @@ fn put_unit(p: Place, out: &mut [u8], u: u16, unicode: bool) -> Place
 }
 
 // A name's text, at the start of the output.
-fn put_name(out: &mut [u8], name: &[u8], unicode: bool) -> Place
+pub fn put_name(out: &mut [u8], name: &[u8], unicode: bool) -> Place
     requires { ⌜ length (nameText unicode (now name)) ≤ length (now out) ⌝ }
     ensures { λ r. ⌜ Wrote (now (out .entry)) (now (out .exit)) 0 (r .at) (nameText unicode (now (name .entry))) ⌝ }
 {

@@ -17,10 +17,10 @@ use Rattle.negotiate.specs.declared.Negotiate.{Negotiate}
 use Rattle.nl_auth.specs.declared.NlAuth.{NlAuth}
 use Rattle.target_info.specs.declared.Timestamp.{Timestamp}
 use Rattle.target_info.specs.declared.Timestamp.the-variants.{Time, Nothing as NoTime}
-use Rattle.word.specs.Name.{plain, unitText, textOf, nameText}
+use Rattle.word.specs.Name.{nameText}
 use Rattle.word.specs.Words.{numberWord, nameWord, stringWord, kindWord}
 use Rattle.word.proofs.Labels.{flags-word-size, start-size, mic-size}
-use Rattle.word.proofs.Names.{size-plain, size-wide, size-byte, field-small}
+use Rattle.word.proofs.Names.{name-bound, field-small}
 use Rattle.line_auth.specs.Auth.{authNames, authLengths, authEnd, authText}
 use Rattle.line_chal.specs.Chal.{timeWord, chalEnd, chalWords}
 use Rattle.line_chal.proofs.Laws.{time-size}
@@ -28,26 +28,6 @@ use Rattle.line_nego.specs.Nego.{negoNames, negoText}
 use Rattle.line_nl.specs.Nl.{nlStart, nlOem, nlUtf8, nlText}
 
 -- ---- a name
-
-wide-bound : (u : ℕ) → length (unitText true u) ≤ 6
-wide-bound u = go (plain u) refl where
-  go : (t : Bool) → plain u ≡ t → length (unitText true u) ≤ 6
-  go true p = omega (arith, size-plain u (plain u) refl true p)
-  go false p = omega (arith, size-wide u (plain u) refl true p refl)
-
-byte-bound : (u : ℕ) → length (unitText false u) ≤ 4
-byte-bound u = go (plain u) refl where
-  go : (t : Bool) → plain u ≡ t → length (unitText false u) ≤ 4
-  go true p = omega (arith, size-plain u (plain u) refl false p)
-  go false p = omega (arith, size-byte u (plain u) refl false p refl)
-
-name-bound : (unicode : Bool) (s : List ℕ) → length (nameText unicode s) ≤ 4 * length s
-unfolding nameText textOf
-name-bound true [] = omega arith
-name-bound true (a ∷ []) = omega arith
-name-bound true (a ∷ b ∷ s) = omega (arith, wide-bound (a + 256 * b), name-bound true s, length-append (unitText true (a + 256 * b)) (nameText true s))
-name-bound false [] = omega arith
-name-bound false (a ∷ s) = omega (arith, byte-bound a, name-bound false s, length-append (unitText false a) (nameText false s))
 
 word-bound : (label s : List ℕ) (unicode : Bool) (f : Field) → length (nameWord label unicode (fieldBytes s f)) ≤ length label + 4 * f .len
 unfolding nameWord

@@ -1,7 +1,7 @@
 -- `read_request` makes check 14, then 15 for strings A and B.
 use borrow.Author.Needs.{needs}
 use Rattle.nl_auth.proofs.Laws.{request}
-use Rattle.nl_auth.proofs.Scans.{inside}
+use Rattle.nl_auth.proofs.Scans.{inside, onward}
 use Rattle.nl_auth.proofs.read_request.Statement.{statement}
 use Rattle.nl_auth.proofs.read_request.Tie as tie
 use Rattle.nl_auth.specs.NlAuth.{readRequest}
@@ -14,4 +14,4 @@ read-request-spec =
     (λ c κs. search needs) (λ c. search needs) (λ c. search needs) (λ c. search request depth 8 fits 20000)
     (λ c κs. search needs) (λ c. search needs) (λ c. search needs) (λ c. search request depth 8 fits 20000)
     (λ c κs. (search needs, search inside depth 12 fits 20000, search needs)) (λ c. search needs) (λ c. search needs) (λ c. search request depth 8 fits 20000)
-    (λ c κs. (search inside depth 12 fits 20000, search needs)) (λ c. search request depth 8 fits 20000))
+    (λ c κs. (search onward depth 12 fits 20000, (search onward depth 12 fits 20000, search needs))) (λ c. search request depth 8 fits 20000))

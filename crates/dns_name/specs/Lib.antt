@@ -1,0 +1,2 @@
+pub mod DnsName
+pub mod Rfc1035
