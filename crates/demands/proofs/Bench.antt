@@ -12,12 +12,13 @@ use Rattle.line.specs.Line.{authenticateLine, nlAuthLine, challengeLine, ntlmLi
 use Rattle.line_nl.specs.Nl.{nlStart, nlOem, nlUtf8, nlText}
 use Rattle.line_chal.specs.Chal.{chalEnd, chalWords, chalText}
 use Rattle.place.specs.Written.{bytesAnswer, bytesAfter}
-use Rattle.nl_auth.specs.NlAuth.{readNlAuth, readRequest, readUtf8, readResponse, stringUnder, stringAt}
+use Rattle.nl_auth.specs.NlAuth.{readNlAuth, readRequest, readUtf8, readResponse, stringUnder, stringAt, stringBytes, nameUnder, nameAt}
+use Rattle.nl_auth_text.specs.StringText.{oemText, utf8Text}
 use Rattle.head.specs.Head.{signatureHolds, readHead, kindOf}
 use Rattle.av_pairs.specs.AvPairs.{countPairs, checkPairs, pairsOf, stepAt, pairOf, left}
 use Rattle.authenticate.specs.Authenticate.{fieldsAt, checkEnds, checkBegins, checkNames, checkShared, checkFields, micPresent, readingOf, readAuthenticate}
 use Rattle.demands.specs.Bench.{BenchHolds}
 
 pub bench-holds : BenchHolds
-unfolding readAuthenticate readingOf readHead signatureHolds fieldsAt fieldAt checkFields checkEnds checkBegins checkNames checkShared micPresent countPairs checkPairs pairsOf stepAt pairOf left readNlAuth readRequest readUtf8 readResponse stringUnder stringAt fieldBytes readChallenge challengeReadingOf fieldsOf hexDigit hex decimalSize decimal escape unitText textOf nameText numberWord nameWord stringWord flagsWord setWord startText micWord kindWord timeText timeWord refusedText refusedLine authNames authLengths authEnd authText authenticateLine nlStart nlOem nlUtf8 nlText nlAuthLine chalEnd chalWords chalText challengeLine kindOf ntlmLine bytesAnswer bytesAfter shownLine
+unfolding readAuthenticate readingOf readHead signatureHolds fieldsAt fieldAt checkFields checkEnds checkBegins checkNames checkShared micPresent countPairs checkPairs pairsOf stepAt pairOf left readNlAuth readRequest readUtf8 readResponse stringUnder stringAt stringBytes nameUnder nameAt oemText utf8Text fieldBytes readChallenge challengeReadingOf fieldsOf hexDigit hex decimalSize decimal escape unitText textOf nameText numberWord nameWord stringWord flagsWord setWord startText micWord kindWord timeText timeWord refusedText refusedLine authNames authLengths authEnd authText authenticateLine nlStart nlOem nlUtf8 nlText nlAuthLine chalEnd chalWords chalText challengeLine kindOf ntlmLine bytesAnswer bytesAfter shownLine
 bench-holds = refl

@@ -11,25 +11,34 @@ use lib.Seq.{getD-drop}
 use borrow.Author.Tests.{leb-true, leb-false, ltb-true, ltb-false, eqb-true, eqb-false, eq-eqb, ne-eqb}
 use Rattle.wire.specs.declared.check.Checked.the-variants.{Held, Failed}
 use Rattle.wire.proofs.Laws.{held-true}
-use Rattle.field.specs.declared.Field.{Field}
 use Rattle.wire.specs.declared.refusal.Refusal.{Refusal}
 use Rattle.wire.specs.declared.refusal.Refusal.the-variants.{Unterminated}
 use Rattle.wire.specs.Check.{checked}
-use Rattle.field.specs.Field.{noField}
 use Rattle.wire.specs.Number.{u32At}
 use Rattle.wire.specs.Refusal.{numberOf, fieldOf}
-use Rattle.field.proofs.Fields.{own-bytes}
 use Rattle.wire.proofs.Bools.{and-left, and-right, and-both}
 use Rattle.nl_auth.specs.declared.Reading.{Reading}
 use Rattle.nl_auth.specs.declared.Reading.the-variants.{Taken, Refused}
+use Rattle.nl_auth.specs.declared.string.NlString.{NlString}
 use Rattle.nl_auth.specs.declared.string.Scan.the-variants.{Found, Missing}
+use Rattle.nl_auth.specs.declared.name.NameScan.the-variants.{Found as Named, Refused as Not}
+use Rattle.dns_name.specs.declared.Fault.{Fault}
+use Rattle.dns_name.specs.declared.Fault.the-variants.{CutShort, WrongTopBits, PlaceNotBefore, TooManyJumps, NameTooLong}
+use Rattle.dns_name.specs.declared.Name.{Name}
+use Rattle.dns_name.specs.declared.Reading.{Reading as NameReading}
+use Rattle.dns_name.specs.declared.Reading.the-variants.{Taken as Read, Refused as Faulty}
+use Rattle.dns_name.specs.DnsName.{readName, numberOf as faultNumber}
+use Rattle.dns_name.proofs.Exact.{taken, refused}
+use Rattle.nl_auth.proofs.Names.{own-bytes}
 use Rattle.nl_auth_flags.specs.Flags.{nbDomain, nbComputer, dnsDomain, dnsHost, utf8Computer, stringsHold}
-use Rattle.nl_auth.specs.NlAuth.{beforeZero, holdsZero, stringAt, stringUnder, onFound, flagsAt, readUtf8, readRequest, readResponse, readNlAuth}
-use Rattle.demands.specs.Order.{First}
-use Rattle.demands.specs.NlAuth.{typeOf, masks, maskOf, BitSet, ZeroAt, Strings, StartsAt, NlFails}
-use Rattle.demands.specs.OwnBytes.{OwnString, OwnRequest, OwnResponse, NlAuthOwn}
+use Rattle.nl_auth.specs.NlAuth.{noString, beforeZero, holdsZero, stringAt, stringUnder, onFound, refusalIn, nameString, onName, nameAt, nameUnder, onNamed, flagsAt, readUtf8, readRequest, readResponse, readNlAuth}
+use Rattle.demands.specs.Order.{row, check}
+use Rattle.demands.specs.NlAuth.{typeOf, numbered, maskOf, BitSet, ZeroAt, StandsAt, plain, name, FaultIn, no-zero, in-name, Strings, StartsAt, StringFails, NlFails, stepOf, NlFirst}
+use Rattle.demands.specs.OwnBytes.{OwnString, OwnName, OwnRequest, OwnResponse, NlAuthOwn}
 use Rattle.demands.specs.TakenExactly.{IsTakenNl, NlRefusedWith, NlAuthIsTaken, NlAuthIsRefused}
-use Rattle.demands.proofs.Order.{Free, first, only-first, next-field, next-check, skip}
+use Rattle.demands.proofs.DnsName.{one-name, name-or-fault, one-name-fault, name-ends}
+use Rattle.demands.proofs.Order.{Free, next-field, next-check, skip}
+use Rattle.demands.proofs.Order.Rank.{either-way}
 use Rattle.demands.proofs.Bools.{both-ways, failed-false, or-left, or-right, or-either, bit1, bit2, bit4, bit8, bit16, chained}
 
 -- ---- one string
@@ -104,110 +113,273 @@ module _ (s : List ℕ) where
     go false true e f = absurd (a .first r (b .from) (ltb-true r q f) (b .zero))
     go false false e f = omega (arith, ltb-false q r e, ltb-false r q f)
 
-  one-place : (ms : List ℕ) (p q r : ℕ) → Strings s ms p q → Strings s ms p r → q ≡ r
+  -- a string ends at one place only, or has one fault only
+  one-stand : (i p q r : ℕ) → StandsAt s i p q → StandsAt s i p r → q ≡ r
+  one-stand i p q r (plain {q = x} l z e) (plain {q = y} m w f) = let h = one-zero p x y z w in omega arith
+  one-stand i p q r (plain l z e) (name m w f) = absurd (omega arith)
+  one-stand i p q r (name l w e) (plain m z f) = absurd (omega arith)
+  one-stand i p q r (name {n = x} l w e) (name {n = y} m v f) = let h : x ≡ y = one-name (drop 8 s) (p - 8) _ _ _ _ x y w v in omega arith
+
+  stand-or-fault : (i p q n : ℕ) → StandsAt s i p q → FaultIn s i p n → ⊥
+  stand-or-fault i p q n (plain {q = x} l z e) (no-zero m f g) = g x z
+  stand-or-fault i p q n (plain l z e) (in-name m f) = absurd (omega arith)
+  stand-or-fault i p q n (name l w e) (no-zero m f g) = absurd (omega arith)
+  stand-or-fault i p q n (name {n = x} l w e) (in-name m f) = name-or-fault (drop 8 s) (p - 8) _ _ x n w f
+
+  one-fault : (i p m n : ℕ) → FaultIn s i p m → FaultIn s i p n → m ≡ n
+  one-fault i p m n (no-zero l e f) (no-zero k g h) = e ∙ sym g
+  one-fault i p m n (no-zero l e f) (in-name k g) = absurd (omega arith)
+  one-fault i p m n (in-name l f) (no-zero k g h) = absurd (omega arith)
+  one-fault i p m n (in-name l f) (in-name k g) = one-name-fault (drop 8 s) (p - 8) m n f g
+
+  -- it ends inside the message, behind its start
+  stand-ends : (i p q : ℕ) → 8 ≤ p → p ≤ length s → StandsAt s i p q → (p < q) × (q ≤ length s)
+  stand-ends i p q a b (plain l z e) = (omega (arith, z .from), omega (arith, z .inside))
+  stand-ends i p q a b (name {n = x} l w e) =
+      let h = name-ends (drop 8 s) (p - 8) _ _ x w in
+      (omega (arith, h .0), omega (arith, h .0, h .1, length-drop 8 s))
+
+  one-place : (is : List ℕ) (p q r : ℕ) → Strings s is p q → Strings s is p r → q ≡ r
   one-place [] p q r a b = sym a ∙ b
-  one-place (m ∷ ms) p q r (inl a) (inl b) =
-      let e = one-zero p (a .1 .0) (b .1 .0) (a .1 .1) (b .1 .1) in
-      one-place ms (b .1 .0 + 1) q r (subst (λ (x : ℕ). Strings s ms (x + 1) q) e (a .1 .2)) (b .1 .2)
-  one-place (m ∷ ms) p q r (inl a) (inr b) = absurd (b .0 (a .0))
-  one-place (m ∷ ms) p q r (inr a) (inl b) = absurd (a .0 (b .0))
-  one-place (m ∷ ms) p q r (inr a) (inr b) = one-place ms p q r (a .1) (b .1)
+  one-place (i ∷ is) p q r (inl a) (inl b) =
+      let e = one-stand i p (a .1 .0) (b .1 .0) (a .1 .1) (b .1 .1) in
+      one-place is (b .1 .0) q r (subst (λ (x : ℕ). Strings s is x q) e (a .1 .2)) (b .1 .2)
+  one-place (i ∷ is) p q r (inl a) (inr b) = absurd (b .0 (a .0))
+  one-place (i ∷ is) p q r (inr a) (inl b) = absurd (a .0 (b .0))
+  one-place (i ∷ is) p q r (inr a) (inr b) = one-place is p q r (a .1) (b .1)
 
   -- one string more, or one clear bit more
-  add-string : (ms : List ℕ) (m p q r : ℕ) → Strings s ms p q → BitSet s m → ZeroAt s q r → Strings s (ms ++ (m ∷ [])) p (r + 1)
-  add-string [] m p q r a b z = inl (b, (r, subst (λ (x : ℕ). ZeroAt s x r) (sym a) z, refl))
-  add-string (n ∷ ms) m p q r (inl a) b z = inl (a .0, (a .1 .0, a .1 .1, add-string ms m (a .1 .0 + 1) q r (a .1 .2) b z))
-  add-string (n ∷ ms) m p q r (inr a) b z = inr (a .0, add-string ms m p q r (a .1) b z)
+  add-string : (is : List ℕ) (i p q r : ℕ) → Strings s is p q → BitSet s (maskOf i) → StandsAt s i q r → Strings s (is ++ (i ∷ [])) p r
+  add-string [] i p q r a b z = inl (b, (r, subst (λ (x : ℕ). StandsAt s i x r) (sym a) z, refl))
+  add-string (n ∷ is) i p q r (inl a) b z = inl (a .0, (a .1 .0, a .1 .1, add-string is i (a .1 .0) q r (a .1 .2) b z))
+  add-string (n ∷ is) i p q r (inr a) b z = inr (a .0, add-string is i p q r (a .1) b z)
 
-  add-clear : (ms : List ℕ) (m p q : ℕ) → Strings s ms p q → (BitSet s m → ⊥) → Strings s (ms ++ (m ∷ [])) p q
-  add-clear [] m p q a b = inr (b, a)
-  add-clear (n ∷ ms) m p q (inl a) b = inl (a .0, (a .1 .0, a .1 .1, add-clear ms m (a .1 .0 + 1) q (a .1 .2) b))
-  add-clear (n ∷ ms) m p q (inr a) b = inr (a .0, add-clear ms m p q (a .1) b)
+  add-clear : (is : List ℕ) (i p q : ℕ) → Strings s is p q → (BitSet s (maskOf i) → ⊥) → Strings s (is ++ (i ∷ [])) p q
+  add-clear [] i p q a b = inr (b, a)
+  add-clear (n ∷ is) i p q (inl a) b = inl (a .0, (a .1 .0, a .1 .1, add-clear is i (a .1 .0) q (a .1 .2) b))
+  add-clear (n ∷ is) i p q (inr a) b = inr (a .0, add-clear is i p q (a .1) b)
 
   -- places stay inside the message
-  inside : (ms : List ℕ) (p q : ℕ) → p ≤ length s → Strings s ms p q → q ≤ length s
-  inside [] p q l a = omega (arith, a)
-  inside (m ∷ ms) p q l (inl a) = inside ms (a .1 .0 + 1) q (omega (arith, a .1 .1 .inside)) (a .1 .2)
-  inside (m ∷ ms) p q l (inr a) = inside ms p q l (a .1)
+  pub inside : (is : List ℕ) (p q : ℕ) → 8 ≤ p → p ≤ length s → Strings s is p q → (8 ≤ q) × (q ≤ length s)
+  inside [] p q k l a = (omega (arith, a), omega (arith, a))
+  inside (i ∷ is) p q k l (inl a) =
+      let h = stand-ends i p (a .1 .0) k l (a .1 .1) in
+      inside is (a .1 .0) q (omega (arith, h .0)) (h .1) (a .1 .2)
+  inside (i ∷ is) p q k l (inr a) = inside is p q k l (a .1)
 
-  -- ---- the checks in their order
+  -- ---- the checks in their order: 15 and 50 to 53 are one step
+
+  abbrev StepFails : ℕ → ℕ → Type 0
+  StepFails n i =
+      check 1 n ((i ≡ 0) × (65535 < length s)) (
+      check 2 n ((i ≡ 0) × (length s < 8)) (
+      check 4 n ((i ≡ 0) × (typeOf s ≡ 0 → ⊥) × (typeOf s ≡ 1 → ⊥)) (
+      check 14 n ((i ≡ 0) × (typeOf s ≡ 0) × ((k : ℕ) → 1 ≤ k → k ≤ 5 → BitSet s (maskOf k) → ⊥)) (
+      check 15 n ((k : ℕ) × StringFails s k i) (
+      check 16 n ((i ≡ 0) × (typeOf s ≡ 0) × ((p : ℕ) × StartsAt s 6 p × (p ≡ length s → ⊥))) (
+      check 17 n ((i ≡ 0) × (typeOf s ≡ 1) × ((length s ≡ 9) × (getD s 8 0 ≡ 0) → ⊥))
+      ⊥))))))
+
+  -- by the rows of a table
+  by-row : (k n : ℕ) (P rest G : Type 0) → (n ≡ k → P → G) → (rest → G) → check k n P rest → G
+  by-row k n P rest G f g h = go (eqb n k) refl h where
+    go : (t : Bool) → eqb n k ≡ t → row t P rest → G
+    go true e w = f (eqb-true n k e) w
+    go false e w = g w
+
+  -- a failure that is one of a single number, or one of a string
+  abbrev Sorted : ℕ → ℕ → Type 0
+  Sorted n i = ((stepOf n ≡ n) × (n ≡ 15 → ⊥) × StepFails n i) ⊎ ((stepOf n ≡ 15) × StringFails s n i)
+
+  sorted : (n i : ℕ) → NlFails s n i → Sorted n i
+  sorted n i =
+      by-row 1 n _ _ (Sorted n i) (λ e w. subst (λ (x : ℕ). Sorted x i) (sym e) (inl (refl, (λ z. omega arith), w)))
+      (by-row 2 n _ _ (Sorted n i) (λ e w. subst (λ (x : ℕ). Sorted x i) (sym e) (inl (refl, (λ z. omega arith), w)))
+      (by-row 4 n _ _ (Sorted n i) (λ e w. subst (λ (x : ℕ). Sorted x i) (sym e) (inl (refl, (λ z. omega arith), w)))
+      (by-row 14 n _ _ (Sorted n i) (λ e w. subst (λ (x : ℕ). Sorted x i) (sym e) (inl (refl, (λ z. omega arith), w)))
+      (by-row 15 n _ _ (Sorted n i) (λ e w. subst (λ (x : ℕ). Sorted x i) (sym e) (inr (refl, w)))
+      (by-row 50 n _ _ (Sorted n i) (λ e w. subst (λ (x : ℕ). Sorted x i) (sym e) (inr (refl, w)))
+      (by-row 51 n _ _ (Sorted n i) (λ e w. subst (λ (x : ℕ). Sorted x i) (sym e) (inr (refl, w)))
+      (by-row 52 n _ _ (Sorted n i) (λ e w. subst (λ (x : ℕ). Sorted x i) (sym e) (inr (refl, w)))
+      (by-row 53 n _ _ (Sorted n i) (λ e w. subst (λ (x : ℕ). Sorted x i) (sym e) (inr (refl, w)))
+      (by-row 16 n _ _ (Sorted n i) (λ e w. subst (λ (x : ℕ). Sorted x i) (sym e) (inl (refl, (λ z. omega arith), w)))
+      (by-row 17 n _ _ (Sorted n i) (λ e w. subst (λ (x : ℕ). Sorted x i) (sym e) (inl (refl, (λ z. omega arith), w)))
+      (λ z. absurd z)))))))))))
+
+  to-step : (n i : ℕ) → NlFails s n i → StepFails (stepOf n) i
+  to-step n i h = go (sorted n i h) where
+    go : Sorted n i → StepFails (stepOf n) i
+    go (inl w) = subst (λ (x : ℕ). StepFails x i) (sym (w .0)) (w .2)
+    go (inr w) = subst (λ (x : ℕ). StepFails x i) (sym (w .0)) (n, w .1)
+
+  -- a failure before whose step none failed
+  raise : (n i : ℕ) → Free StepFails (stepOf n) i → NlFails s n i → NlFirst s n i
+  raise n i free h = record { fails = h; none-before = λ m j b w. free (stepOf m) j b (to-step m j w) }
+
+  -- a step has one number at one string
+  same-number : (m n i : ℕ) → stepOf m ≡ stepOf n → NlFails s m i → NlFails s n i → m ≡ n
+  same-number m n i e a b = go (sorted m i a) (sorted n i b) where
+    go : Sorted m i → Sorted n i → m ≡ n
+    go (inl x) (inl y) = sym (x .0) ∙ e ∙ y .0
+    go (inl x) (inr y) = absurd (x .1 (sym (x .0) ∙ e ∙ y .0))
+    go (inr x) (inl y) = absurd (y .1 (sym (y .0) ∙ sym e ∙ x .0))
+    go (inr x) (inr y) =
+        let q = one-place (take (i - 1) numbered) 8 (x .1 .4 .0) (y .1 .4 .0) (x .1 .4 .1) (y .1 .4 .1) in
+        one-fault i (y .1 .4 .0) m n (subst (λ (p : ℕ). FaultIn s i p m) q (x .1 .4 .2)) (y .1 .4 .2)
+
+  only-one : (m j n i : ℕ) → NlFirst s m j → NlFirst s n i → (m ≡ n) × (j ≡ i)
+  only-one m j n i f g =
+      ⊎-elim (λ l. absurd (g .none-before m j (inl l) (f .fails)))
+      (⊎-elim same (λ l. absurd (f .none-before n i (inl l) (g .fails))))
+      (either-way (stepOf m) (stepOf n))
+    where
+      same : stepOf m ≡ stepOf n → (m ≡ n) × (j ≡ i)
+      same e =
+          ⊎-elim (λ l. absurd (g .none-before m j (inr (e, l)) (f .fails)))
+          (⊎-elim (λ q. (same-number m n i e (subst (λ (x : ℕ). NlFails s m x) q (f .fails)) (g .fails), q)) (λ l. absurd (f .none-before n i (inr (sym e, l)) (g .fails))))
+          (either-way j i)
 
   -- the table has no row but these
-  no-row : (n i : ℕ) → (n ≡ 1 → ⊥) → (n ≡ 2 → ⊥) → (n ≡ 4 → ⊥) → (n ≡ 14 → ⊥) → (n ≡ 15 → ⊥) → (n ≡ 16 → ⊥) → (n ≡ 17 → ⊥) → NlFails s n i → ⊥
+  no-row : (n i : ℕ) → (n ≡ 1 → ⊥) → (n ≡ 2 → ⊥) → (n ≡ 4 → ⊥) → (n ≡ 14 → ⊥) → (n ≡ 15 → ⊥) → (n ≡ 16 → ⊥) → (n ≡ 17 → ⊥) → StepFails n i → ⊥
   no-row n i a b c d e f g h =
       simp (ne-eqb n 1 a, ne-eqb n 2 b, ne-eqb n 4 c, ne-eqb n 14 d, ne-eqb n 15 e, ne-eqb n 16 f, ne-eqb n 17 g) at h
 
   -- over numbers that have no row
-  jump : (n m : ℕ) → Free (NlFails s) n 0 → ((k i : ℕ) → n ≤ k → k < m → NlFails s k i → ⊥) → Free (NlFails s) m 0
+  jump : (n m : ℕ) → Free StepFails n 0 → ((k i : ℕ) → n ≤ k → k < m → StepFails k i → ⊥) → Free StepFails m 0
   jump n m free empty k j b h = ⊎-elim (λ l. go (ltb k n) refl l) (λ q. omega arith) b where
     go : (t : Bool) → ltb k n ≡ t → k < m → ⊥
     go true p l = free k j (inl (ltb-true k n p)) h
     go false p l = empty k j (ltb-false k n p) l h
 
-  beyond : Free (NlFails s) 18 0 → (n i : ℕ) → NlFails s n i → ⊥
-  beyond free n i h = go (ltb n 18) refl where
-    go : (t : Bool) → ltb n 18 ≡ t → ⊥
-    go true p = free n i (inl (ltb-true n 18 p)) h
-    go false p =
-        let l = ltb-false n 18 p in
-        no-row n i (λ e. omega arith) (λ e. omega arith) (λ e. omega arith) (λ e. omega arith) (λ e. omega arith) (λ e. omega arith) (λ e. omega arith) h
+  beyond : Free StepFails 18 0 → (n i : ℕ) → NlFails s n i → ⊥
+  beyond free n i w = none (stepOf n) (to-step n i w) where
+    none : (k : ℕ) → StepFails k i → ⊥
+    none k h = go (ltb k 18) refl where
+      go : (t : Bool) → ltb k 18 ≡ t → ⊥
+      go true p = free k i (inl (ltb-true k 18 p)) h
+      go false p =
+          let l = ltb-false k 18 p in
+          no-row k i (λ e. omega arith) (λ e. omega arith) (λ e. omega arith) (λ e. omega arith) (λ e. omega arith) (λ e. omega arith) (λ e. omega arith) h
 
   abbrev pub Judged : Reading → Type 0
   Judged (Taken m) =
       ((n i : ℕ) → NlFails s n i → ⊥)
       × (((typeOf s ≡ 0) × OwnRequest s m) ⊎ ((typeOf s ≡ 1) × OwnResponse s m))
-  Judged (Refused e) = First (NlFails s) (numberOf e) (fieldOf e)
+  Judged (Refused e) = NlFirst s (numberOf e) (fieldOf e)
 
-  -- string i of a request
-  string : typeOf s ≡ 0 → 8 ≤ length s → (i m : ℕ) (ms ms′ : List ℕ) (b : Bool) (at : ℕ) (e : Refusal) (x : Field → ℕ → Reading) →
-      1 ≤ i → i ≤ 5 → ms ≡ take (i - 1) masks → m ≡ maskOf i → ms′ ≡ ms ++ (m ∷ []) →
-      (b ≡ true → BitSet s m) → (b ≡ false → BitSet s m → ⊥) → numberOf e ≡ 15 → fieldOf e ≡ i →
-      Free (NlFails s) 15 i → Strings s ms 8 at →
-      ((f : Field) (next : ℕ) → OwnString s i f → Free (NlFails s) 15 (i + 1) → Strings s ms′ 8 next → Judged (x f next)) →
-      Judged (onFound (stringUnder b s at) (Refused e) x)
-  unfolding stringUnder stringAt
-  string t0 long i m ms ms′ b at e x h1 h5 is-ms is-m is-ms′ on off is-15 is-i free starts rest = go b on off where
+  -- string i of a request: where it stands, and what is known after it
+  module _ (t0 : typeOf s ≡ 0) (long : 8 ≤ length s) (i : ℕ) (is is′ : List ℕ) (at : ℕ) (h1 : 1 ≤ i) (h5 : i ≤ 5)
+      (is-ms : is ≡ take (i - 1) numbered) (is-ms′ : is′ ≡ is ++ (i ∷ [])) (free : Free StepFails 15 i) (starts : Strings s is 8 at) where
     starts-at : StartsAt s i at
     starts-at = subst (λ (l : List ℕ). Strings s l 8 at) is-ms starts
 
-    by-mask : BitSet s (maskOf i) → BitSet s m
-    by-mask h = subst (λ (k : ℕ). BitSet s k) (sym is-m) h
+    at-behind : (8 ≤ at) × (at ≤ length s)
+    at-behind = inside is 8 at (omega arith) long starts
 
-    found : (z : ZeroAt s at (at + beforeZero (drop at s))) → BitSet s m →
-        Judged (x (record { offset = at; len = beforeZero (drop at s) }) (at + beforeZero (drop at s) + 1))
-    found z set =
-        rest (record { offset = at; len = beforeZero (drop at s) }) (at + beforeZero (drop at s) + 1)
-        (record {
-          there = λ h.
-              let w : at + beforeZero (drop at s) - at ≡ beforeZero (drop at s) = omega arith in (
-                at,
-                at + beforeZero (drop at s),
-                starts-at,
-                z,
-                refl,
-                sym w,
-                own-bytes s (record { offset = at; len = beforeZero (drop at s) }) (omega (arith, z .inside)) ∙ ap (λ (k : ℕ). take k (drop at s)) (sym w),
-              );
-          none = λ h. absurd (h (subst (λ (k : ℕ). BitSet s k) is-m set));
-        })
-        (next-field (NlFails s) 15 i (i + 1) refl free
-        (λ w. w .4 .2 (at + beforeZero (drop at s)) (subst (λ (k : ℕ). ZeroAt s k (at + beforeZero (drop at s))) (one-place (take (i - 1) masks) 8 at (w .4 .0) starts-at (w .4 .1)) z)))
-        (subst (λ (l : List ℕ). Strings s l 8 (at + beforeZero (drop at s) + 1)) (sym is-ms′) (add-string ms m 8 at (at + beforeZero (drop at s)) starts set z))
+    passed : (next : ℕ) → BitSet s (maskOf i) → StandsAt s i at next → Free StepFails 15 (i + 1) × Strings s is′ 8 next
+    passed next set z = (
+      next-field StepFails 15 i (i + 1) refl free
+          (λ w. stand-or-fault i at next (w .0) z
+          (subst (λ (k : ℕ). FaultIn s i k (w .0)) (one-place (take (i - 1) numbered) 8 (w .1 .4 .0) at (w .1 .4 .1) starts-at) (w .1 .4 .2))),
+      subst (λ (l : List ℕ). Strings s l 8 next) (sym is-ms′) (add-string is i 8 at next starts set z),
+    )
 
-    go : (c : Bool) → (c ≡ true → BitSet s m) → (c ≡ false → BitSet s m → ⊥) →
-        Judged (onFound (cond c (cond (holdsZero (drop at s)) (Found (record { offset = at; len = beforeZero (drop at s) }) (at + beforeZero (drop at s) + 1)) Missing) (Found noField at)) (Refused e) x)
-    go true y n = by (holdsZero (drop at s)) refl where
-      by : (t : Bool) → holdsZero (drop at s) ≡ t →
-          Judged (onFound (cond t (Found (record { offset = at; len = beforeZero (drop at s) }) (at + beforeZero (drop at s) + 1)) Missing) (Refused e) x)
-      by true p = found (zero-found at (inside ms 8 at long starts) p) (y refl)
-      by false p =
-          rw (is-15, is-i)
-          (first (NlFails s) 15 i free (h1, h5, t0, subst (λ (k : ℕ). BitSet s k) is-m (y refl), (at, starts-at, zero-missing at p)))
-    go false y n =
-        rest noField at
-        (record { there = λ h. absurd (n refl (by-mask h)); none = λ h. (refl, refl, own-bytes s noField (omega arith)) })
-        (next-field (NlFails s) 15 i (i + 1) refl free (λ w. n refl (by-mask (w .3))))
-        (subst (λ (l : List ℕ). Strings s l 8 at) (sym is-ms′) (add-clear ms m 8 at starts (n refl)))
+    over : (BitSet s (maskOf i) → ⊥) → Free StepFails 15 (i + 1) × Strings s is′ 8 at
+    over off = (
+      next-field StepFails 15 i (i + 1) refl free (λ w. off (w .1 .3)),
+      subst (λ (l : List ℕ). Strings s l 8 at) (sym is-ms′) (add-clear is i 8 at starts off),
+    )
+
+    fails : (n : ℕ) → BitSet s (maskOf i) → FaultIn s i at n → StringFails s n i
+    fails n set f = (h1, h5, t0, set, (at, starts-at, f))
+
+    -- A and B
+    abbrev here : NlString
+    here = record { offset = at; len = beforeZero (drop at s); jumps = 0 }
+
+    string : i ≤ 2 → (b : Bool) (e : Refusal) (x : NlString → ℕ → Reading) →
+        (b ≡ true → BitSet s (maskOf i)) → (b ≡ false → BitSet s (maskOf i) → ⊥) → e ≡ Unterminated i →
+        ((f : NlString) (next : ℕ) → OwnString s i f → Free StepFails 15 (i + 1) → Strings s is′ 8 next → Judged (x f next)) →
+        Judged (onFound (stringUnder b s at) (Refused e) x)
+    unfolding stringUnder stringAt
+    string i2 b e x on off is-e rest = go b on off where
+      found : (z : ZeroAt s at (at + beforeZero (drop at s))) → BitSet s (maskOf i) → Judged (x here (at + beforeZero (drop at s) + 1))
+      found z set =
+          let k = passed (at + beforeZero (drop at s) + 1) set (plain i2 z refl) in
+          rest here (at + beforeZero (drop at s) + 1)
+          (record {
+            there = λ h.
+                let w : at + beforeZero (drop at s) - at ≡ beforeZero (drop at s) = omega arith in (
+                  at,
+                  at + beforeZero (drop at s),
+                  starts-at,
+                  z,
+                  refl,
+                  sym w,
+                  own-bytes s here (omega (arith, z .inside)) ∙ ap (λ (n : ℕ). take n (drop at s)) (sym w),
+                );
+            none = λ h. absurd (h set);
+            no-jumps = refl;
+          })
+          (k .0) (k .1)
+
+      go : (c : Bool) → (c ≡ true → BitSet s (maskOf i)) → (c ≡ false → BitSet s (maskOf i) → ⊥) →
+          Judged (onFound (cond c (cond (holdsZero (drop at s)) (Found here (at + beforeZero (drop at s) + 1)) Missing) (Found noString at)) (Refused e) x)
+      go true y n = by (holdsZero (drop at s)) refl where
+        by : (t : Bool) → holdsZero (drop at s) ≡ t → Judged (onFound (cond t (Found here (at + beforeZero (drop at s) + 1)) Missing) (Refused e) x)
+        by true p = found (zero-found at (at-behind .1) p) (y refl)
+        by false p = rw is-e (raise 15 i free (fails 15 (y refl) (no-zero i2 refl (zero-missing at p))))
+      go false y n =
+          rest noString at
+          (record { there = λ h. absurd (n refl h); none = λ h. (refl, refl, own-bytes s noString (omega arith)); no-jumps = refl })
+          (over (n refl) .0) (over (n refl) .1)
+
+    -- C, D and E
+    named : 3 ≤ i → (b : Bool) (x : NlString → ℕ → Reading) → (b ≡ true → BitSet s (maskOf i)) → (b ≡ false → BitSet s (maskOf i) → ⊥) →
+        ((f : NlString) (next : ℕ) → OwnName s i f → Free StepFails 15 (i + 1) → Strings s is′ 8 next → Judged (x f next)) →
+        Judged (onNamed (nameUnder b s at i) x)
+    unfolding nameUnder nameAt
+    named i3 b x on off rest = go b on off where
+      found : (m : Name) → readName (drop 8 s) (at - 8) ≡ Read m → BitSet s (maskOf i) → Judged (x (nameString at m) (8 + m .next))
+      found m e set =
+          let w = taken (drop 8 s) (at - 8) m e in
+          let k = passed (8 + m .next) set (name i3 w refl) in
+          let ends = name-ends (drop 8 s) (at - 8) _ _ (m .next) w in
+          rest (nameString at m) (8 + m .next)
+          (record {
+            there = λ h.
+                record {
+                  next = m .next;
+                  starts = starts-at;
+                  name = w;
+                  whole = omega (arith, ends .0, at-behind .0);
+                  bytes = own-bytes s (nameString at m) (omega (arith, ends .0, ends .1, at-behind .0, length-drop 8 s));
+                  few = w .few;
+                };
+            none = λ h. absurd (h set);
+          })
+          (k .0) (k .1)
+
+      faulty : (e : Fault) → readName (drop 8 s) (at - 8) ≡ Faulty e → BitSet s (maskOf i) → Judged (Refused (refusalIn e i))
+      faulty e h set = by e (in-name i3 (refused (drop 8 s) (at - 8) e h)) where
+        by : (f : Fault) → FaultIn s i at (faultNumber f) → Judged (Refused (refusalIn f i))
+        by CutShort w = raise 15 i free (fails 15 set w)
+        by WrongTopBits w = raise 50 i free (fails 50 set w)
+        by PlaceNotBefore w = raise 51 i free (fails 51 set w)
+        by TooManyJumps w = raise 52 i free (fails 52 set w)
+        by NameTooLong w = raise 53 i free (fails 53 set w)
+
+      go : (c : Bool) → (c ≡ true → BitSet s (maskOf i)) → (c ≡ false → BitSet s (maskOf i) → ⊥) →
+          Judged (onNamed (cond c (onName (readName (drop 8 s) (at - 8)) (λ m. Named (nameString at m) (8 + m .next)) (λ e. Not (refusalIn e i))) (Named noString at)) x)
+      go true y n = by (readName (drop 8 s) (at - 8)) refl where
+        by : (r : NameReading) → readName (drop 8 s) (at - 8) ≡ r →
+            Judged (onNamed (onName r (λ m. Named (nameString at m) (8 + m .next)) (λ e. Not (refusalIn e i))) x)
+        by (Read m) p = found m p (y refl)
+        by (Faulty e) p = faulty e p (y refl)
+      go false y n =
+          rest noString at
+          (record { there = λ h. absurd (n refl h); none = λ h. (refl, refl, refl, own-bytes s noString (omega arith)) })
+          (over (n refl) .0) (over (n refl) .1)
 
   -- the reader's flags are the message's
   on : (m : ℕ) → u32At s 4 % 32 / m % 2 ≡ u32At s 4 / m % 2 → eqb (u32At s 4 % 32 / m % 2) 1 ≡ true → BitSet s m
@@ -247,60 +419,59 @@ module _ (s : List ℕ) where
       (λ q. none 4 (omega arith) (omega arith) (on 0x8 (bit8 (u32At s 4)) q)) (or-either ((a || b) || c) d h3))
       (λ q. none 5 (omega arith) (omega arith) (on 0x10 (bit16 (u32At s 4)) q)) (or-either (((a || b) || c) || d) e (held-true _ h))
 
-  utf8-judged : typeOf s ≡ 0 → 8 ≤ length s → (a b : Field) (at : ℕ) → OwnString s 1 a → OwnString s 2 b →
-      Free (NlFails s) 15 3 → Strings s (0x1 ∷ 0x2 ∷ []) 8 at → Judged (readUtf8 (flagsAt s) s a b at)
+  utf8-judged : typeOf s ≡ 0 → 8 ≤ length s → (a b : NlString) (at : ℕ) → OwnString s 1 a → OwnString s 2 b →
+      Free StepFails 15 3 → Strings s (1 ∷ 2 ∷ []) 8 at → Judged (readUtf8 (flagsAt s) s a b at)
   unfolding readUtf8
   utf8-judged t0 long a b at oa ob free starts =
-      string t0 long 3 0x4 (0x1 ∷ 0x2 ∷ []) (0x1 ∷ 0x2 ∷ 0x4 ∷ []) (dnsDomain (flagsAt s)) at (Unterminated 3) _
-      (omega arith) (omega arith) refl refl refl (on 0x4 (bit4 (u32At s 4))) (off 0x4 (bit4 (u32At s 4))) refl refl free starts (λ c c′ oc free4 starts4.
-      string t0 long 4 0x8 (0x1 ∷ 0x2 ∷ 0x4 ∷ []) (0x1 ∷ 0x2 ∷ 0x4 ∷ 0x8 ∷ []) (dnsHost (flagsAt s)) c′ (Unterminated 4) _
-      (omega arith) (omega arith) refl refl refl (on 0x8 (bit8 (u32At s 4))) (off 0x8 (bit8 (u32At s 4))) refl refl free4 starts4 (λ d d′ od free5 starts5.
-      string t0 long 5 0x10 (0x1 ∷ 0x2 ∷ 0x4 ∷ 0x8 ∷ []) masks (utf8Computer (flagsAt s)) d′ (Unterminated 5) _
-      (omega arith) (omega arith) refl refl refl (on 0x10 (bit16 (u32At s 4))) (off 0x10 (bit16 (u32At s 4))) refl refl free5 starts5 (λ e e′ oe free6 starts6.
-      let c15 = next-check (NlFails s) 15 6 16 refl free6 (λ j l w. omega (arith, w .1, l)) in
+      named t0 long 3 (1 ∷ 2 ∷ []) (1 ∷ 2 ∷ 3 ∷ []) at (omega arith) (omega arith) refl refl free starts (omega arith) (dnsDomain (flagsAt s)) _
+      (on 0x4 (bit4 (u32At s 4))) (off 0x4 (bit4 (u32At s 4))) (λ c c′ oc free4 starts4.
+      named t0 long 4 (1 ∷ 2 ∷ 3 ∷ []) (1 ∷ 2 ∷ 3 ∷ 4 ∷ []) c′ (omega arith) (omega arith) refl refl free4 starts4 (omega arith) (dnsHost (flagsAt s)) _
+      (on 0x8 (bit8 (u32At s 4))) (off 0x8 (bit8 (u32At s 4))) (λ d d′ od free5 starts5.
+      named t0 long 5 (1 ∷ 2 ∷ 3 ∷ 4 ∷ []) numbered d′ (omega arith) (omega arith) refl refl free5 starts5 (omega arith) (utf8Computer (flagsAt s)) _
+      (on 0x10 (bit16 (u32At s 4))) (off 0x10 (bit16 (u32At s 4))) (λ e e′ oe free6 starts6.
+      let c15 = next-check StepFails 15 6 16 refl free6 (λ j l w. omega (arith, w .1 .1, l)) in
       chained Judged _ _ _
-      (λ f. first (NlFails s) 16 0 c15 (refl, t0, (e′, starts6, eqb-false e′ (length s) (failed-false _ f))))
+      (λ f. raise 16 0 c15 (refl, t0, (e′, starts6, eqb-false e′ (length s) (failed-false _ f))))
       (λ h. (
-        beyond (last (next-check (NlFails s) 16 0 17 refl c15 (λ j l w.
-            w .2 .2 (one-place masks 8 (w .2 .0) e′ (w .2 .1) starts6 ∙ eqb-true e′ (length s) (held-true _ h))))),
+        beyond (last (next-check StepFails 16 0 17 refl c15 (λ j l w.
+            w .2 .2 (one-place numbered 8 (w .2 .0) e′ (w .2 .1) starts6 ∙ eqb-true e′ (length s) (held-true _ h))))),
         inl (t0, record { message-type = refl; flags = refl; a = oa; b = ob; c = oc; d = od; e = oe }),
       )))))
     where
-      last : Free (NlFails s) 17 0 → Free (NlFails s) 18 0
-      last f = next-check (NlFails s) 17 0 18 refl f (λ j l w. omega (arith, t0, w .1))
+      last : Free StepFails 17 0 → Free StepFails 18 0
+      last f = next-check StepFails 17 0 18 refl f (λ j l w. omega (arith, t0, w .1))
 
-  request-judged : typeOf s ≡ 0 → 8 ≤ length s → Free (NlFails s) 14 0 → Judged (readRequest (flagsAt s) s)
+  request-judged : typeOf s ≡ 0 → 8 ≤ length s → Free StepFails 14 0 → Judged (readRequest (flagsAt s) s)
   unfolding readRequest
   request-judged t0 long free =
       chained Judged _ _ _
-      (λ f. first (NlFails s) 14 0 free (refl, t0, none-set f))
-      (λ h. let c14 = next-check (NlFails s) 14 0 15 refl free (λ j l w. some-set h (w .2)) in
-      string t0 long 1 0x1 [] (0x1 ∷ []) (nbDomain (flagsAt s)) 8 (Unterminated 1) _
-      (omega arith) (omega arith) refl refl refl (on 0x1 (bit1 (u32At s 4))) (off 0x1 (bit1 (u32At s 4))) refl refl
-      (skip (NlFails s) 15 1 c14 (λ j l w. omega (arith, w .0, l))) refl (λ a a′ oa free2 starts2.
-      string t0 long 2 0x2 (0x1 ∷ []) (0x1 ∷ 0x2 ∷ []) (nbComputer (flagsAt s)) a′ (Unterminated 2) _
-      (omega arith) (omega arith) refl refl refl (on 0x2 (bit2 (u32At s 4))) (off 0x2 (bit2 (u32At s 4))) refl refl free2 starts2 (λ b b′ ob free3 starts3.
+      (λ f. raise 14 0 free (refl, t0, none-set f))
+      (λ h. let c14 = next-check StepFails 14 0 15 refl free (λ j l w. some-set h (w .2)) in
+      string t0 long 1 [] (1 ∷ []) 8 (omega arith) (omega arith) refl refl (skip StepFails 15 1 c14 (λ j l w. omega (arith, w .1 .0, l))) refl
+      (omega arith) (nbDomain (flagsAt s)) (Unterminated 1) _ (on 0x1 (bit1 (u32At s 4))) (off 0x1 (bit1 (u32At s 4))) refl (λ a a′ oa free2 starts2.
+      string t0 long 2 (1 ∷ []) (1 ∷ 2 ∷ []) a′ (omega arith) (omega arith) refl refl free2 starts2
+      (omega arith) (nbComputer (flagsAt s)) (Unterminated 2) _ (on 0x2 (bit2 (u32At s 4))) (off 0x2 (bit2 (u32At s 4))) refl (λ b b′ ob free3 starts3.
       utf8-judged t0 long a b b′ oa ob free3 starts3)))
 
-  response-judged : typeOf s ≡ 1 → Free (NlFails s) 14 0 → Judged (readResponse s)
+  response-judged : typeOf s ≡ 1 → Free StepFails 14 0 → Judged (readResponse s)
   unfolding readResponse
   response-judged t1 free =
       let c16 = jump 14 17 free rows in
       chained Judged _ _ _
-      (λ f. first (NlFails s) 17 0 c16 (refl, t1, not-one f))
+      (λ f. raise 17 0 c16 (refl, t1, not-one f))
       (λ h. (
-        beyond (next-check (NlFails s) 17 0 18 refl c16 (λ j l w.
+        beyond (next-check StepFails 17 0 18 refl c16 (λ j l w.
             w .2 (eqb-true (length s) 9 (and-left (eqb (length s) 9) (eqb (getD s 8 0) 0) (held-true _ h)), eqb-true (getD s 8 0) 0 (and-right (eqb (length s) 9) (eqb (getD s 8 0) 0) (held-true _ h))))),
-        inr (t1, record { message-type = refl; flags = refl; a = refl; b = refl; c = refl; d = refl; e = refl; no-bytes = own-bytes s noField (omega arith) }),
+        inr (t1, record { message-type = refl; flags = refl; a = refl; b = refl; c = refl; d = refl; e = refl; no-bytes = own-bytes s noString (omega arith) }),
       ))
     where
       -- a request's rows say nothing of a response
-      rows : (k i : ℕ) → 14 ≤ k → k < 17 → NlFails s k i → ⊥
+      rows : (k i : ℕ) → 14 ≤ k → k < 17 → StepFails k i → ⊥
       rows k i l r h = go (eqb k 14) (eqb k 15) refl refl where
         go : (x y : Bool) → eqb k 14 ≡ x → eqb k 15 ≡ y → ⊥
-        go true y p q = omega (arith, t1, subst (λ (z : ℕ). NlFails s z i) (eqb-true k 14 p) h .1)
-        go false true p q = omega (arith, t1, subst (λ (z : ℕ). NlFails s z i) (eqb-true k 15 q) h .2)
-        go false false p q = omega (arith, t1, subst (λ (z : ℕ). NlFails s z i) (last (eqb-false k 14 p) (eqb-false k 15 q)) h .1)
+        go true y p q = omega (arith, t1, subst (λ (z : ℕ). StepFails z i) (eqb-true k 14 p) h .1)
+        go false true p q = omega (arith, t1, subst (λ (z : ℕ). StepFails z i) (eqb-true k 15 q) h .1 .2)
+        go false false p q = omega (arith, t1, subst (λ (z : ℕ). StepFails z i) (last (eqb-false k 14 p) (eqb-false k 15 q)) h .1)
           where
             last : (k ≡ 14 → ⊥) → (k ≡ 15 → ⊥) → k ≡ 16
             last a b = omega (arith, a, b)
@@ -312,21 +483,21 @@ module _ (s : List ℕ) where
   unfolding readNlAuth
   judged =
       chained Judged _ _ _
-      (λ f. first (NlFails s) 1 0 none-at-0 (refl, leb-false (length s) 65535 (failed-false _ f)))
-      (λ h1. let c1 = next-check (NlFails s) 1 0 2 refl none-at-0 (λ j l w. omega (arith, leb-true (length s) 65535 (held-true _ h1), w .1)) in
+      (λ f. raise 1 0 none-at-0 (refl, leb-false (length s) 65535 (failed-false _ f)))
+      (λ h1. let c1 = next-check StepFails 1 0 2 refl none-at-0 (λ j l w. omega (arith, leb-true (length s) 65535 (held-true _ h1), w .1)) in
       chained Judged _ _ _
-      (λ f. first (NlFails s) 2 0 c1 (refl, leb-false 8 (length s) (failed-false _ f)))
+      (λ f. raise 2 0 c1 (refl, leb-false 8 (length s) (failed-false _ f)))
       (λ h2. let long = leb-true 8 (length s) (held-true _ h2) in
-      let c2 = next-check (NlFails s) 2 0 3 refl c1 (λ j l w. omega (arith, long, w .1)) in
-      let c3 = next-check (NlFails s) 3 0 4 refl c2 (λ j l w. absurd w) in
+      let c2 = next-check StepFails 2 0 3 refl c1 (λ j l w. omega (arith, long, w .1)) in
+      let c3 = next-check StepFails 3 0 4 refl c2 (λ j l w. absurd w) in
       chained Judged _ _ _
-      (λ f. first (NlFails s) 4 0 c3 (refl, wrong-type f .0, wrong-type f .1))
+      (λ f. raise 4 0 c3 (refl, wrong-type f .0, wrong-type f .1))
       (λ h4. kind (eqb (typeOf s) 0) refl (held-true _ h4) long
-      (jump 5 14 (next-check (NlFails s) 4 0 5 refl c3 (λ j l w. right-type (held-true _ h4) (w .1) (w .2)))
+      (jump 5 14 (next-check StepFails 4 0 5 refl c3 (λ j l w. right-type (held-true _ h4) (w .1) (w .2)))
       (λ k i l r. no-row k i (λ e. omega arith) (λ e. omega arith) (λ e. omega arith) (λ e. omega arith) (λ e. omega arith) (λ e. omega arith) (λ e. omega arith))))))
     where
-      none-at-0 : Free (NlFails s) 1 0
-      none-at-0 m j b h = ⊎-elim (λ l. subst (λ (x : ℕ). NlFails s x j) (zero-is m l) h) (λ q. omega arith) b where
+      none-at-0 : Free StepFails 1 0
+      none-at-0 m j b h = ⊎-elim (λ l. subst (λ (x : ℕ). StepFails x j) (zero-is m l) h) (λ q. omega arith) b where
         zero-is : (x : ℕ) → x < 1 → x ≡ 0
         zero-is x l = omega arith
 
@@ -340,7 +511,7 @@ module _ (s : List ℕ) where
       right-type h a b =
           ⊎-elim (λ e. a (eqb-true (typeOf s) 0 e)) (λ e. b (eqb-true (typeOf s) 1 e)) (or-either (eqb (typeOf s) 0) (eqb (typeOf s) 1) h)
 
-      kind : (t : Bool) → eqb (typeOf s) 0 ≡ t → (eqb (typeOf s) 0 || eqb (typeOf s) 1) ≡ true → 8 ≤ length s → Free (NlFails s) 14 0 →
+      kind : (t : Bool) → eqb (typeOf s) 0 ≡ t → (eqb (typeOf s) 0 || eqb (typeOf s) 1) ≡ true → 8 ≤ length s → Free StepFails 14 0 →
           Judged (cond t (readRequest (flagsAt s) s) (readResponse s))
       kind true p h long free = request-judged (eqb-true (typeOf s) 0 p) long free
       kind false p h long free =
@@ -354,11 +525,11 @@ nl-auth-taken s = go (readNlAuth s) (judged s) where
 
 pub nl-auth-refused : NlAuthIsRefused
 nl-auth-refused s n i = go (readNlAuth s) (judged s) where
-  go : (r : Reading) → Judged s r → NlRefusedWith r n i ↔ First (NlFails s) n i
+  go : (r : Reading) → Judged s r → NlRefusedWith r n i ↔ NlFirst s n i
   go (Taken m) j = (λ t. absurd t, λ f. j .0 n i (f .fails))
   go (Refused e) j = (
-    λ t. subst (λ (x : ℕ). First (NlFails s) n x) (t .1) (subst (λ (x : ℕ). First (NlFails s) x (fieldOf e)) (t .0) j),
-    λ f. only-first (NlFails s) (numberOf e) (fieldOf e) n i j f,
+    λ t. subst (λ (x : ℕ). NlFirst s n x) (t .1) (subst (λ (x : ℕ). NlFirst s x (fieldOf e)) (t .0) j),
+    λ f. only-raise (numberOf e) (fieldOf e) n i j f,
   )
 
 pub nl-auth-own : NlAuthOwn

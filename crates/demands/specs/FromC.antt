@@ -32,7 +32,7 @@ abbrev pub count : Call → ℕ
 count (read-negotiate msg) = 5
 count (read-timestamp msg) = 2
 count (read-server-names msg) = 2
-count (read-nl-auth msg) = 12
+count (read-nl-auth msg) = 15
 count (count-pairs list) = 1
 count (find-pair list id) = 3
 count (next-pair list at) = 5

@@ -21,7 +21,8 @@ use Rattle.negotiate.specs.declared.Reading.the-variants.{Taken as NegotiateTak
 use Rattle.negotiate.specs.Negotiate.{readNegotiate}
 use Rattle.nl_auth.specs.declared.NlAuth.{NlAuth}
 use Rattle.nl_auth.specs.declared.Reading.the-variants.{Taken as NlTaken}
-use Rattle.nl_auth.specs.NlAuth.{readNlAuth}
+use Rattle.nl_auth.specs.declared.string.NlString.{NlString}
+use Rattle.nl_auth.specs.NlAuth.{stringBytes, labelsOf, readNlAuth}
 use Rattle.line.specs.Line.{negotiateLine, authenticateLine, challengeLine, ntlmLine, nlAuthLine}
 use Rattle.respond.specs.declared.decision.Settings.{Settings}
 use Rattle.respond.specs.Answer.{respondAnswer, respondOut}
@@ -78,13 +79,18 @@ pub record NlDifferInIgnored (s t : List ℕ) : Type 0 where
   pub bytes-same : (p : ℕ) → (p < 4) ⊎ (8 ≤ p) → getD s p 0 ≡ getD t p 0
   pub flags-same : (u32At s 4 % 32 ≡ u32At t 4 % 32) ⊎ (typeOf s ≡ 1)
 
+-- a string has the same bytes in both, and the same labels
+pub record SameString (s t : List ℕ) (x : NlString) : Type 0 where
+  pub bytes : stringBytes s x ≡ stringBytes t x
+  pub labels : labelsOf s x ≡ labelsOf t x
+
 pub record SameNlAuth (s t : List ℕ) : Type 0 where
   pub answer : readNlAuth s ≡ readNlAuth t
-  pub a : (m : NlAuth) → readNlAuth s ≡ NlTaken m → SameBytes s t (m .strings .«nb_domain»)
-  pub b : (m : NlAuth) → readNlAuth s ≡ NlTaken m → SameBytes s t (m .strings .«nb_computer»)
-  pub c : (m : NlAuth) → readNlAuth s ≡ NlTaken m → SameBytes s t (m .strings .«dns_domain»)
-  pub d : (m : NlAuth) → readNlAuth s ≡ NlTaken m → SameBytes s t (m .strings .«dns_host»)
-  pub e : (m : NlAuth) → readNlAuth s ≡ NlTaken m → SameBytes s t (m .strings .«utf8_computer»)
+  pub a : (m : NlAuth) → readNlAuth s ≡ NlTaken m → SameString s t (m .strings .«nb_domain»)
+  pub b : (m : NlAuth) → readNlAuth s ≡ NlTaken m → SameString s t (m .strings .«nb_computer»)
+  pub c : (m : NlAuth) → readNlAuth s ≡ NlTaken m → SameString s t (m .strings .«dns_domain»)
+  pub d : (m : NlAuth) → readNlAuth s ≡ NlTaken m → SameString s t (m .strings .«dns_host»)
+  pub e : (m : NlAuth) → readNlAuth s ≡ NlTaken m → SameString s t (m .strings .«utf8_computer»)
 
 abbrev pub NlAuthIgnored : Type 0
 NlAuthIgnored = (s t : List ℕ) → NlDifferInIgnored s t → SameNlAuth s t

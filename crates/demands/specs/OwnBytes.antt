@@ -8,7 +8,7 @@ use lib.ListN.{length, take, drop, replicate}
 use Rattle.av_id.specs.declared.AvId.{AvId}
 use Rattle.field.specs.declared.Field.{Field}
 use Rattle.wire.specs.declared.refusal.Refusal.{Refusal}
-use Rattle.field.specs.Field.{noField, fieldBytes}
+use Rattle.field.specs.Field.{fieldBytes}
 use Rattle.wire.specs.Number.{u32At, u64At}
 use Rattle.authenticate.specs.declared.Authenticate.{Authenticate}
 use Rattle.authenticate.specs.declared.Reading.the-variants.{Taken, Refused}
@@ -29,7 +29,9 @@ use Rattle.negotiate.specs.declared.Reading.the-variants.{Taken as NegotiateTak
 use Rattle.negotiate.specs.Negotiate.{readNegotiate}
 use Rattle.nl_auth.specs.declared.NlAuth.{NlAuth}
 use Rattle.nl_auth.specs.declared.Reading.the-variants.{Taken as NlTaken}
-use Rattle.nl_auth.specs.NlAuth.{readNlAuth}
+use Rattle.nl_auth.specs.declared.string.NlString.{NlString}
+use Rattle.nl_auth.specs.NlAuth.{noString, stringBytes, labelsOf, readNlAuth}
+use Rattle.dns_name.specs.Rfc1035.{NameAt}
 use Rattle.demands.specs.NlAuth.{typeOf, maskOf, BitSet, ZeroAt, StartsAt}
 use Rattle.demands.specs.Message.{Format, negotiate, authenticate, challenge, lenOf, offsetOf, Nonempty, MicThere}
 use Rattle.demands.specs.PairList.{sizeOf, FirstWith, PairThere}
@@ -120,12 +122,27 @@ ServerNamesOwn =
     ((names .«nb_computer_name» ≡ true) ↔ PairThere b 1)
     × ((names .«nb_domain_name» ≡ true) ↔ PairThere b 2)
 
--- string i of a request is handed out as f: under a set bit the bytes from where it stands up to its first zero byte, also
--- where these are none; under a clear bit none, and place 0
-pub record OwnString (s : List ℕ) (i : ℕ) (f : Field) : Type 0 where
+-- string i, A or B, of a request is handed out as x: under a set bit the bytes from where it stands up to its first zero byte,
+-- also where these are none; under a clear bit none, and place 0; and no jumps
+pub record OwnString (s : List ℕ) (i : ℕ) (x : NlString) : Type 0 where
   pub there : BitSet s (maskOf i) →
-      (p q : ℕ) × StartsAt s i p × ZeroAt s p q × (f .offset ≡ p) × (f .len ≡ q - p) × (fieldBytes s f ≡ take (q - p) (drop p s))
-  pub none : (BitSet s (maskOf i) → ⊥) → (f .offset ≡ 0) × (f .len ≡ 0) × (fieldBytes s f ≡ [])
+      (p q : ℕ) × StartsAt s i p × ZeroAt s p q × (x .offset ≡ p) × (x .len ≡ q - p) × (stringBytes s x ≡ take (q - p) (drop p s))
+  pub none : (BitSet s (maskOf i) → ⊥) → (x .offset ≡ 0) × (x .len ≡ 0) × (stringBytes s x ≡ [])
+  pub no-jumps : x .jumps ≡ 0
+
+-- string i, C, D or E, is the name that stands there: "A string's own bytes run to where the next starts", and its labels and the
+-- jumps taken are the name's
+pub record NameThere (s : List ℕ) (i : ℕ) (x : NlString) : Type 0 where
+  pub next : ℕ
+  pub starts : StartsAt s i (x .offset)
+  pub name : NameAt (drop 8 s) (x .offset - 8) (labelsOf s x) (x .jumps) next
+  pub whole : x .offset + x .len ≡ 8 + next
+  pub bytes : stringBytes s x ≡ take (8 + next - x .offset) (drop (x .offset) s)
+  pub few : x .jumps ≤ 16
+
+pub record OwnName (s : List ℕ) (i : ℕ) (x : NlString) : Type 0 where
+  pub there : BitSet s (maskOf i) → NameThere s i x
+  pub none : (BitSet s (maskOf i) → ⊥) → (x .offset ≡ 0) × (x .len ≡ 0) × (x .jumps ≡ 0) × (stringBytes s x ≡ [])
 
 -- a taken request: flags are bits A to E
 pub record OwnRequest (s : List ℕ) (m : NlAuth) : Type 0 where
@@ -133,20 +150,20 @@ pub record OwnRequest (s : List ℕ) (m : NlAuth) : Type 0 where
   pub flags : m .flags .bits ≡ u32At s 4 % 32
   pub a : OwnString s 1 (m .strings .«nb_domain»)
   pub b : OwnString s 2 (m .strings .«nb_computer»)
-  pub c : OwnString s 3 (m .strings .«dns_domain»)
-  pub d : OwnString s 4 (m .strings .«dns_host»)
-  pub e : OwnString s 5 (m .strings .«utf8_computer»)
+  pub c : OwnName s 3 (m .strings .«dns_domain»)
+  pub d : OwnName s 4 (m .strings .«dns_host»)
+  pub e : OwnName s 5 (m .strings .«utf8_computer»)
 
 -- a taken response: flags zero, every string empty at place 0
 pub record OwnResponse (s : List ℕ) (m : NlAuth) : Type 0 where
   pub message-type : m .«message_type» ≡ 1
   pub flags : m .flags .bits ≡ 0
-  pub a : m .strings .«nb_domain» ≡ noField
-  pub b : m .strings .«nb_computer» ≡ noField
-  pub c : m .strings .«dns_domain» ≡ noField
-  pub d : m .strings .«dns_host» ≡ noField
-  pub e : m .strings .«utf8_computer» ≡ noField
-  pub no-bytes : fieldBytes s noField ≡ []
+  pub a : m .strings .«nb_domain» ≡ noString
+  pub b : m .strings .«nb_computer» ≡ noString
+  pub c : m .strings .«dns_domain» ≡ noString
+  pub d : m .strings .«dns_host» ≡ noString
+  pub e : m .strings .«utf8_computer» ≡ noString
+  pub no-bytes : stringBytes s noString ≡ []
 
 abbrev pub NlAuthOwn : Type 0
 NlAuthOwn =

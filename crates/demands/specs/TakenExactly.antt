@@ -21,7 +21,7 @@ use Rattle.negotiate.specs.Negotiate.{readNegotiate}
 use Rattle.nl_auth.specs.declared.Reading.{Reading as NlReading}
 use Rattle.nl_auth.specs.declared.Reading.the-variants.{Taken as NlTaken, Refused as NlRefused}
 use Rattle.nl_auth.specs.NlAuth.{readNlAuth}
-use Rattle.demands.specs.NlAuth.{NlFails}
+use Rattle.demands.specs.NlAuth.{NlFails, NlFirst}
 use Rattle.demands.specs.Order.{First}
 use Rattle.demands.specs.Message.{Fails, negotiate, authenticate, challenge, Nonempty, lenOf, offsetOf}
 use Rattle.demands.specs.PairList.{Holds, ListFails}
@@ -118,4 +118,4 @@ abbrev pub NlAuthIsTaken : Type 0
 NlAuthIsTaken = (s : List ℕ) → IsTakenNl (readNlAuth s) ↔ ((n i : ℕ) → NlFails s n i → ⊥)
 
 abbrev pub NlAuthIsRefused : Type 0
-NlAuthIsRefused = (s : List ℕ) (n i : ℕ) → NlRefusedWith (readNlAuth s) n i ↔ First (NlFails s) n i
+NlAuthIsRefused = (s : List ℕ) (n i : ℕ) → NlRefusedWith (readNlAuth s) n i ↔ NlFirst s n i

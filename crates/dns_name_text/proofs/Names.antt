@@ -1,5 +1,5 @@
 -- Laws of a name's text: a label with its full stop, and the name label by label.
-use Prim.Native.Nat.{ℕ, _+_, _*_, _-_, _^_, _≤_, _<_}
+use Prim.Native.Nat.{ℕ, zero, suc, _+_, _*_, _-_, _^_, _≤_, _<_}
 use mathlib.Core.Path.{_≡_, refl, sym, ap, _∙_}
 use mathlib.Core.Bool.{Bool, true, false, cond}
 use mathlib.Core.List.{List, [], _∷_, _++_}
@@ -13,10 +13,17 @@ use Rattle.dns_name.specs.declared.Cursor.{Cursor}
 use Rattle.dns_name.specs.declared.Fault.{Fault}
 use Rattle.dns_name.specs.declared.Step.{Step}
 use Rattle.dns_name.specs.declared.Step.the-variants.{Label, Jump, End, Refused}
-use Rattle.dns_name.specs.DnsName.{stepAt, begin, pastLabel, jumped, labelsAt}
+use Rattle.dns_name.specs.DnsName.{stepAt, begin, pastLabel, jumped, onStep, labelsFrom, steps, labelsAt}
 use Rattle.dns_name.specs.Rfc1035.{LabelAt}
+use Rattle.dns_name.proofs.Judged.{JudgedS, step-judged}
 use Rattle.dns_name.proofs.Walks.{Sound, Remaining, Split, all-remain, split, remain-jump, none-at-end, none-at-fault, given-label}
-use Rattle.dns_name_text.specs.DnsNameText.{labelText, partText, joined, nameText}
+use Rattle.dns_name_text.specs.DnsNameText.{byteText, labelText, partText, joined, nameText}
+use lib.Dec.{eqb}
+use Rattle.text.specs.Text.{ascii}
+use Rattle.word.specs.Digits.{hex}
+use Rattle.word.specs.Name.{escape, unitText}
+use Rattle.word.proofs.Names.{byte-bound as unit-bound}
+use Rattle.word.proofs.Numbers.{length-hex}
 use Rattle.place.proofs.Parts.{Partly, none-written, all-written, still-kept, room-left, goes-on}
 
 -- ---- a label, with a full stop before it unless it is the first
@@ -177,3 +184,43 @@ module _ (l k s : List ℕ) (start at q : ℕ) (c : Cursor) (first : Bool) (w : 
 
     pub writing-fault : (f : Fault) → r ≡ Refused f → Wrote l k at q (nameText (labelsAt s start))
     writing-fault f h = writing-stop (none-at-fault s c (w .ls) (w .remain) r e f h)
+
+-- ---- the text of a name has at most four bytes for each of its coded length
+
+byte-bound : (b : ℕ) → length (byteText b) ≤ 4
+unfolding byteText escape
+byte-bound b = go (eqb b 0x2E) where
+  go : (t : Bool) → length (cond t (ascii "\\x" ++ hex 2 b) (unitText false b)) ≤ 4
+  go true = simp length-hex (omega arith)
+  go false = unit-bound b
+
+label-bound : (l : List ℕ) → length (labelText l) ≤ 4 * length l
+unfolding labelText
+label-bound [] = omega arith
+label-bound (b ∷ l) = omega (arith, byte-bound b, label-bound l, length-append (byteText b) (labelText l))
+
+part-bound : (first : Bool) (l : List ℕ) → length (partText first l) ≤ 4 * length l + 1
+part-bound true l = omega (arith, ap length (part-first true l refl), label-bound l)
+part-bound false l = omega (arith, ap length (part-later false l refl), label-bound l)
+
+bound-from : (k : ℕ) (s : List ℕ) (c : Cursor) (first : Bool) → c .coded ≤ 255 → c .jumps ≤ 16 →
+    length (joined first (labelsFrom k s c)) + 4 * c .coded ≤ 1020
+unfolding joined
+bound-from zero s c first short few = omega arith
+bound-from (suc k) s c first short few = go (stepAt s c) (step-judged s c few) (λ d b f g. bound-from k s d b f g) where
+  go : (x : Step) → JudgedS s c x →
+      ((d : Cursor) (b : Bool) → d .coded ≤ 255 → d .jumps ≤ 16 → length (joined b (labelsFrom k s d)) + 4 * d .coded ≤ 1020) →
+      length (joined first (onStep x (λ n. take n (drop (c .at + 1) s) ∷ labelsFrom k s (pastLabel c n)) (λ to. labelsFrom k s (jumped c to)) [] (λ e. [])))
+      + 4 * c .coded ≤ 1020
+  go (Label n) j rest =
+      let l : List ℕ = take n (drop (c .at + 1) s) in
+      let more : List (List ℕ) = labelsFrom k s (pastLabel c n) in
+      let short-label : length l ≤ n = simp length-take (omega arith) in
+      omega (arith, rest (pastLabel c n) false (j .1) few, part-bound first l, short-label, length-append (partText first l) (joined false more))
+  go (Jump to) j rest = rest (jumped c to) first short (omega (arith, j .2))
+  go End j rest = omega arith
+  go (Refused e) j rest = omega arith
+
+pub text-bound : (s : List ℕ) (start : ℕ) → length (nameText (labelsAt s start)) ≤ 1020
+unfolding nameText labelsAt
+text-bound s start = omega (arith, bound-from (suc steps) s (begin start) true (omega arith) (omega arith))

@@ -1,5 +1,5 @@
 -- Laws of the checks on a text, 50 and 53.
-use Prim.Native.Nat.{ℕ, zero, suc, _+_, _-_, _≤_, _<_}
+use Prim.Native.Nat.{ℕ, zero, suc, _+_, _-_, _≤_, _<_, min}
 use mathlib.Core.Path.{_≡_, refl, sym, ap, _∙_}
 use mathlib.Core.Bool.{Bool, true, false, cond}
 use mathlib.Core.List.{List, [], _∷_, _++_}
@@ -99,11 +99,14 @@ coded-size [] = refl
 coded-size (l ∷ ls) = omega (arith, coded-size ls, length-append l (coded ls))
 
 module _ (t : List ℕ) where
-  pub size-empty : length t ≡ 0 → 1 ≡ length (nameBytes t)
-  size-empty h = rw (bytes-empty t h)
+  pub size-empty : length t ≡ 0 → 1 ≡ min 65536 (length (nameBytes t))
+  size-empty h = omega (arith, ap length (bytes-empty t h))
 
-  pub size-some : (length t ≡ 0 → ⊥) → length t + 2 ≡ length (nameBytes t)
-  size-some h = sym (ap length (bytes-some t h) ∙ coded-size (pieces t) ∙ coded-pieces t)
+  size-all : (length t ≡ 0 → ⊥) → length (nameBytes t) ≡ length t + 2
+  size-all h = ap length (bytes-some t h) ∙ coded-size (pieces t) ∙ coded-pieces t
+
+  pub size-some : (n : ℕ) → (length t ≡ 0 → ⊥) → n ≡ min 65536 (2 + length t) → n ≡ min 65536 (length (nameBytes t))
+  size-some n h e = omega (arith, e, size-all h)
 
 same-short : (t : List ℕ) → leb (length t) 253 ≡ leb (codedLength (labelsOf t)) 255
 unfolding labelsOf

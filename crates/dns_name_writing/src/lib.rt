@@ -1,12 +1,13 @@
 // Writing a name without jumps, from text split at its full stops.
 ghost use mathlib.Core.Path.{_≡_};
 ghost use mathlib.Core.List.{[], _∷_, _++_};
-ghost use Prim.Native.Nat.{_+_, _≤_};
+ghost use Prim.Native.Nat.{_+_, _≤_, min};
 ghost use lib.ListN.{length, drop};
 ghost use Rattle.place.specs.Place.{Wrote};
 ghost use Rattle.wire.specs.declared.check.Checked.the-variants.{Held};
 ghost use Rattle.dns_name_writing.specs.Writing.{pieces, labelBytes, coded, nameBytes, labelHolds, labelsHold, textHolds, codedHolds, beforeStop};
 use place::Place;
+use place::written::add_capped;
 use wire::check::Checked;
 use wire::check::check;
 
@@ -25,14 +26,14 @@ fn before_stop(text: &[u8], from: usize) -> usize
     at - from
 }
 
-// 50 for a label of n bytes.
+// Check 50 at a label of n bytes.
 fn label_holds(n: usize) -> Checked
     ensures { λ r. ⌜ r ≡ labelHolds n ⌝ }
 {
     check((1 <= n) & (n <= 63))
 }
 
-// 50 for the pieces of a text.
+// Check 50 at each piece of a text.
 fn pieces_hold(text: &[u8]) -> Checked
     ensures { λ r. ⌜ r ≡ labelsHold (pieces (now (text .entry))) ⌝ }
 {
@@ -51,7 +52,7 @@ fn pieces_hold(text: &[u8]) -> Checked
     held
 }
 
-// 50.
+// Check 50.
 pub fn text_holds(text: &[u8]) -> Checked
     ensures { λ r. ⌜ r ≡ textHolds (now (text .entry)) ⌝ }
 {
@@ -61,22 +62,21 @@ pub fn text_holds(text: &[u8]) -> Checked
     pieces_hold(text)
 }
 
-// 53: the coded length is two more than the text's, or one where that is empty.
+// Check 53: the coded length is two more than the text's, or one where that is empty.
 pub fn coded_holds(text: &[u8]) -> Checked
     ensures { λ r. ⌜ r ≡ codedHolds (now (text .entry)) ⌝ }
 {
     check(text.len() <= 253)
 }
 
-// How many bytes the name of a text has.
+// How many bytes the name of a text has, as lengths are counted for check 30.
 pub fn coded_size(text: &[u8]) -> usize
-    requires { ⌜ length (now text) ≤ 65535 ⌝ }
-    ensures { λ r. ⌜ r ≡ length (nameBytes (now (text .entry))) ⌝ }
+    ensures { λ r. ⌜ r ≡ min 65536 (length (nameBytes (now (text .entry)))) ⌝ }
 {
     if text.len() == 0 {
         return 1;
     }
-    text.len() + 2
+    add_capped(2, text.len())
 }
 
 fn put_label(p: Place, out: &mut [u8], label: &[u8]) -> Place

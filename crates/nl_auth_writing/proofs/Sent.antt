@@ -1,18 +1,21 @@
 -- Laws of what is written: the strings of set bits, a message's length, and its checks.
-use Prim.Native.Nat.{ℕ, _+_, _-_, _≤_, min}
-use mathlib.Core.Path.{_≡_, refl, sym, _∙_}
+use Prim.Native.Nat.{ℕ, _+_, _-_, _^_, _≤_, _<_, min}
+use mathlib.Core.Path.{_≡_, refl, sym, ap, _∙_}
 use mathlib.Core.Bool.{Bool, true, false, not}
 use mathlib.Core.List.{List, [], _∷_}
 use native.Mathlib.Nat.{add-zero}
 use native.Mathlib.Omega.{arith}
 use lib.Dec.{leb, ltb}
 use lib.ListN.{length, take, drop, length-take, length-drop, length-append}
+use mir.Syntax.{w64}
+use mir.Val.{Fits}
 use borrow.Author.Tests.{leb-true}
 use Rattle.wire.specs.declared.check.Checked.{Checked}
 use Rattle.wire.specs.declared.check.Checked.the-variants.{Held, Failed}
 use Rattle.wire.specs.declared.check.Verdict.{Verdict}
 use Rattle.wire.specs.declared.check.Verdict.the-variants.{Clear, Refused}
-use Rattle.wire.specs.declared.refusal.Refusal.the-variants.{NoStrings, TooLongToWrite, NoRoom}
+use Rattle.wire.specs.declared.refusal.Refusal.{Refusal}
+use Rattle.wire.specs.declared.refusal.Refusal.the-variants.{NoStrings, TooLongToWrite, NoRoom, WrongLabel}
 use Rattle.wire.specs.Check.{checked, after, onClear}
 use Rattle.wire.proofs.Laws.{chain, held-true}
 use Rattle.place.specs.declared.written.Written.{Written}
@@ -25,7 +28,8 @@ use Rattle.place.proofs.Writings.{whole-length, whole-content}
 use Rattle.nl_auth_flags.specs.declared.NlAuthFlags.{NlAuthFlags}
 use Rattle.nl_auth_flags.specs.Flags.{nbDomain, nbComputer, dnsDomain, dnsHost, utf8Computer, noFlags, stringsHold}
 use Rattle.nl_auth.specs.NlAuth.{beforeZero}
-use Rattle.nl_auth_writing.specs.Writing.{headBytes, stringBytes, bytesUnder, utf8Bytes, requestBytes, responseBytes, noZero, checkZeros, checkRequest, requestAnswer, requestOut}
+use Rattle.dns_name_writing.specs.Writing.{nameBytes, textHolds, codedHolds}
+use Rattle.nl_auth_writing.specs.Writing.{headBytes, stringBytes, bytesUnder, nameUnder, utf8Bytes, requestBytes, responseBytes, noZero, checkZeros, labelsUnder, checkLabels, codedUnder, checkCoded, checkNames, checkRequest, requestAnswer, requestOut}
 
 -- the string of a bit d that was told to be set
 module _ (s : List ℕ) (b d : Bool) (q : b ≡ d) (h : b ≡ true) where
@@ -64,6 +68,75 @@ module _ (s : List ℕ) (b d : Bool) (q : b ≡ d) (h : b ≡ false) where
   pub clear-zero : Held ≡ noZero (d, s)
   clear-zero = simp (← q, h)
 
+-- the name of a bit d that was told to be set
+module _ (s : List ℕ) (b d : Bool) (q : b ≡ d) (h : b ≡ true) where
+  set-name : nameUnder d s ≡ nameBytes s
+  unfolding nameUnder
+  set-name = rw (← q, h)
+
+  pub set-name-room : (l : List ℕ) (at : ℕ) → at + length (nameUnder d s) ≤ length l → 0 + length (nameBytes s) ≤ length (take (length l - at) (drop at l))
+  set-name-room l at r = simp (length-take, length-drop) (omega (arith, ap length set-name))
+
+  pub set-name-fits : (l k z : List ℕ) (at r : ℕ) → at + length (nameUnder d s) ≤ length l → length l < 2 ^ 64 → Wrote k z 0 r (nameBytes s) → Fits w64 (at + r)
+  set-name-fits l k z at r f g w = record { fits = omega (arith, w .place, ap length set-name) }
+
+  pub set-name-wrote : (l k : List ℕ) (i p : ℕ) → Wrote l k i p (nameBytes s) → Wrote l k i p (nameUnder d s)
+  set-name-wrote l k i p w = rw set-name w
+
+  pub set-name-size : (n m r : ℕ) → m ≡ min 65536 (length (nameBytes s)) → r ≡ min 65536 (n + m) → r ≡ min 65536 (n + length (nameUnder d s))
+  set-name-size n m r e f = omega (arith, ap length set-name)
+
+  pub set-labels : (r : Checked) → r ≡ textHolds s → r ≡ labelsUnder (d, s)
+  unfolding labelsUnder
+  set-labels r e = rw (← q, h) e
+
+  pub set-held : labelsUnder (d, s) ≡ Held → textHolds s ≡ Held
+  unfolding labelsUnder
+  set-held e = rw (← q, h) at e
+
+  pub set-coded : (r : Checked) → r ≡ codedHolds s → r ≡ codedUnder (d, s)
+  unfolding codedUnder
+  set-coded r e = rw (← q, h) e
+
+-- and of one that was told to be clear
+module _ (s : List ℕ) (b d : Bool) (q : b ≡ d) (h : b ≡ false) where
+  clear-name : nameUnder d s ≡ []
+  unfolding nameUnder
+  clear-name = rw (← q, h)
+
+  pub clear-name-wrote : (l : List ℕ) (i : ℕ) → Wrote l l i i (nameUnder d s)
+  clear-name-wrote l i = rw clear-name (nothing l i)
+
+  pub clear-name-size : (n : ℕ) → n ≤ 65536 → n ≡ min 65536 (n + length (nameUnder d s))
+  clear-name-size n l = simp (clear-name, add-zero) (omega arith)
+
+  pub clear-labels : Held ≡ labelsUnder (d, s)
+  unfolding labelsUnder
+  clear-labels = rw (← q, h)
+
+  pub clear-coded : Held ≡ codedUnder (d, s)
+  unfolding codedUnder
+  clear-coded = rw (← q, h)
+
+-- check 50 held for each of C, D and E
+first-held : (k : Checked) (e : Refusal) (x : Verdict) → after k (Refused e) x ≡ Clear → (k ≡ Held) × (x ≡ Clear)
+first-held Held e x h = (refl, h)
+first-held Failed e x h = (cc, cc)
+
+module _ (flags : NlAuthFlags) (c d e : List ℕ) (h : checkLabels flags c d e ≡ Clear) where
+  held-c : (labelsUnder (dnsDomain flags, c) ≡ Held) × (after (labelsUnder (dnsHost flags, d)) (Refused (WrongLabel 4)) (after (labelsUnder (utf8Computer flags, e)) (Refused (WrongLabel 5)) Clear) ≡ Clear)
+  unfolding checkLabels
+  held-c = first-held (labelsUnder (dnsDomain flags, c)) (WrongLabel 3) _ h
+
+  pub labels-c : labelsUnder (dnsDomain flags, c) ≡ Held
+  labels-c = held-c .0
+
+  pub labels-d : labelsUnder (dnsHost flags, d) ≡ Held
+  labels-d = first-held (labelsUnder (dnsHost flags, d)) (WrongLabel 4) _ (held-c .1) .0
+
+  pub labels-e : labelsUnder (utf8Computer flags, e) ≡ Held
+  labels-e = first-held (labelsUnder (utf8Computer flags, e)) (WrongLabel 5) _ (first-held (labelsUnder (dnsHost flags, d)) (WrongLabel 4) _ (held-c .1) .1) .0
+
 -- lengths
 length-head : (t : ℕ) (flags : NlAuthFlags) → length (headBytes t flags) ≡ 8
 unfolding headBytes
@@ -76,8 +149,8 @@ length-response = simp (length-append, length-head)
 module _ (flags : NlAuthFlags) (a b c d e : List ℕ) where
   abbrev requestSize : ℕ
   requestSize =
-      8 + (length (bytesUnder (nbDomain flags) a) + (length (bytesUnder (nbComputer flags) b) + (length (bytesUnder (dnsDomain flags) c)
-      + (length (bytesUnder (dnsHost flags) d) + length (bytesUnder (utf8Computer flags) e)))))
+      8 + (length (bytesUnder (nbDomain flags) a) + (length (bytesUnder (nbComputer flags) b) + (length (nameUnder (dnsDomain flags) c)
+      + (length (nameUnder (dnsHost flags) d) + length (nameUnder (utf8Computer flags) e)))))
 
   pub length-request : length (requestBytes flags a b c d e) ≡ requestSize
   unfolding requestBytes utf8Bytes
@@ -87,30 +160,42 @@ module _ (flags : NlAuthFlags) (a b c d e : List ℕ) where
   pub size-is : (k l m n r : ℕ) →
       k ≡ min 65536 (8 + length (bytesUnder (nbDomain flags) a)) →
       l ≡ min 65536 (k + length (bytesUnder (nbComputer flags) b)) →
-      m ≡ min 65536 (l + length (bytesUnder (dnsDomain flags) c)) →
-      n ≡ min 65536 (m + length (bytesUnder (dnsHost flags) d)) →
-      r ≡ min 65536 (n + length (bytesUnder (utf8Computer flags) e)) →
+      m ≡ min 65536 (l + length (nameUnder (dnsDomain flags) c)) →
+      n ≡ min 65536 (m + length (nameUnder (dnsHost flags) d)) →
+      r ≡ min 65536 (n + length (nameUnder (utf8Computer flags) e)) →
       r ≡ min 65536 (length (requestBytes flags a b c d e))
   size-is k l m n r p q s t u = omega (arith, length-request)
 
 -- ---- the checks
 
-room-held : (k m : Checked) (z : Verdict) (t : Bool) →
-    after k (Refused NoStrings) (onClear Refused z (after m (Refused TooLongToWrite) (after (checked t) (Refused NoRoom) Clear))) ≡ Clear →
-    t ≡ true
-room-held Held Held Clear true h = refl
-room-held Held Held Clear false h = cc
-room-held Held Failed Clear t h = cc
-room-held Held m (Refused e) t h = cc
-room-held Failed m z t h = cc
+room-held : (k m : Checked) (z v : Verdict) (t : Bool) →
+    after k (Refused NoStrings) (onClear Refused z (onClear Refused v (after m (Refused TooLongToWrite) (after (checked t) (Refused NoRoom) Clear)))) ≡ Clear →
+    (v ≡ Clear) × (t ≡ true)
+room-held Held Held Clear Clear true h = (refl, refl)
+room-held Held Held Clear Clear false h = (cc, cc)
+room-held Held Failed Clear Clear t h = (cc, cc)
+room-held Held m Clear (Refused e) t h = (cc, cc)
+room-held Held m (Refused e) v t h = (cc, cc)
+room-held Failed m z v t h = (cc, cc)
+
+labels-held : (v w : Verdict) → onClear Refused v w ≡ Clear → v ≡ Clear
+labels-held Clear w h = refl
+labels-held (Refused e) w h = cc
 
 -- a request whose checks held has its room
 module _ (flags : NlAuthFlags) (a b c d e : List ℕ) (room : ℕ) (v : Verdict) (p : v ≡ checkRequest room flags a b c d e) (h : v ≡ Clear) where
-  pub request-fits : length (requestBytes flags a b c d e) ≤ room
+  held : (checkNames flags c d e ≡ Clear) × (leb (length (requestBytes flags a b c d e)) room ≡ true)
   unfolding checkRequest
-  request-fits =
+  held =
       let n : ℕ = length (requestBytes flags a b c d e) in
-      leb-true n room (room-held (stringsHold flags) (sizeHolds n) (checkZeros flags a b c d e) (leb n room) (sym p ∙ h))
+      room-held (stringsHold flags) (sizeHolds n) (checkZeros flags a b c d e) (checkNames flags c d e) (leb n room) (sym p ∙ h)
+
+  pub request-labels : checkLabels flags c d e ≡ Clear
+  unfolding checkNames
+  request-labels = labels-held (checkLabels flags c d e) (checkCoded flags c d e) (held .0)
+
+  pub request-fits : length (requestBytes flags a b c d e) ≤ room
+  request-fits = leb-true (length (requestBytes flags a b c d e)) room (held .1)
 
   pub request-room : requestSize flags a b c d e ≤ room
   request-room = rw (length-request flags a b c d e) at request-fits

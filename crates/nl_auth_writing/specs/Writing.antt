@@ -1,12 +1,13 @@
--- NL_AUTH_MESSAGE (MS-NRPC 2.2.1.3.1), written as document 01 sets it out, into a lent output.
+-- NL_AUTH_MESSAGE (MS-NRPC 2.2.1.3.1), written as documents 01 and 02 set it out, into a lent output.
 use Prim.Native.Nat.{ℕ}
 use mathlib.Core.Bool.{Bool, _&&_, not, cond}
 use mathlib.Core.List.{List, [], _∷_, _++_}
 use lib.ListN.{length}
 use Rattle.wire.specs.declared.check.Checked.{Checked}
+use Rattle.wire.specs.declared.check.Checked.the-variants.{Held}
 use Rattle.wire.specs.declared.check.Verdict.{Verdict}
 use Rattle.wire.specs.declared.check.Verdict.the-variants.{Clear, Refused as Not}
-use Rattle.wire.specs.declared.refusal.Refusal.the-variants.{NoStrings, TooLongToWrite, NoRoom, ZeroInString}
+use Rattle.wire.specs.declared.refusal.Refusal.the-variants.{NoStrings, TooLongToWrite, NoRoom, ZeroInString, WrongLabel, NameTooLong}
 use Rattle.wire.specs.Check.{checked, after, overAll, onClear}
 use Rattle.place.specs.declared.written.Written.{Written}
 use Rattle.place.specs.declared.written.Written.the-variants.{Length, Refused}
@@ -15,6 +16,7 @@ use Rattle.place.specs.Written.{sizeHolds, roomHolds, atFront, answered, outAft
 use Rattle.nl_auth_flags.specs.declared.NlAuthFlags.{NlAuthFlags}
 use Rattle.nl_auth_flags.specs.Flags.{nbDomain, nbComputer, dnsDomain, dnsHost, utf8Computer, noFlags, stringsHold}
 use Rattle.nl_auth.specs.NlAuth.{holdsZero}
+use Rattle.dns_name_writing.specs.Writing.{nameBytes, textHolds, codedHolds}
 
 -- ---- the bytes
 
@@ -22,7 +24,7 @@ use Rattle.nl_auth.specs.NlAuth.{holdsZero}
 unfoldable pub headBytes : ℕ → NlAuthFlags → List ℕ
 headBytes t flags = le32 t ++ le32 (flags .bits)
 
--- a string and its zero byte
+-- string A or B and its zero byte
 unfoldable pub stringBytes : List ℕ → List ℕ
 stringBytes x = x ++ (0 ∷ [])
 
@@ -30,12 +32,15 @@ stringBytes x = x ++ (0 ∷ [])
 unfoldable pub bytesUnder : Bool → List ℕ → List ℕ
 bytesUnder set x = cond set (stringBytes x) []
 
--- the UTF-8 strings, C to E
+-- the UTF-8 strings, C to E: "without jumps, from text split at full stops"
+unfoldable pub nameUnder : Bool → List ℕ → List ℕ
+nameUnder set x = cond set (nameBytes x) []
+
 unfoldable pub utf8Bytes : NlAuthFlags → List ℕ → List ℕ → List ℕ → List ℕ
 utf8Bytes flags c d e =
-    bytesUnder (dnsDomain flags) c ++ (
-    bytesUnder (dnsHost flags) d ++
-    bytesUnder (utf8Computer flags) e)
+    nameUnder (dnsDomain flags) c ++ (
+    nameUnder (dnsHost flags) d ++
+    nameUnder (utf8Computer flags) e)
 
 -- a request: one string for each set bit, A first
 unfoldable pub requestBytes : NlAuthFlags → List ℕ → List ℕ → List ℕ → List ℕ → List ℕ → List ℕ
@@ -65,14 +70,37 @@ checkZeros flags a b c d e =
     (4, (dnsHost flags, d)) ∷
     (5, (utf8Computer flags, e)) ∷ [])
 
--- a request, for an output of so many bytes: 14, 34, 30, 33
+-- strings C to E with their bits, C first
+abbrev pub names : NlAuthFlags → List ℕ → List ℕ → List ℕ → List (ℕ × (Bool × List ℕ))
+names flags c d e = (3, (dnsDomain flags, c)) ∷ (4, (dnsHost flags, d)) ∷ (5, (utf8Computer flags, e)) ∷ []
+
+-- check 50 at one string: the labels of a set bit's string have 1 to 63 bytes
+unfoldable pub labelsUnder : Bool × List ℕ → Checked
+labelsUnder x = cond (x .0) (textHolds (x .1)) Held
+
+unfoldable pub checkLabels : NlAuthFlags → List ℕ → List ℕ → List ℕ → Verdict
+checkLabels flags c d e = overAll labelsUnder WrongLabel (names flags c d e)
+
+-- check 53 at one string: its coded length is at most 255
+unfoldable pub codedUnder : Bool × List ℕ → Checked
+codedUnder x = cond (x .0) (codedHolds (x .1)) Held
+
+unfoldable pub checkCoded : NlAuthFlags → List ℕ → List ℕ → List ℕ → Verdict
+checkCoded flags c d e = overAll codedUnder NameTooLong (names flags c d e)
+
+-- "50 .. then 53", each over all strings
+unfoldable pub checkNames : NlAuthFlags → List ℕ → List ℕ → List ℕ → Verdict
+checkNames flags c d e = onClear Not (checkLabels flags c d e) (checkCoded flags c d e)
+
+-- a request, for an output of so many bytes: 14, 34, 50, 53, 30, 33
 unfoldable pub checkRequest : ℕ → NlAuthFlags → List ℕ → List ℕ → List ℕ → List ℕ → List ℕ → Verdict
 checkRequest room flags a b c d e =
     after (stringsHold flags) (Not NoStrings) (
     onClear Not (checkZeros flags a b c d e) (
+    onClear Not (checkNames flags c d e) (
     after (sizeHolds (length (requestBytes flags a b c d e))) (Not TooLongToWrite) (
     after (roomHolds (length (requestBytes flags a b c d e)) room) (Not NoRoom)
-    Clear)))
+    Clear))))
 
 -- ---- what a writing answers, and what it leaves in the output
 

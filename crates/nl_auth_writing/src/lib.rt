@@ -1,11 +1,18 @@
-// NL_AUTH_MESSAGE (MS-NRPC 2.2.1.3.1): writing. The strings of bits A to E are lent as `a` to `e`.
+// NL_AUTH_MESSAGE (MS-NRPC 2.2.1.3.1): writing. The strings of bits A to E are lent as `a` to `e`;
+// C, D and E are texts, written as names by RFC 1035.
 ghost use mathlib.Core.Path.{_≡_};
 ghost use Prim.Native.Nat.{_+_, _≤_, _<_, min};
 ghost use lib.ListN.{length};
+ghost use Rattle.wire.specs.declared.check.Checked.the-variants.{Held};
+ghost use Rattle.wire.specs.declared.check.Verdict.the-variants.{Clear};
 ghost use Rattle.place.specs.Place.{Wrote};
 ghost use Rattle.wire.specs.Number.{has};
 ghost use Rattle.nl_auth_flags.specs.Flags.{nbDomain, nbComputer, dnsDomain, dnsHost, utf8Computer, known};
-ghost use Rattle.nl_auth_writing.specs.Writing.{headBytes, stringBytes, bytesUnder, utf8Bytes, requestBytes, noZero, checkZeros, checkRequest, requestAnswer, requestOut, responseAnswer, responseOut};
+ghost use Rattle.nl_auth_writing.specs.Writing.{headBytes, stringBytes, bytesUnder, nameUnder, utf8Bytes, requestBytes, noZero, checkZeros, labelsUnder, checkLabels, codedUnder, checkCoded, checkNames, checkRequest, requestAnswer, requestOut, responseAnswer, responseOut};
+use dns_name_writing::coded_holds;
+use dns_name_writing::coded_size;
+use dns_name_writing::put_name;
+use dns_name_writing::text_holds;
 use nl_auth::NlAuth;
 use nl_auth::string::before_zero;
 use nl_auth_flags::NlAuthFlags;
@@ -53,7 +60,72 @@ fn check_zeros(flags: NlAuthFlags, a: &[u8], b: &[u8], c: &[u8], d: &[u8], e: &[
     Verdict::Clear
 }
 
-// A length so far, and with the string of a bit.
+// Check 50 at the string of a bit.
+fn labels_under(flags: NlAuthFlags, mask: u32, text: &[u8]) -> Checked
+    requires { ⌜ 0 < mask ⌝ }
+    ensures { λ r. ⌜ r ≡ labelsUnder (has (flags .bits) mask, now (text .entry)) ⌝ }
+{
+    if has(flags.bits, mask) {
+        return text_holds(text);
+    }
+    Checked::Held
+}
+
+// Check 50, C first.
+fn check_labels(flags: NlAuthFlags, c: &[u8], d: &[u8], e: &[u8]) -> Verdict
+    ensures { λ r. ⌜ r ≡ checkLabels flags (now (c .entry)) (now (d .entry)) (now (e .entry)) ⌝ }
+{
+    let Checked::Held = labels_under(flags, NlAuthFlags::DNS_DOMAIN, c) else {
+        return Verdict::Refused(Refusal::WrongLabel(3));
+    };
+    let Checked::Held = labels_under(flags, NlAuthFlags::DNS_HOST, d) else {
+        return Verdict::Refused(Refusal::WrongLabel(4));
+    };
+    let Checked::Held = labels_under(flags, NlAuthFlags::UTF8_COMPUTER, e) else {
+        return Verdict::Refused(Refusal::WrongLabel(5));
+    };
+    Verdict::Clear
+}
+
+// Check 53 at the string of a bit.
+fn coded_under(flags: NlAuthFlags, mask: u32, text: &[u8]) -> Checked
+    requires { ⌜ 0 < mask ⌝ }
+    ensures { λ r. ⌜ r ≡ codedUnder (has (flags .bits) mask, now (text .entry)) ⌝ }
+{
+    if has(flags.bits, mask) {
+        return coded_holds(text);
+    }
+    Checked::Held
+}
+
+// Check 53, C first.
+fn check_coded(flags: NlAuthFlags, c: &[u8], d: &[u8], e: &[u8]) -> Verdict
+    ensures { λ r. ⌜ r ≡ checkCoded flags (now (c .entry)) (now (d .entry)) (now (e .entry)) ⌝ }
+{
+    let Checked::Held = coded_under(flags, NlAuthFlags::DNS_DOMAIN, c) else {
+        return Verdict::Refused(Refusal::NameTooLong(3));
+    };
+    let Checked::Held = coded_under(flags, NlAuthFlags::DNS_HOST, d) else {
+        return Verdict::Refused(Refusal::NameTooLong(4));
+    };
+    let Checked::Held = coded_under(flags, NlAuthFlags::UTF8_COMPUTER, e) else {
+        return Verdict::Refused(Refusal::NameTooLong(5));
+    };
+    Verdict::Clear
+}
+
+// Checks 50 and 53, each over all strings.
+fn check_names(flags: NlAuthFlags, c: &[u8], d: &[u8], e: &[u8]) -> Verdict
+    ensures { λ r. ⌜ r ≡ checkNames flags (now (c .entry)) (now (d .entry)) (now (e .entry)) ⌝ }
+{
+    let labels = check_labels(flags, c, d, e);
+    let Verdict::Clear = labels else {
+        return labels;
+    };
+    check_coded(flags, c, d, e)
+}
+
+// A length so far, and with string A or B.
 fn size_with(n: usize, flags: NlAuthFlags, mask: u32, string: &[u8]) -> usize
     requires { ⌜ (n ≤ 65536) × (0 < mask) ⌝ }
     ensures { λ r. ⌜ r ≡ min 65536 (n + length (bytesUnder (has (flags .bits) mask) (now (string .entry)))) ⌝ }
@@ -64,18 +136,29 @@ fn size_with(n: usize, flags: NlAuthFlags, mask: u32, string: &[u8]) -> usize
     n
 }
 
+// The same with string C, D or E.
+fn size_with_name(n: usize, flags: NlAuthFlags, mask: u32, text: &[u8]) -> usize
+    requires { ⌜ (n ≤ 65536) × (0 < mask) ⌝ }
+    ensures { λ r. ⌜ r ≡ min 65536 (n + length (nameUnder (has (flags .bits) mask) (now (text .entry)))) ⌝ }
+{
+    if has(flags.bits, mask) {
+        return add_capped(n, coded_size(text));
+    }
+    n
+}
+
 // The length of a request, as it is counted for check 30.
 fn request_size(flags: NlAuthFlags, a: &[u8], b: &[u8], c: &[u8], d: &[u8], e: &[u8]) -> usize
     ensures { λ r. ⌜ r ≡ min 65536 (length (requestBytes flags (now (a .entry)) (now (b .entry)) (now (c .entry)) (now (d .entry)) (now (e .entry)))) ⌝ }
 {
     let n = size_with(8, flags, NlAuthFlags::NB_DOMAIN, a);
     let n = size_with(n, flags, NlAuthFlags::NB_COMPUTER, b);
-    let n = size_with(n, flags, NlAuthFlags::DNS_DOMAIN, c);
-    let n = size_with(n, flags, NlAuthFlags::DNS_HOST, d);
-    size_with(n, flags, NlAuthFlags::UTF8_COMPUTER, e)
+    let n = size_with_name(n, flags, NlAuthFlags::DNS_DOMAIN, c);
+    let n = size_with_name(n, flags, NlAuthFlags::DNS_HOST, d);
+    size_with_name(n, flags, NlAuthFlags::UTF8_COMPUTER, e)
 }
 
-// Checks 14, 34, 30 and 33 of a request, for an output of `room` bytes.
+// Checks 14, 34, 50, 53, 30 and 33 of a request, for an output of `room` bytes.
 fn check_request(
     room: usize,
     flags: NlAuthFlags,
@@ -93,6 +176,10 @@ fn check_request(
     let zeros = check_zeros(flags, a, b, c, d, e);
     let Verdict::Clear = zeros else {
         return zeros;
+    };
+    let names = check_names(flags, c, d, e);
+    let Verdict::Clear = names else {
+        return names;
     };
     let n = request_size(flags, a, b, c, d, e);
     let Checked::Held = size_holds(n) else {
@@ -137,14 +224,28 @@ fn put_under(place: Place, out: &mut [u8], flags: NlAuthFlags, mask: u32, string
     place
 }
 
+// The same of string C, D or E, whose labels check 50 let pass.
+fn put_name_under(place: Place, out: &mut [u8], flags: NlAuthFlags, mask: u32, text: &[u8]) -> Place
+    requires { ⌜ (0 < mask) × (labelsUnder (has (flags .bits) mask, now text) ≡ Held) × (place .at + length (nameUnder (has (flags .bits) mask) (now text)) ≤ length (now out)) ⌝ }
+    ensures { λ r. ⌜ Wrote (now (out .entry)) (now (out .exit)) (place .at) (r .at) (nameUnder (has (flags .bits) mask) (now (text .entry))) ⌝ }
+{
+    if has(flags.bits, mask) {
+        let at = place.at;
+        let end = put_name(Place { at: 0 }, &mut out[at..], text);
+        return Place { at: at + end.at };
+    }
+    place
+}
+
 // The UTF-8 strings, C to E.
 fn put_utf8(place: Place, out: &mut [u8], flags: NlAuthFlags, c: &[u8], d: &[u8], e: &[u8]) -> Place
-    requires { ⌜ place .at + (length (bytesUnder (dnsDomain flags) (now c)) + (length (bytesUnder (dnsHost flags) (now d)) + length (bytesUnder (utf8Computer flags) (now e)))) ≤ length (now out) ⌝ }
+    requires { ⌜ checkLabels flags (now c) (now d) (now e) ≡ Clear ⌝ }
+    requires { ⌜ place .at + (length (nameUnder (dnsDomain flags) (now c)) + (length (nameUnder (dnsHost flags) (now d)) + length (nameUnder (utf8Computer flags) (now e)))) ≤ length (now out) ⌝ }
     ensures { λ r. ⌜ Wrote (now (out .entry)) (now (out .exit)) (place .at) (r .at) (utf8Bytes flags (now (c .entry)) (now (d .entry)) (now (e .entry))) ⌝ }
 {
-    let place = put_under(place, out, flags, NlAuthFlags::DNS_DOMAIN, c);
-    let place = put_under(place, out, flags, NlAuthFlags::DNS_HOST, d);
-    put_under(place, out, flags, NlAuthFlags::UTF8_COMPUTER, e)
+    let place = put_name_under(place, out, flags, NlAuthFlags::DNS_DOMAIN, c);
+    let place = put_name_under(place, out, flags, NlAuthFlags::DNS_HOST, d);
+    put_name_under(place, out, flags, NlAuthFlags::UTF8_COMPUTER, e)
 }
 
 // A request whose checks held.
@@ -157,7 +258,8 @@ fn put_request(
     d: &[u8],
     e: &[u8],
 ) -> Place
-    requires { ⌜ 8 + (length (bytesUnder (nbDomain flags) (now a)) + (length (bytesUnder (nbComputer flags) (now b)) + (length (bytesUnder (dnsDomain flags) (now c)) + (length (bytesUnder (dnsHost flags) (now d)) + length (bytesUnder (utf8Computer flags) (now e)))))) ≤ length (now out) ⌝ }
+    requires { ⌜ checkLabels flags (now c) (now d) (now e) ≡ Clear ⌝ }
+    requires { ⌜ 8 + (length (bytesUnder (nbDomain flags) (now a)) + (length (bytesUnder (nbComputer flags) (now b)) + (length (nameUnder (dnsDomain flags) (now c)) + (length (nameUnder (dnsHost flags) (now d)) + length (nameUnder (utf8Computer flags) (now e)))))) ≤ length (now out) ⌝ }
     ensures { λ r. ⌜ Wrote (now (out .entry)) (now (out .exit)) 0 (r .at) (requestBytes flags (now (a .entry)) (now (b .entry)) (now (c .entry)) (now (d .entry)) (now (e .entry))) ⌝ }
 {
     let place = put_head(out, NlAuth::REQUEST, flags);

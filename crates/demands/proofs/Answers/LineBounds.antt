@@ -1,8 +1,8 @@
 -- How long a line is at most, by the lengths of its names: a name's text has at most four bytes for each of the name's.
 use Prim.Native.Nat.{ℕ, _+_, _*_, _≤_}
-use mathlib.Core.Path.{_≡_, refl}
+use mathlib.Core.Path.{refl}
 use mathlib.Core.Bool.{Bool, true, false, cond}
-use mathlib.Core.List.{List, [], _∷_}
+use mathlib.Core.List.{List}
 use native.Mathlib.Omega.{arith}
 use lib.Dec.{eqb}
 use lib.ListN.{length, length-append}
@@ -15,6 +15,12 @@ use Rattle.authenticate.specs.declared.Authenticate.{Authenticate}
 use Rattle.challenge.specs.declared.Challenge.{Challenge}
 use Rattle.negotiate.specs.declared.Negotiate.{Negotiate}
 use Rattle.nl_auth.specs.declared.NlAuth.{NlAuth}
+use Rattle.nl_auth.specs.declared.string.NlString.{NlString}
+use Rattle.nl_auth.specs.NlAuth.{stringBytes, labelsOf}
+use Rattle.nl_auth.proofs.Names.{string-small}
+use Rattle.nl_auth_text.specs.StringText.{oemText, utf8Text}
+use Rattle.dns_name_text.specs.DnsNameText.{nameText as dnsText}
+use Rattle.dns_name_text.proofs.Names.{text-bound}
 use Rattle.target_info.specs.declared.Timestamp.{Timestamp}
 use Rattle.target_info.specs.declared.Timestamp.the-variants.{Time, Nothing as NoTime}
 use Rattle.word.specs.Name.{nameText}
@@ -34,10 +40,17 @@ unfolding nameWord
 word-bound label s unicode f =
     omega (arith, length-append label (nameText unicode (fieldBytes s f)), name-bound unicode (fieldBytes s f), field-small s (fieldBytes s f) f refl)
 
-string-bound : (label s : List ℕ) (given : Bool) (f : Field) → length (stringWord label given (fieldBytes s f)) ≤ length label + 4 * f .len
-unfolding stringWord
-string-bound label s true f = word-bound label s false f
-string-bound label s false f = omega arith
+oem-bound : (label s : List ℕ) (given : Bool) (x : NlString) → length (stringWord label given (oemText s x)) ≤ length label + 4 * x .len
+unfolding stringWord oemText
+oem-bound label s true x =
+    omega (arith, length-append label (nameText false (stringBytes s x)), name-bound false (stringBytes s x), string-small s x)
+oem-bound label s false x = omega arith
+
+-- of a DNS name: no more than four bytes for each of its coded length, which is at most 255
+utf8-bound : (label s : List ℕ) (given : Bool) (x : NlString) → length (stringWord label given (utf8Text s x)) ≤ length label + 1020
+unfolding stringWord utf8Text
+utf8-bound label s true x = omega (arith, length-append label (dnsText (labelsOf s x)), text-bound (drop 8 s) (x .offset - 8))
+utf8-bound label s false x = omega arith
 
 -- ---- the lines
 
@@ -82,16 +95,16 @@ chal-bound unicode s c pairs time =
     (omega (arith, time-bound time, word-bound (ascii " target=") s unicode (c .fields .«target_name»)))
 
 pub nl-bound : (s : List ℕ) (m : NlAuth) →
-    length (nlText s m) ≤ length (numberWord (ascii "nl type=") (m .«message_type»)) + 31
-    + 4 * (m .strings .«nb_domain» .len + m .strings .«nb_computer» .len + m .strings .«dns_domain» .len + m .strings .«dns_host» .len + m .strings .«utf8_computer» .len)
+    length (nlText s m) ≤ length (numberWord (ascii "nl type=") (m .«message_type»)) + 3091
+    + 4 * (m .strings .«nb_domain» .len + m .strings .«nb_computer» .len)
 unfolding nlText nlStart nlOem nlUtf8
 nl-bound s m =
     simp (length-append, flags-word-size)
     (omega (
       arith,
-      string-bound (ascii " a=") s (nbDomain (m .flags)) (m .strings .«nb_domain»),
-      string-bound (ascii " b=") s (nbComputer (m .flags)) (m .strings .«nb_computer»),
-      string-bound (ascii " c=") s (dnsDomain (m .flags)) (m .strings .«dns_domain»),
-      string-bound (ascii " d=") s (dnsHost (m .flags)) (m .strings .«dns_host»),
-      string-bound (ascii " e=") s (utf8Computer (m .flags)) (m .strings .«utf8_computer»),
+      oem-bound (ascii " a=") s (nbDomain (m .flags)) (m .strings .«nb_domain»),
+      oem-bound (ascii " b=") s (nbComputer (m .flags)) (m .strings .«nb_computer»),
+      utf8-bound (ascii " c=") s (dnsDomain (m .flags)) (m .strings .«dns_domain»),
+      utf8-bound (ascii " d=") s (dnsHost (m .flags)) (m .strings .«dns_host»),
+      utf8-bound (ascii " e=") s (utf8Computer (m .flags)) (m .strings .«utf8_computer»),
     ))

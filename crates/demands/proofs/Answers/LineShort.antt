@@ -1,22 +1,23 @@
 -- A line has under 2^20 bytes.
-use Prim.Native.Nat.{ℕ, _+_, _≤_, _<_}
-use mathlib.Core.Path.{_≡_, refl, sym, subst}
-use mathlib.Core.Bool.{Bool, true, false, cond}
+use Prim.Native.Nat.{ℕ, _+_, _/_, _%_, _≤_, _<_}
+use mathlib.Core.Path.{_≡_, refl, sym, ap, subst}
+use mathlib.Core.Logic.{⊎-elim}
+use mathlib.Core.Bool.{Bool, true, false}
 use mathlib.Core.List.{List}
 use native.Mathlib.Omega.{arith}
 use lib.Dec.{leb, eqb}
-use lib.ListN.{length, drop, length-append}
-use borrow.Author.Tests.{leb-true, leb-false, eqb-true}
+use lib.ListN.{length, length-append}
+use borrow.Author.Tests.{leb-true, leb-false, eqb-true, eqb-false}
 use Rattle.text.specs.Text.{ascii}
 use Rattle.wire.specs.declared.check.Checked.{Checked}
 use Rattle.wire.specs.declared.check.Checked.the-variants.{Held, Failed}
 use Rattle.wire.specs.declared.refusal.Refusal.{Refusal}
-use Rattle.wire.specs.declared.refusal.Refusal.the-variants.{TooLong, TooShort, WrongType, NoStrings, Unterminated, BytesLeft, WrongResponse, NoRoom}
-use Rattle.wire.specs.Check.{checked, after, onClear}
+use Rattle.wire.specs.declared.refusal.Refusal.the-variants.{NoRoom}
+use Rattle.wire.specs.Number.{u32At}
+use Rattle.wire.specs.Check.{after, onClear}
 use Rattle.wire.specs.Refusal.{numberOf, fieldOf}
 use Rattle.place.specs.Written.{roomHolds}
 use Rattle.field.specs.declared.Field.{Field}
-use Rattle.field.specs.Field.{noField}
 use Rattle.negotiate_flags.specs.Flags.{unicode}
 use Rattle.authenticate.specs.declared.Authenticate.{Authenticate}
 use Rattle.authenticate.specs.declared.Reading.{Reading}
@@ -30,18 +31,16 @@ use Rattle.challenge.specs.declared.Reading.the-variants.{Taken as ChallengeTak
 use Rattle.challenge.specs.Challenge.{infoOf, readChallenge}
 use Rattle.head.specs.declared.Kind.{Kind}
 use Rattle.head.specs.declared.Kind.the-variants.{Negotiate as AsNegotiate, Challenge as AsChallenge, Authenticate as AsAuthenticate}
-use Rattle.head.specs.Head.{lengthHolds, fixedPartHolds, kindOf}
+use Rattle.head.specs.Head.{kindOf}
 use Rattle.negotiate.specs.declared.Negotiate.{Negotiate}
 use Rattle.negotiate.specs.declared.Reading.{Reading as NegotiateReading}
 use Rattle.negotiate.specs.declared.Reading.the-variants.{Taken as NegotiateTaken, Refused as NegotiateRefused}
 use Rattle.negotiate.specs.Negotiate.{readNegotiate}
-use Rattle.nl_auth_flags.specs.declared.NlAuthFlags.{NlAuthFlags}
-use Rattle.nl_auth_flags.specs.Flags.{nbDomain, nbComputer, dnsDomain, dnsHost, utf8Computer, stringsHold}
 use Rattle.nl_auth.specs.declared.NlAuth.{NlAuth}
 use Rattle.nl_auth.specs.declared.Reading.{Reading as NlReading}
 use Rattle.nl_auth.specs.declared.Reading.the-variants.{Taken as NlTaken, Refused as NlRefused}
-use Rattle.nl_auth.specs.declared.string.Scan.the-variants.{Found, Missing}
-use Rattle.nl_auth.specs.NlAuth.{beforeZero, holdsZero, stringAt, stringUnder, onFound, endHolds, readUtf8, readRequest, responseHolds, readResponse, messageType, isRequest, flagsAt, typeHolds, readNlAuth}
+use Rattle.nl_auth.specs.declared.string.NlString.{NlString}
+use Rattle.nl_auth.specs.NlAuth.{noString, readNlAuth}
 use Rattle.word.specs.Digits.{decimal}
 use Rattle.word.specs.Words.{numberWord}
 use Rattle.word.proofs.Names.{field-small}
@@ -56,12 +55,13 @@ use Rattle.wire.specs.declared.check.Verdict.the-variants.{Clear, Refused as No
 use Rattle.demands.proofs.TakenExactly.Challenge.{JudgedP, pairs-judged}
 use Rattle.demands.specs.Answers.{negotiate-line, authenticate-line, challenge-line, nl-auth-line, ntlm-line, ntlm-program-line, nl-auth-program-line, LineShort}
 use Rattle.demands.specs.Message.{Format, negotiate, authenticate, challenge}
-use Rattle.demands.specs.OwnBytes.{OwnField}
+use Rattle.demands.specs.NlAuth.{maskOf}
+use Rattle.demands.specs.OwnBytes.{OwnField, OwnString}
 use Rattle.demands.specs.TakenExactly.{IsTakenNegotiate, IsTakenNl}
 use Rattle.demands.proofs.OwnBytes.ChallengeOwn.{taken-as, challenge-own}
 use Rattle.demands.proofs.Answers.LineBounds.{auth-bound, nego-bound, chal-bound, nl-bound}
 use Rattle.demands.proofs.TakenExactly.Negotiate.{negotiate-taken, negotiate-own}
-use Rattle.demands.proofs.NlAuth.{nl-auth-taken}
+use Rattle.demands.proofs.NlAuth.{nl-auth-taken, nl-auth-own}
 use Rattle.demands.proofs.OwnBytes.{none-fails, authenticate-own}
 use Rattle.demands.proofs.Answers.SmallFields.{authenticate-small, negotiate-small, nl-auth-small, challenge-small, SmallC}
 use Rattle.demands.proofs.Answers.Told.{Small, number-small}
@@ -166,66 +166,30 @@ challenge-short s = go (readChallenge s .reading) refl (challenge-small s) where
   go (ChallengeTaken c) p w = chal-short s c p
   go (ChallengeRefused e) p w = refused-short e w
 
--- ---- NL_AUTH: the strings stand one after the other
+-- ---- NL_AUTH: strings A and B lie within the message
 
-total : NlAuth → ℕ
-total m = m .strings .«nb_domain» .len + m .strings .«nb_computer» .len + m .strings .«dns_domain» .len + m .strings .«dns_host» .len + m .strings .«utf8_computer» .len
-
-abbrev Inside : List ℕ → NlReading → Type 0
-Inside s (NlTaken m) = (total m ≤ length s) × (m .«message_type» ≤ 1)
-Inside s (NlRefused e) = Unit
-
--- a string ends before the place of the next one
-found-inside : (s : List ℕ) (b : Bool) (at : ℕ) (e : Refusal) (x : Field → ℕ → NlReading) →
-    ((f : Field) (next : ℕ) → at + f .len ≤ next → Inside s (x f next)) → Inside s (onFound (stringUnder b s at) (NlRefused e) x)
-unfolding stringUnder stringAt
-found-inside s true at e x h = go (holdsZero (drop at s)) where
-  go : (t : Bool) → Inside s (onFound (cond t (Found (record { offset = at; len = beforeZero (drop at s) }) (at + beforeZero (drop at s) + 1)) Missing) (NlRefused e) x)
-  go true = h (record { offset = at; len = beforeZero (drop at s) }) (at + beforeZero (drop at s) + 1) (omega arith)
-  go false = tt
-found-inside s false at e x h = h noField at (omega arith)
-
-utf8-inside : (w : NlAuthFlags) (s : List ℕ) (a b : Field) (at : ℕ) → a .len + b .len ≤ at → Inside s (readUtf8 w s a b at)
-unfolding readUtf8 total
-utf8-inside w s a b at l =
-    found-inside s (dnsDomain w) at (Unterminated 3) _ (λ c c′ lc.
-    found-inside s (dnsHost w) c′ (Unterminated 4) _ (λ d d′ ld.
-    found-inside s (utf8Computer w) d′ (Unterminated 5) _ (λ e e′ le.
-    last e′ (record { «message_type» = 0; flags = w; strings = record { «nb_domain» = a; «nb_computer» = b; «dns_domain» = c; «dns_host» = d; «utf8_computer» = e } }) (omega arith) (omega arith))))
-  where
-    last : (at : ℕ) (m : NlAuth) → total m ≤ at → m .«message_type» ≤ 1 → Inside s (after (endHolds at s) (NlRefused BytesLeft) (NlTaken m))
-    last at m l t = go (eqb at (length s)) refl where
-      go : (b : Bool) → eqb at (length s) ≡ b → Inside s (after (checked b) (NlRefused BytesLeft) (NlTaken m))
-      go true p = (omega (arith, eqb-true at (length s) p, l), t)
-      go false p = tt
-
-after-inside : (s : List ℕ) (c : Checked) (e : Refusal) (x : NlReading) → Inside s x → Inside s (after c (NlRefused e) x)
-after-inside s Held e x h = h
-after-inside s Failed e x h = tt
-
-nl-inside : (s : List ℕ) → Inside s (readNlAuth s)
-unfolding readNlAuth readRequest readResponse total
-nl-inside s =
-    after-inside s (lengthHolds s) TooLong _
-    (after-inside s (fixedPartHolds 8 s) TooShort _
-    (after-inside s (typeHolds (messageType s)) WrongType _
-    (go (isRequest (messageType s)))))
-  where
-    go : (t : Bool) → Inside s (cond t (readRequest (flagsAt s) s) (readResponse s))
-    go true =
-        after-inside s (stringsHold (flagsAt s)) NoStrings _
-        (found-inside s (nbDomain (flagsAt s)) 8 (Unterminated 1) _ (λ a a′ la.
-        found-inside s (nbComputer (flagsAt s)) a′ (Unterminated 2) _ (λ b b′ lb.
-        utf8-inside (flagsAt s) s a b b′ (omega arith))))
-    go false = after-inside s (responseHolds s) WrongResponse _ (omega arith, omega arith)
+own-short : (s : List ℕ) (i : ℕ) (x : NlString) → OwnString s i x → x .len ≤ length s
+own-short s i x o = go (eqb (u32At s 4 / maskOf i % 2) 1) refl where
+  go : (b : Bool) → eqb (u32At s 4 / maskOf i % 2) 1 ≡ b → x .len ≤ length s
+  go true e = let w = o .there (eqb-true _ 1 e) in omega (arith, w .5, w .3 .inside)
+  go false e = omega (arith, o .none (eqb-false _ 1 e) .1)
 
 nl-short : (s : List ℕ) (m : NlAuth) → readNlAuth s ≡ NlTaken m → length (nlLine s (NlTaken m)) < 0x100000
-unfolding total
 nl-short s m h =
     let n = not-long (length s) (λ l. nl-auth-taken s .0 (subst IsTakenNl (sym h) tt) 1 0 (refl, l)) in
-    let inside = subst (Inside s) h (nl-inside s) in
-    let word = number-bound (ascii "nl type=") (m .«message_type») (omega (arith, inside .1)) in
-    omega (arith, n, inside .0, word, nl-bound s m)
+    ⊎-elim
+    (λ w. by n (omega (arith, w .1 .message-type)) (own-short s 1 (m .strings .«nb_domain») (w .1 .a)) (own-short s 2 (m .strings .«nb_computer») (w .1 .b)))
+    (λ w. by n (omega (arith, w .1 .message-type)) (none (m .strings .«nb_domain») (w .1 .a)) (none (m .strings .«nb_computer») (w .1 .b)))
+    (nl-auth-own s m h)
+  where
+    none : (x : NlString) → x ≡ noString → x .len ≤ length s
+    none x e = omega (arith, ap (λ (y : NlString). y .len) e)
+
+    by : length s ≤ 65535 → m .«message_type» ≤ 1 → m .strings .«nb_domain» .len ≤ length s → m .strings .«nb_computer» .len ≤ length s →
+        length (nlLine s (NlTaken m)) < 0x100000
+    by n t a b =
+        let word = number-bound (ascii "nl type=") (m .«message_type») (omega (arith, t)) in
+        omega (arith, n, a, b, word, nl-bound s m)
 
 nl-auth-short : (s : List ℕ) → length (nlAuthLine s) < 0x100000
 unfolding nlAuthLine

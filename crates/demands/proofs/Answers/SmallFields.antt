@@ -105,8 +105,12 @@ nl-fails-field s n i w =
     in-row (eqb n 4) _ _ (i ≤ 5) (λ x. omega (arith, x .0)) (
     in-row (eqb n 14) _ _ (i ≤ 5) (λ x. omega (arith, x .0)) (
     in-row (eqb n 15) _ _ (i ≤ 5) (λ x. x .1) (
+    in-row (eqb n 50) _ _ (i ≤ 5) (λ x. x .1) (
+    in-row (eqb n 51) _ _ (i ≤ 5) (λ x. x .1) (
+    in-row (eqb n 52) _ _ (i ≤ 5) (λ x. x .1) (
+    in-row (eqb n 53) _ _ (i ≤ 5) (λ x. x .1) (
     in-row (eqb n 16) _ _ (i ≤ 5) (λ x. omega (arith, x .0)) (
-    in-row (eqb n 17) _ _ (i ≤ 5) (λ x. omega (arith, x .0)) (λ x. absurd x))))))) w
+    in-row (eqb n 17) _ _ (i ≤ 5) (λ x. omega (arith, x .0)) (λ x. absurd x))))))))))) w
 
 pub nl-auth-small : (s : List ℕ) (e : Refusal) → readNlAuth s ≡ NlRefused e → Small e
 nl-auth-small s e h =

@@ -3,12 +3,12 @@ use Prim.Native.Nat.{ℕ, _≤_, _<_}
 use mathlib.Core.Path.{refl}
 use native.Mathlib.Omega.{arith}
 use Rattle.wire.specs.declared.refusal.Refusal.{Refusal}
-use Rattle.wire.specs.declared.refusal.Refusal.the-variants.{TooLong, TooShort, WrongSignature, WrongType, NoCharset, PastEnd, InFixedPart, OddName, NameOverSecret, PairPastEnd, PairMissing, WrongEndPair, WrongPairSize, NoStrings, Unterminated, BytesLeft, WrongResponse, No128Bit, NoServerNames, TooLongToWrite, OddNameToWrite, WrongKey, NoRoom, ZeroInString}
+use Rattle.wire.specs.declared.refusal.Refusal.the-variants.{TooLong, TooShort, WrongSignature, WrongType, NoCharset, PastEnd, InFixedPart, OddName, NameOverSecret, PairPastEnd, PairMissing, WrongEndPair, WrongPairSize, NoStrings, Unterminated, BytesLeft, WrongResponse, No128Bit, NoServerNames, TooLongToWrite, OddNameToWrite, WrongKey, NoRoom, ZeroInString, WrongLabel, PlaceNotBefore, TooManyJumps, NameTooLong}
 use Rattle.wire.specs.Refusal.{numberOf, fieldOf}
 use Rattle.c_number.specs.Number.{refusalNumber}
 use Rattle.demands.specs.Answers.{TellsLength, TellsRefusal}
 
-pub number-small : (e : Refusal) → numberOf e ≤ 34
+pub number-small : (e : Refusal) → numberOf e ≤ 53
 number-small TooLong = omega arith
 number-small TooShort = omega arith
 number-small WrongSignature = omega arith
@@ -33,6 +33,10 @@ number-small (OddNameToWrite f) = omega arith
 number-small WrongKey = omega arith
 number-small NoRoom = omega arith
 number-small (ZeroInString f) = omega arith
+number-small (WrongLabel f) = omega arith
+number-small (PlaceNotBefore f) = omega arith
+number-small (TooManyJumps f) = omega arith
+number-small (NameTooLong f) = omega arith
 
 -- a field is at most 6
 abbrev pub Small : Refusal → Type 0

@@ -26,6 +26,7 @@ use Rattle.line_auth.specs.Auth.{authNames, authText}
 use Rattle.line.specs.Line.{negoLine, negotiateLine, authLine, authenticateLine, chalLine, challengeLine, lineAs, ntlmLine, nlLine, nlAuthLine}
 use Rattle.line_chal.specs.Chal.{chalWords, chalText}
 use Rattle.line_nl.specs.Nl.{nlOem, nlUtf8, nlText}
+use Rattle.nl_auth_text.specs.StringText.{oemText, utf8Text}
 use Rattle.demands.specs.Ignored.{SameFields, SameNegotiate, SameChallenge, SameNlAuth, AuthenticateLineIgnored, NegotiateLineIgnored, ChallengeLineIgnored, NtlmLineIgnored, NlAuthLineIgnored}
 use Rattle.demands.specs.Message.{Format, negotiate, authenticate, challenge, DifferInIgnored}
 use Rattle.demands.proofs.Alike.{same32}
@@ -50,8 +51,8 @@ authenticate-line-ignored s t d =
     auth-line-same s t (readAuthenticate s .reading) (w .bytes) ∙ ap (λ (x : Answer). authLine t (x .reading)) (w .answer)
 
 nl-line-same : (s t : List ℕ) (r : NlReading) → SameNlAuth s t → readNlAuth s ≡ r → nlLine s r ≡ nlLine t r
-unfolding nlText nlOem nlUtf8
-nl-line-same s t (NlTaken m) w e = simp (w .a m e, w .b m e, w .c m e, w .d m e, w .e m e)
+unfolding nlText nlOem nlUtf8 oemText utf8Text
+nl-line-same s t (NlTaken m) w e = simp (w .a m e .bytes, w .b m e .bytes, w .c m e .labels, w .d m e .labels, w .e m e .labels)
 nl-line-same s t (NlRefused d) w e = refl
 
 pub nl-auth-line-ignored : NlAuthLineIgnored

@@ -9,23 +9,27 @@ use lib.Dec.{eqb, leb}
 use lib.ListN.{length, take, drop, length-drop}
 use lib.Seq.{ext-getD, getD-drop}
 use borrow.Author.Tests.{eqb-true, eqb-false}
-use Rattle.field.specs.declared.Field.{Field}
 use Rattle.wire.specs.declared.refusal.Refusal.the-variants.{TooLong, TooShort, WrongType, Unterminated}
 use Rattle.wire.specs.Check.{checked, after}
-use Rattle.field.specs.Field.{noField}
 use Rattle.wire.specs.Number.{u32At}
-use Rattle.field.proofs.Fields.{own-bytes}
+use Rattle.nl_auth.proofs.Names.{own-bytes}
 use Rattle.nl_auth_flags.specs.declared.NlAuthFlags.{NlAuthFlags}
 use Rattle.nl_auth.specs.declared.NlAuth.{NlAuth}
 use Rattle.nl_auth.specs.declared.Reading.{Reading}
 use Rattle.nl_auth.specs.declared.Reading.the-variants.{Taken, Refused}
+use Rattle.nl_auth.specs.declared.string.NlString.{NlString}
+use Rattle.nl_auth.specs.declared.name.NameScan.the-variants.{Found as Named, Refused as Not}
+use Rattle.dns_name.specs.declared.Reading.{Reading as NameReading}
+use Rattle.dns_name.specs.declared.Reading.the-variants.{Taken as Read, Refused as Faulty}
+use Rattle.dns_name.specs.DnsName.{readName}
 use Rattle.nl_auth.specs.declared.string.Scan.{Scan}
 use Rattle.nl_auth.specs.declared.string.Scan.the-variants.{Found, Missing}
 use Rattle.nl_auth_flags.specs.Flags.{nbDomain, nbComputer, dnsDomain, dnsHost, utf8Computer}
-use Rattle.nl_auth.specs.NlAuth.{beforeZero, holdsZero, stringAt, stringUnder, onFound, flagsAt, readUtf8, readRequest, readResponse, readNlAuth}
-use Rattle.demands.specs.Ignored.{SameBytes, NlDifferInIgnored, NlAuthIgnored}
-use Rattle.demands.specs.NlAuth.{typeOf, masks, maskOf, Strings}
-use Rattle.demands.specs.OwnBytes.{OwnString, OwnRequest, OwnResponse}
+use Rattle.nl_auth.specs.NlAuth.{noString, labelsOf, beforeZero, holdsZero, stringAt, stringUnder, onFound, refusalIn, nameString, onName, nameAt, nameUnder, onNamed, flagsAt, readUtf8, readRequest, readResponse, readNlAuth}
+use Rattle.demands.specs.Ignored.{SameString, NlDifferInIgnored, NlAuthIgnored}
+use Rattle.demands.specs.NlAuth.{typeOf, numbered, maskOf, StandsAt, plain, name, Strings}
+use Rattle.demands.specs.OwnBytes.{OwnString, OwnName, OwnRequest, OwnResponse}
+use Rattle.demands.proofs.DnsName.{name-ends}
 use Rattle.demands.proofs.Alike.{same-part, same32}
 use Rattle.demands.proofs.NlAuth.{nl-auth-own}
 
@@ -39,32 +43,48 @@ module _ (s t : List ℕ) (d : NlDifferInIgnored s t) where
   type-same = same32 s t 0 (λ p l r. d .bytes-same p (inl (omega arith)))
 
   -- a string from the buffer on
-  string-same : (b : Bool) (at : ℕ) (e : Reading) (x y : Field → ℕ → Reading) → 8 ≤ at →
-      ((f : Field) (next : ℕ) → 8 ≤ next → x f next ≡ y f next) →
+  string-same : (b : Bool) (at : ℕ) (e : Reading) (x y : NlString → ℕ → Reading) → 8 ≤ at →
+      ((f : NlString) (next : ℕ) → 8 ≤ next → x f next ≡ y f next) →
       onFound (stringUnder b s at) e x ≡ onFound (stringUnder b t at) e y
   unfolding stringUnder stringAt
   string-same b at e x y l h = rw (buffer-same at l) (go b) where
     here : Scan
-    here = cond (holdsZero (drop at t)) (Found (record { offset = at; len = beforeZero (drop at t) }) (at + beforeZero (drop at t) + 1)) Missing
+    here = cond (holdsZero (drop at t)) (Found (record { offset = at; len = beforeZero (drop at t); jumps = 0 }) (at + beforeZero (drop at t) + 1)) Missing
 
     found : (z : Bool) →
-        onFound (cond z (Found (record { offset = at; len = beforeZero (drop at t) }) (at + beforeZero (drop at t) + 1)) Missing) e x
-        ≡ onFound (cond z (Found (record { offset = at; len = beforeZero (drop at t) }) (at + beforeZero (drop at t) + 1)) Missing) e y
-    found true = h (record { offset = at; len = beforeZero (drop at t) }) (at + beforeZero (drop at t) + 1) (omega arith)
+        onFound (cond z (Found (record { offset = at; len = beforeZero (drop at t); jumps = 0 }) (at + beforeZero (drop at t) + 1)) Missing) e x
+        ≡ onFound (cond z (Found (record { offset = at; len = beforeZero (drop at t); jumps = 0 }) (at + beforeZero (drop at t) + 1)) Missing) e y
+    found true = h (record { offset = at; len = beforeZero (drop at t); jumps = 0 }) (at + beforeZero (drop at t) + 1) (omega arith)
     found false = refl
 
     go : (c : Bool) →
-        onFound (cond c (cond (holdsZero (drop at t)) (Found (record { offset = at; len = beforeZero (drop at t) }) (at + beforeZero (drop at t) + 1)) Missing) (Found noField at)) e x
-        ≡ onFound (cond c (cond (holdsZero (drop at t)) (Found (record { offset = at; len = beforeZero (drop at t) }) (at + beforeZero (drop at t) + 1)) Missing) (Found noField at)) e y
+        onFound (cond c (cond (holdsZero (drop at t)) (Found (record { offset = at; len = beforeZero (drop at t); jumps = 0 }) (at + beforeZero (drop at t) + 1)) Missing) (Found noString at)) e x
+        ≡ onFound (cond c (cond (holdsZero (drop at t)) (Found (record { offset = at; len = beforeZero (drop at t); jumps = 0 }) (at + beforeZero (drop at t) + 1)) Missing) (Found noString at)) e y
     go true = found (holdsZero (drop at t))
-    go false = h noField at l
+    go false = h noString at l
 
-  utf8-same : (w : NlAuthFlags) (a b : Field) (at : ℕ) → 8 ≤ at → readUtf8 w s a b at ≡ readUtf8 w t a b at
+  name-same : (b : Bool) (at i : ℕ) (x y : NlString → ℕ → Reading) → 8 ≤ at →
+      ((f : NlString) (next : ℕ) → 8 ≤ next → x f next ≡ y f next) → onNamed (nameUnder b s at i) x ≡ onNamed (nameUnder b t at i) y
+  unfolding nameUnder nameAt
+  name-same b at i x y l h = rw (buffer-same 8 (omega arith)) (go b) where
+    found : (r : NameReading) →
+        onNamed (onName r (λ m. Named (nameString at m) (8 + m .next)) (λ e. Not (refusalIn e i))) x
+        ≡ onNamed (onName r (λ m. Named (nameString at m) (8 + m .next)) (λ e. Not (refusalIn e i))) y
+    found (Read m) = h (nameString at m) (8 + m .next) (omega arith)
+    found (Faulty e) = refl
+
+    go : (c : Bool) →
+        onNamed (cond c (onName (readName (drop 8 t) (at - 8)) (λ m. Named (nameString at m) (8 + m .next)) (λ e. Not (refusalIn e i))) (Named noString at)) x
+        ≡ onNamed (cond c (onName (readName (drop 8 t) (at - 8)) (λ m. Named (nameString at m) (8 + m .next)) (λ e. Not (refusalIn e i))) (Named noString at)) y
+    go true = found (readName (drop 8 t) (at - 8))
+    go false = h noString at l
+
+  utf8-same : (w : NlAuthFlags) (a b : NlString) (at : ℕ) → 8 ≤ at → readUtf8 w s a b at ≡ readUtf8 w t a b at
   unfolding readUtf8
   utf8-same w a b at l =
-      string-same (dnsDomain w) at (Refused (Unterminated 3)) _ _ l (λ c c′ m.
-      string-same (dnsHost w) c′ (Refused (Unterminated 4)) _ _ m (λ e e′ n.
-      string-same (utf8Computer w) e′ (Refused (Unterminated 5)) _ _ n (λ f f′ o. simp (d .length-same))))
+      name-same (dnsDomain w) at 3 _ _ l (λ c c′ m.
+      name-same (dnsHost w) c′ 4 _ _ m (λ e e′ n.
+      name-same (utf8Computer w) e′ 5 _ _ n (λ f f′ o. simp (d .length-same))))
 
   request-same : (w : NlAuthFlags) → readRequest w s ≡ readRequest w t
   unfolding readRequest
@@ -95,34 +115,56 @@ module _ (s t : List ℕ) (d : NlDifferInIgnored s t) where
         go : (k : ℕ) → k ≡ 1 → frame (length t) k (readRequest (flagsAt s) t) (readResponse t) ≡ frame (length t) k (readRequest (flagsAt t) t) (readResponse t)
         go k q = rw q
 
-  -- a string's bytes
-  later : (ms : List ℕ) (p r : ℕ) → Strings s ms p r → p ≤ r
+  -- a string's bytes and labels
+  labels-same : (f : NlString) → labelsOf s f ≡ labelsOf t f
+  labels-same f = simp (buffer-same 8 (omega arith))
+
+  stand-later : (i p q : ℕ) → StandsAt s i p q → p ≤ q
+  stand-later i p q (plain l z e) = omega (arith, z .from)
+  stand-later i p q (name {n = x} l w e) = omega (arith, name-ends (drop 8 s) (p - 8) _ _ x w .0)
+
+  later : (is : List ℕ) (p r : ℕ) → Strings s is p r → p ≤ r
   later [] p r a = omega (arith, a)
-  later (m ∷ ms) p r (inl a) = omega (arith, a .1 .1 .from, later ms (a .1 .0 + 1) r (a .1 .2))
-  later (m ∷ ms) p r (inr a) = later ms p r (a .1)
+  later (i ∷ is) p r (inl a) = omega (arith, stand-later i p (a .1 .0) (a .1 .1), later is (a .1 .0) r (a .1 .2))
+  later (i ∷ is) p r (inr a) = later is p r (a .1)
 
-  part-same : (f : Field) → 8 ≤ f .offset → f .offset + f .len ≤ length s → SameBytes s t f
+  part-same : (f : NlString) → 8 ≤ f .offset → f .offset + f .len ≤ length s → SameString s t f
   part-same f l r =
-      own-bytes s f r
-      ∙ same-part s t (d .length-same) (f .offset) (f .len) (λ p a b. d .bytes-same p (inr (omega arith)))
-      ∙ sym (own-bytes t f (omega (arith, d .length-same)))
+      record {
+        bytes = own-bytes s f r
+            ∙ same-part s t (d .length-same) (f .offset) (f .len) (λ p a b. d .bytes-same p (inr (omega arith)))
+            ∙ sym (own-bytes t f (omega (arith, d .length-same)));
+        labels = labels-same f;
+      }
 
-  none-same : (f : Field) → f .offset ≡ 0 → f .len ≡ 0 → SameBytes s t f
+  none-same : (f : NlString) → f .offset ≡ 0 → f .len ≡ 0 → SameString s t f
   none-same f o n =
-      own-bytes s f (omega arith) ∙ (nothing s) ∙ sym (own-bytes t f (omega arith) ∙ (nothing t))
+      record {
+        bytes = own-bytes s f (omega arith) ∙ (nothing s) ∙ sym (own-bytes t f (omega arith) ∙ (nothing t));
+        labels = labels-same f;
+      }
     where
       nothing : (x : List ℕ) → take (f .len) (drop (f .offset) x) ≡ []
       nothing x = simp (o, n)
 
-  pub none : (f : Field) → f ≡ noField → SameBytes s t f
-  none f e = none-same f (ap (λ (g : Field). g .offset) e) (ap (λ (g : Field). g .len) e)
+  pub none : (f : NlString) → f ≡ noString → SameString s t f
+  none f e = none-same f (ap (λ (g : NlString). g .offset) e) (ap (λ (g : NlString). g .len) e)
 
-  own-same : (i : ℕ) (f : Field) → OwnString s i f → SameBytes s t f
+  own-same : (i : ℕ) (f : NlString) → OwnString s i f → SameString s t f
   own-same i f o = go (eqb (u32At s 4 / maskOf i % 2) 1) refl where
-    go : (b : Bool) → eqb (u32At s 4 / maskOf i % 2) 1 ≡ b → SameBytes s t f
+    go : (b : Bool) → eqb (u32At s 4 / maskOf i % 2) 1 ≡ b → SameString s t f
     go true e =
         let w = o .there (eqb-true _ 1 e) in
-        part-same f (omega (arith, later (take (i - 1) masks) 8 (w .0) (w .2), w .4)) (omega (arith, w .4, w .5, w .3 .from, w .3 .inside))
+        part-same f (omega (arith, later (take (i - 1) numbered) 8 (w .0) (w .2), w .4)) (omega (arith, w .4, w .5, w .3 .from, w .3 .inside))
+    go false e = let w = o .none (eqb-false _ 1 e) in none-same f (w .0) (w .1)
+
+  name-own-same : (i : ℕ) (f : NlString) → OwnName s i f → SameString s t f
+  name-own-same i f o = go (eqb (u32At s 4 / maskOf i % 2) 1) refl where
+    go : (b : Bool) → eqb (u32At s 4 / maskOf i % 2) 1 ≡ b → SameString s t f
+    go true e =
+        let w = o .there (eqb-true _ 1 e) in
+        let ends = name-ends (drop 8 s) (f .offset - 8) _ _ (w .next) (w .name) in
+        part-same f (later (take (i - 1) numbered) 8 (f .offset) (w .starts)) (omega (arith, w .whole, ends .0, ends .1, length-drop 8 s))
     go false e = let w = o .none (eqb-false _ 1 e) in none-same f (w .0) (w .1)
 
 pub nl-auth-ignored : NlAuthIgnored
@@ -131,10 +173,10 @@ nl-auth-ignored s t d =
       answer = answer-same s t d;
       a = λ m h. each (m .strings .«nb_domain») m h (λ r. own-same s t d 1 (m .strings .«nb_domain») (r .a)) (λ r. none s t d (m .strings .«nb_domain») (r .a));
       b = λ m h. each (m .strings .«nb_computer») m h (λ r. own-same s t d 2 (m .strings .«nb_computer») (r .b)) (λ r. none s t d (m .strings .«nb_computer») (r .b));
-      c = λ m h. each (m .strings .«dns_domain») m h (λ r. own-same s t d 3 (m .strings .«dns_domain») (r .c)) (λ r. none s t d (m .strings .«dns_domain») (r .c));
-      d = λ m h. each (m .strings .«dns_host») m h (λ r. own-same s t d 4 (m .strings .«dns_host») (r .d)) (λ r. none s t d (m .strings .«dns_host») (r .d));
-      e = λ m h. each (m .strings .«utf8_computer») m h (λ r. own-same s t d 5 (m .strings .«utf8_computer») (r .e)) (λ r. none s t d (m .strings .«utf8_computer») (r .e));
+      c = λ m h. each (m .strings .«dns_domain») m h (λ r. name-own-same s t d 3 (m .strings .«dns_domain») (r .c)) (λ r. none s t d (m .strings .«dns_domain») (r .c));
+      d = λ m h. each (m .strings .«dns_host») m h (λ r. name-own-same s t d 4 (m .strings .«dns_host») (r .d)) (λ r. none s t d (m .strings .«dns_host») (r .d));
+      e = λ m h. each (m .strings .«utf8_computer») m h (λ r. name-own-same s t d 5 (m .strings .«utf8_computer») (r .e)) (λ r. none s t d (m .strings .«utf8_computer») (r .e));
     }
   where
-    each : (f : Field) (m : NlAuth) → readNlAuth s ≡ Taken m → (OwnRequest s m → SameBytes s t f) → (OwnResponse s m → SameBytes s t f) → SameBytes s t f
+    each : (f : NlString) (m : NlAuth) → readNlAuth s ≡ Taken m → (OwnRequest s m → SameString s t f) → (OwnResponse s m → SameString s t f) → SameString s t f
     each f m h x y = ⊎-elim (λ w. x (w .1)) (λ w. y (w .1)) (nl-auth-own s m h)

@@ -83,7 +83,7 @@ counted (read-server-names s) = go (serverNamesOf s) where
   go (NamesTaken n) = refl
   go (NamesRefused e) = tt
 counted (read-nl-auth s) = go (readNlAuth s) where
-  go : (r : NlReading) → Counted 12 (nlAuthOutcome r)
+  go : (r : NlReading) → Counted 15 (nlAuthOutcome r)
   go (NlTaken m) = refl
   go (NlRefused e) = tt
 counted (count-pairs s) = go (countPairs s) where

@@ -18,7 +18,7 @@ use Rattle.wire.specs.Refusal.{numberOf, fieldOf}
 use Rattle.demands.specs.Order.{BeforeBy, FirstBy, placeIn}
 use Rattle.demands.proofs.Bools.{chained}
 
-either-way : (a c : ℕ) → (a < c) ⊎ ((a ≡ c) ⊎ (c < a))
+pub either-way : (a c : ℕ) → (a < c) ⊎ ((a ≡ c) ⊎ (c < a))
 either-way a c = go (ltb a c) (ltb c a) refl refl where
   go : (s t : Bool) → ltb a c ≡ s → ltb c a ≡ t → (a < c) ⊎ ((a ≡ c) ⊎ (c < a))
   go true t p q = inl (ltb-true a c p)

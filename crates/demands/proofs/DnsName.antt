@@ -1,0 +1,56 @@
+-- Names by RFC 1035, taken and refused exactly; and so there is one reading of a name only.
+use Prim.Native.Nat.{ℕ, _≤_, _<_}
+use mathlib.Core.Path.{_≡_, refl, sym, ap, _∙_, subst}
+use mathlib.Core.List.{List}
+use lib.ListN.{length}
+use Rattle.dns_name.specs.declared.Fault.{Fault}
+use Rattle.dns_name.specs.declared.Reading.{Reading}
+use Rattle.dns_name.specs.declared.Reading.the-variants.{Taken, Refused}
+use Rattle.dns_name.specs.DnsName.{readName, numberOf}
+use Rattle.dns_name.specs.Rfc1035.{NameAt, FirstFault}
+use Rattle.dns_name.proofs.Exact.{taken, is-taken, refused, is-refused, next-inside, next-after}
+use Rattle.demands.specs.DnsName.{NameRefusedWith, NameIsTaken, NameIsRefused}
+
+pub name-taken : NameIsTaken
+name-taken s start ls jumps next = (
+  λ h. subst (λ (l : List (List ℕ)). NameAt s start l jumps next) (h .1) (taken s start (record { jumps = jumps; next = next }) (h .0)),
+  λ w. is-taken s start ls jumps next w,
+)
+
+numbered : (r : Reading) (e : Fault) (n : ℕ) → r ≡ Refused e → numberOf e ≡ n → NameRefusedWith r n
+numbered r e n h q = subst (λ (x : Reading). NameRefusedWith x n) (sym h) q
+
+pub name-refused : NameIsRefused
+name-refused s start n = (
+  λ h. go (readName s start) refl h,
+  λ f. let x = is-refused s start n f in numbered (readName s start) (x .0) n (x .1) (x .2),
+)
+  where
+    go : (r : Reading) → readName s start ≡ r → NameRefusedWith r n → FirstFault s start n
+    go (Taken m) e h = absurd h
+    go (Refused f) e h = subst (λ (x : ℕ). FirstFault s start x) h (refused s start f e)
+
+nextOf : Reading → ℕ
+nextOf (Taken m) = m .next
+nextOf (Refused e) = 0
+
+module _ (s : List ℕ) (start : ℕ) where
+  pub one-name : (ls ms : List (List ℕ)) (i j m n : ℕ) → NameAt s start ls i m → NameAt s start ms j n → m ≡ n
+  one-name ls ms i j m n a b = ap nextOf (sym (is-taken s start ls i m a .0) ∙ is-taken s start ms j n b .0)
+
+  pub name-or-fault : (ls : List (List ℕ)) (j m n : ℕ) → NameAt s start ls j m → FirstFault s start n → ⊥
+  name-or-fault ls j m n a f =
+      subst (λ (x : Reading). NameRefusedWith x n) (is-taken s start ls j m a .0) (name-refused s start n .1 f)
+
+  pub one-name-fault : (m n : ℕ) → FirstFault s start m → FirstFault s start n → m ≡ n
+  one-name-fault m n a b = go (readName s start) (name-refused s start m .1 a) (name-refused s start n .1 b) where
+    go : (r : Reading) → NameRefusedWith r m → NameRefusedWith r n → m ≡ n
+    go (Taken x) p q = absurd p
+    go (Refused e) p q = sym p ∙ q
+
+  pub name-ends : (ls : List (List ℕ)) (j m : ℕ) → NameAt s start ls j m → (start < m) × (m ≤ length s)
+  name-ends ls j m a =
+      let e = is-taken s start ls j m a .0 in (
+        next-after s start (readName s start) (record { jumps = j; next = m }) refl e,
+        next-inside s start (readName s start) (record { jumps = j; next = m }) refl e,
+      )

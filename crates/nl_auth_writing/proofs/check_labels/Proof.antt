@@ -1,0 +1,16 @@
+-- `check_labels` is check 50, C first.
+use borrow.Author.Needs.{needs}
+use Rattle.wire.proofs.Laws.{chain}
+use Rattle.nl_auth_writing.specs.Writing.{checkLabels}
+use Rattle.nl_auth_writing.proofs.check_labels.Statement.{statement}
+use Rattle.nl_auth_writing.proofs.check_labels.Tie as tie
+
+pub check-labels-spec : {M : Type 1} → statement M
+unfolding checkLabels
+check-labels-spec =
+    tie.close
+    (tie.spec
+    (λ c κs. search needs) (λ c. search needs) (λ c. search needs) (λ c. search chain depth 8 fits 20000)
+    (λ c κs. search needs) (λ c. search needs) (λ c. search needs) (λ c. search chain depth 8 fits 20000)
+    (λ c κs. search needs) (λ c. search needs) (λ c. search needs) (λ c. search chain depth 8 fits 20000)
+    (λ c. search chain depth 8 fits 20000))
