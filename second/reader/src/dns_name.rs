@@ -13,11 +13,15 @@ const LONGEST_LABEL: usize = 63;
 /// "At most 16 jumps are followed in each string."
 const MOST_JUMPS: usize = 16;
 
-/// A name that every check holds for, in the buffer that it was read from.
-#[derive(Clone, Copy, Debug, PartialEq, Eq)]
+/// The name that starts at a place of a buffer.
+#[derive(Clone, Copy)]
 pub(crate) struct DnsName<'a> {
-    buffer: &'a [u8],
-    start: usize,
+    pub(crate) buffer: &'a [u8],
+    pub(crate) start: usize,
+}
+
+/// What reading a name gives.
+pub(crate) struct Ended {
     /// "The number of jumps taken is part of the answer."
     pub(crate) jumps: usize,
     /// "The next string starts after that zero byte or after the first jump."
@@ -25,24 +29,21 @@ pub(crate) struct DnsName<'a> {
 }
 
 impl<'a> DnsName<'a> {
-    /// Reads the name that starts at a place of the buffer. Refuses by 15, 50,
-    /// 51, 52 or 53, "judged at a label's length byte or a jump's first byte and
-    /// there by number".
-    pub(crate) fn read(buffer: &'a [u8], start: usize) -> Result<Self, Reason> {
-        let mut walk = Walk::new(buffer, start);
+    /// Reads the name to its end. Refuses by 15, 50, 51, 52 or 53, "judged at a
+    /// label's length byte or a jump's first byte and there by number".
+    pub(crate) fn read(self) -> Result<Ended, Reason> {
+        let mut walk = Walk::new(self);
         while walk.ask()?.is_some() {}
-        Ok(Self {
-            buffer,
-            start,
+        Ok(Ended {
             jumps: walk.jumps,
             next: walk.next.unwrap_or(walk.at.saturating_add(1)),
         })
     }
 
-    /// The labels in order, over all jumps.
+    /// The labels of a name that was read, in order and over all jumps.
     pub(crate) fn labels(self) -> impl Iterator<Item = &'a [u8]> {
-        let mut walk = Walk::new(self.buffer, self.start);
-        // No fault is left to find: the name was read to its end.
+        let mut walk = Walk::new(self);
+        // No fault is left to find.
         std::iter::from_fn(move || walk.ask().ok().flatten())
     }
 }
@@ -63,11 +64,11 @@ struct Walk<'a> {
 }
 
 impl<'a> Walk<'a> {
-    const fn new(buffer: &'a [u8], start: usize) -> Self {
+    const fn new(name: DnsName<'a>) -> Self {
         Self {
-            buffer,
-            at: start,
-            run: start,
+            buffer: name.buffer,
+            at: name.start,
+            run: name.start,
             jumps: 0,
             coded: 1,
             next: None,

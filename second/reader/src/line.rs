@@ -2,7 +2,7 @@
 
 use crate::authenticate::Authenticate;
 use crate::challenge::Challenge;
-use crate::flags::{CharacterSet, NlAuthFlags};
+use crate::flags::CharacterSet;
 use crate::negotiate::Negotiate;
 use crate::nl_auth::NlAuth;
 use crate::output::{Count, Cursor, Sink};
@@ -163,22 +163,19 @@ impl Line for Negotiate<'_> {
 /// NL_AUTH bits".
 impl Line for NlAuth<'_> {
     fn length_limit(&self) -> usize {
-        let limits = self.strings.iter().map(Line::length_limit);
+        let limits = self.texts().map(|(_, text)| text.length_limit());
         limits.fold(WORDS_LIMIT, usize::saturating_add)
     }
 
     fn put<S: Sink>(&self, sink: &mut S) {
-        const WORDS: [&[u8; 3]; 5] = [b" a=", b" b=", b" c=", b" d=", b" e="];
         sink.put(b"nl type=");
         put_decimal(sink, self.message_type as usize);
         sink.put(b" flags=");
         put_hex(sink, self.flags.bits().to_be_bytes());
-        let words = WORDS.iter().zip(NlAuthFlags::STRINGS);
-        for ((word, (bit, _)), string) in words.zip(&self.strings) {
-            if self.flags.has(bit) {
-                sink.put(*word);
-                string.put(sink);
-            }
+        for (number, text) in self.texts() {
+            // a to e
+            sink.put(&[b' ', number.saturating_add(b'a' - 1), b'=']);
+            text.put(sink);
         }
         sink.put(b"\n");
     }

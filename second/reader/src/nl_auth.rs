@@ -1,6 +1,6 @@
 //! Reading NL_AUTH.
 
-use crate::dns_name::DnsName;
+use crate::dns_name::{DnsName, Ended};
 use crate::flags::NlAuthFlags;
 use crate::refusal::{Reason, Refusal};
 use crate::wire::{check_length, number_at};
@@ -26,8 +26,6 @@ pub struct NlAuthString<'a> {
     pub bytes: &'a [u8],
     /// How many jumps its name takes: none in A and B.
     pub jumps: usize,
-    /// The name of C, D and E.
-    pub(crate) name: Option<DnsName<'a>>,
 }
 
 impl<'a> NlAuthString<'a> {
@@ -43,21 +41,20 @@ impl<'a> NlAuthString<'a> {
         let string = Self {
             place: NlAuth::FIXED.saturating_add(start),
             bytes,
-            ..Self::default()
+            jumps: 0,
         };
         Ok((string, next))
     }
 
     /// C, D or E. "A string's own bytes run to where the next starts."
     fn dns(buffer: &'a [u8], start: usize) -> Result<(Self, usize), Reason> {
-        let name = DnsName::read(buffer, start)?;
+        let Ended { jumps, next } = DnsName { buffer, start }.read()?;
         let string = Self {
             place: NlAuth::FIXED.saturating_add(start),
-            bytes: buffer.get(start..name.next).unwrap_or_default(),
-            jumps: name.jumps,
-            name: Some(name),
+            bytes: buffer.get(start..next).unwrap_or_default(),
+            jumps,
         };
-        Ok((string, name.next))
+        Ok((string, next))
     }
 }
 
@@ -70,6 +67,16 @@ pub struct NlAuth<'a> {
     pub flags: NlAuthFlags,
     /// The strings of bits A to E.
     pub strings: [NlAuthString<'a>; 5],
+    /// What the names jump in.
+    buffer: &'a [u8],
+}
+
+/// What a string is.
+pub(crate) enum Text<'a> {
+    /// A or B.
+    Plain(&'a [u8]),
+    /// C, D or E.
+    Name(DnsName<'a>),
 }
 
 impl<'a> NlAuth<'a> {
@@ -119,11 +126,29 @@ impl<'a> NlAuth<'a> {
             message_type: NlAuthType::Request,
             flags,
             strings,
+            buffer,
+        })
+    }
+
+    /// The strings that are there, each with its number.
+    pub(crate) fn texts(&self) -> impl Iterator<Item = (u8, Text<'a>)> + '_ {
+        let strings = NlAuthFlags::STRINGS.into_iter().zip(&self.strings);
+        let there = strings.filter(|((bit, _), _)| self.flags.has(*bit));
+        there.map(|((bit, number), string)| {
+            let text = if bit & NlAuthFlags::DNS_NAMES == 0 {
+                Text::Plain(string.bytes)
+            } else {
+                Text::Name(DnsName {
+                    buffer: self.buffer,
+                    start: string.place.saturating_sub(Self::FIXED),
+                })
+            };
+            (number, text)
         })
     }
 
     /// "A response's flags are ignored and its buffer is one zero byte."
-    fn read_response(buffer: &[u8]) -> Result<Self, Refusal> {
+    fn read_response(buffer: &'a [u8]) -> Result<Self, Refusal> {
         if buffer != [0] {
             return Err(Reason::ResponseBuffer.of_message());
         }
@@ -131,6 +156,7 @@ impl<'a> NlAuth<'a> {
             message_type: NlAuthType::Response,
             flags: NlAuthFlags::default(),
             strings: [NlAuthString::default(); 5],
+            buffer,
         })
     }
 }

@@ -3,7 +3,7 @@
 use crate::dns_name::DnsName;
 use crate::flags::CharacterSet;
 use crate::line::{is_plain, put_bytes, put_name, write_line, Line};
-use crate::nl_auth::{NlAuth, NlAuthString};
+use crate::nl_auth::{NlAuth, Text};
 use crate::output::Sink;
 use crate::refusal::Refusal;
 
@@ -12,12 +12,11 @@ use crate::refusal::Refusal;
 /// string's number, "A = 1"; one that isn't there, and any other number, has an
 /// empty text. Refuses by the reading, then 33, with `out` unchanged.
 pub fn nl_auth_name(message: &[u8], which: u32, out: &mut [u8]) -> Result<usize, Refusal> {
-    let strings = NlAuth::read(message)?.strings;
-    let string = strings.iter().zip(1..).find(|&(_, number)| number == which);
-    write_line(
-        string.map_or(&NlAuthString::default(), |(string, _)| string),
-        out,
-    )
+    let message = NlAuth::read(message)?;
+    let wanted = message
+        .texts()
+        .find(|(number, _)| u32::from(*number) == which);
+    write_line(&wanted.map_or(Text::Plain(&[]), |(_, text)| text), out)
 }
 
 /// More than the text of a DNS name has: its coded length is at most 255, and an
@@ -25,18 +24,18 @@ pub fn nl_auth_name(message: &[u8], which: u32, out: &mut [u8]) -> Result<usize,
 const DNS_NAME_LIMIT: usize = 4 * 255;
 
 /// The text of a string, which is a part of a line and has no 0A.
-impl Line for NlAuthString<'_> {
+impl Line for Text<'_> {
     fn length_limit(&self) -> usize {
-        match self.name {
-            None => self.bytes.len().saturating_mul(4),
-            Some(_) => DNS_NAME_LIMIT,
+        match self {
+            Self::Plain(bytes) => bytes.len().saturating_mul(4),
+            Self::Name(_) => DNS_NAME_LIMIT,
         }
     }
 
     fn put<S: Sink>(&self, sink: &mut S) {
-        match self.name {
-            None => put_name(sink, CharacterSet::Oem, self.bytes),
-            Some(name) => put_dns_name(sink, name),
+        match self {
+            Self::Plain(bytes) => put_name(sink, CharacterSet::Oem, bytes),
+            Self::Name(name) => put_dns_name(sink, *name),
         }
     }
 }
