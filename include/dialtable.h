@@ -103,7 +103,7 @@ enum {
     DIALTABLE_REFUSED_NO_ROOM = 33,           /* an output is too short */
     DIALTABLE_REFUSED_ZERO_IN_STRING = 34,    /* the NL_AUTH string to write holds a zero byte */
     DIALTABLE_REFUSED_WRONG_LABEL = 50,       /* a length byte of other top bits; to write: a label empty or over 63 */
-    DIALTABLE_REFUSED_JUMP_NOT_BACK = 51,     /* a jump to a place that is not before its run of labels */
+    DIALTABLE_REFUSED_PLACE_NOT_BEFORE = 51,  /* a jump to a place that is not before its run of labels */
     DIALTABLE_REFUSED_TOO_MANY_JUMPS = 52,    /* a seventeenth jump in one name */
     DIALTABLE_REFUSED_NAME_TOO_LONG = 53      /* a name, read or to write, whose coded length is over 255 */
 };
