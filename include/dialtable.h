@@ -99,7 +99,7 @@ enum {
     DIALTABLE_REFUSED_WRONG_END_PAIR = 12,    /* end pair with nonzero length, or bytes after it (field 2, place) */
     DIALTABLE_REFUSED_WRONG_PAIR_SIZE = 13,   /* a pair of a size that its id forbids (field 2, place) */
     DIALTABLE_REFUSED_NO_STRINGS = 14,        /* NL_AUTH request with no bit A to E */
-    DIALTABLE_REFUSED_UNTERMINATED = 15,      /* the string has no zero byte */
+    DIALTABLE_REFUSED_UNTERMINATED = 15,      /* no zero byte; in C, D and E a length byte, label or jump cut short */
     DIALTABLE_REFUSED_BYTES_LEFT = 16,        /* bytes after the last string */
     DIALTABLE_REFUSED_WRONG_RESPONSE = 17,    /* a response's buffer isn't one zero byte */
     DIALTABLE_REFUSED_NO_128_BIT = 20,        /* 128-bit demanded, not in the flags */
@@ -108,7 +108,11 @@ enum {
     DIALTABLE_REFUSED_ODD_NAME_TO_WRITE = 31, /* a name of odd length, with UNICODE; a pair's always (field 2) */
     DIALTABLE_REFUSED_WRONG_KEY = 32,         /* a key neither empty nor 16 bytes, or without KEY_EXCH (field 6) */
     DIALTABLE_REFUSED_NO_ROOM = 33,           /* an output is too short */
-    DIALTABLE_REFUSED_ZERO_IN_STRING = 34     /* the NL_AUTH string to write holds a zero byte */
+    DIALTABLE_REFUSED_ZERO_IN_STRING = 34,    /* the NL_AUTH string to write holds a zero byte */
+    DIALTABLE_REFUSED_WRONG_LABEL = 50,       /* a length byte of other top bits; to write: a label empty or over 63 */
+    DIALTABLE_REFUSED_PLACE_NOT_BEFORE = 51,  /* a jump to a place that is not before its run of labels */
+    DIALTABLE_REFUSED_TOO_MANY_JUMPS = 52,    /* a seventeenth jump in one name */
+    DIALTABLE_REFUSED_NAME_TOO_LONG = 53      /* a name, read or to write, whose coded length is over 255 */
 };
 
 /* Flags of MS-NLMP 2.2.2.5: those that the library goes by. The others are read and written as they are. UNICODE wins
@@ -208,11 +212,26 @@ enum {
     DIALTABLE_NL_AUTH_D_LEN,
     DIALTABLE_NL_AUTH_E_OFFSET,
     DIALTABLE_NL_AUTH_E_LEN,
+    DIALTABLE_NL_AUTH_C_JUMPS, /* 0 to 16 */
+    DIALTABLE_NL_AUTH_D_JUMPS,
+    DIALTABLE_NL_AUTH_E_JUMPS,
     DIALTABLE_NL_AUTH_NUMBERS
 };
-/* Answers 0. */
+/* A and B are bytes up to a zero byte, which is none of them. C, D and E are names of RFC 1035, section 4.1.4: labels,
+ * each after its length byte, up to a zero byte or to a jump, which is a place of the buffer (counted from byte 8 of
+ * the message on) where the name goes on. Offset and length are those of the string's own bytes, up to where the next
+ * string starts: the zero byte or the first jump is among them, and what is jumped to is not. The next call gives the
+ * name. The jumps are those that were followed. A string that isn't there has zeros for all three. Answers 0. */
 uint64_t dialtable_read_nl_auth(const uint8_t *msg, dialtable_len msg_len, uint64_t *numbers,
                                 dialtable_len numbers_len);
+
+/* Writes the text of one string of an NL_AUTH, as its word of the line shows it: labels joined with full stops, a full
+ * stop inside a label as \x2E. which is the string's number, A = 1 to E = 5; a string that isn't there, and any other
+ * number, has an empty text. Refuses as reading does, then 33. Room: four bytes for each of A or B; for C, D and E the
+ * number below always suffices. Answers the text's length. */
+#define DIALTABLE_NL_AUTH_NAME_ROOM 1003
+uint64_t dialtable_nl_auth_name(const uint8_t *msg, dialtable_len msg_len, uint32_t which, uint8_t *out,
+                                dialtable_len out_len);
 
 /* Copies a field's own bytes out of this message. Answers how many. An offset and length that don't fit this message, so
  * that offset + len is more than msg_len, are refused 6 with field 0, before 33; those of a message that was taken fit it.
@@ -267,8 +286,9 @@ uint64_t dialtable_next_pair(const uint8_t *list, dialtable_len list_len, dialta
                              dialtable_len numbers_len);
 
 /* ---- Log lines, each with its 0A at the end. A refused message has a line too, 'refused NUMBER field=FIELD at=PLACE'.
- * Answers the line's length, or 33. Room: 128 bytes, and four for each byte of the names, always suffice. mic=1 tells
- * that bytes 72 to 87 are a MIC's, and not what they are: it is shown for sixteen zeros too. */
+ * Answers the line's length, or 33. Room: 128 bytes, and four for each byte of the names, always suffice; for an
+ * NL_AUTH's C, D and E, which may jump, it is DIALTABLE_NL_AUTH_NAME_ROOM each. mic=1 tells that bytes 72 to 87 are a
+ * MIC's, and not what they are: it is shown for sixteen zeros too. */
 
 uint64_t dialtable_authenticate_line(const uint8_t *msg, dialtable_len msg_len, uint8_t *out, dialtable_len out_len);
 uint64_t dialtable_challenge_line(const uint8_t *msg, dialtable_len msg_len, uint8_t *out, dialtable_len out_len);
@@ -294,8 +314,11 @@ uint64_t dialtable_write_authenticate(uint8_t *out, dialtable_len out_len, uint3
 uint64_t dialtable_write_negotiate(uint8_t *out, dialtable_len out_len, uint32_t flags, const uint8_t version[8],
                                    const uint8_t *domain, dialtable_len domain_len, const uint8_t *workstation,
                                    dialtable_len workstation_len);
-/* Strings of the bits below; bits above are dropped, and a clear bit's string is passed over. Room: 8 bytes and, for
- * each string written, its own and one more. */
+/* Strings of the bits below; bits above are dropped, and a clear bit's string is passed over. C, D and E are given as
+ * text and written as names without jumps: the labels are what stands between full stops, and empty text is the name
+ * without labels. No escape is undone. Refused, each over all strings before the next: 34 a zero byte; in C, D and E 50
+ * an empty label (a full stop that is first, last or after another) or one over 63 bytes, and 53 a text over 253 bytes;
+ * then 30 and 33. Room: 8 bytes and, for each string written, its own and two more. */
 #define DIALTABLE_NL_AUTH_BIT_A 0x1u
 #define DIALTABLE_NL_AUTH_BIT_B 0x2u
 #define DIALTABLE_NL_AUTH_BIT_C 0x4u

@@ -46,8 +46,9 @@ pub use lines::{
 pub use pairs::{check_pairs, count_pairs, find_pair, Pair, Walk};
 pub use raw::Parts;
 pub use reading::{
-    read_authenticate, read_challenge, read_negotiate, read_nl_auth, read_server_names,
-    read_timestamp, Authenticate, Challenge, Field, Negotiate, NlAuth, ServerNames,
+    nl_auth_name, read_authenticate, read_challenge, read_negotiate, read_nl_auth,
+    read_server_names, read_timestamp, Authenticate, Challenge, Field, Negotiate, NlAuth,
+    NlAuthString, ServerNames,
 };
 pub use refusal::{Reason, Refusal};
 pub use writing::{

@@ -17,7 +17,7 @@ pub const SERVER_NAMES_NUMBERS: usize = 2;
 /// How many numbers [`read_negotiate`] gives.
 pub const NEGOTIATE_NUMBERS: usize = 5;
 /// How many numbers [`read_nl_auth`] gives.
-pub const NL_AUTH_NUMBERS: usize = 12;
+pub const NL_AUTH_NUMBERS: usize = 15;
 /// How many numbers [`count_pairs`] gives.
 pub const COUNT_NUMBERS: usize = 1;
 /// How many numbers [`find_pair`] gives.
@@ -72,6 +72,7 @@ mod c {
                                            numbers_len: usize) -> u64;
         pub fn dialtable_read_negotiate(msg: *const u8, msg_len: usize, numbers: *mut u64, numbers_len: usize) -> u64;
         pub fn dialtable_read_nl_auth(msg: *const u8, msg_len: usize, numbers: *mut u64, numbers_len: usize) -> u64;
+        pub fn dialtable_nl_auth_name(msg: *const u8, msg_len: usize, which: u32, out: *mut u8, out_len: usize) -> u64;
         pub fn dialtable_field_bytes(msg: *const u8, msg_len: usize, offset: u32, len: u16, out: *mut u8,
                                      out_len: usize) -> u64;
 
@@ -225,6 +226,19 @@ line_calls! {
     ntlm_program_line => dialtable_ntlm_program_line;
     /// What the NL_AUTH program prints.
     nl_auth_program_line => dialtable_nl_auth_program_line;
+}
+
+/// The text of one string of an NL_AUTH message, as its line shows it.
+pub fn nl_auth_name(message: &[u8], which: u32, out: &mut [u8]) -> u64 {
+    unsafe {
+        c::dialtable_nl_auth_name(
+            message.as_ptr(),
+            message.len(),
+            which,
+            out.as_mut_ptr(),
+            out.len(),
+        )
+    }
 }
 
 /// Copies a field's own bytes; what doesn't fit the message is refused 6.

@@ -161,6 +161,48 @@ pub fn read_negotiate(message: &[u8]) -> Result<Negotiate, Refusal> {
     })
 }
 
+/// A string of an NL_AUTH request. A and B are bytes; C, D and E are names of
+/// RFC 1035, whose text [`crate::nl_auth_name`] gives.
+#[derive(Clone, Copy, Debug, Default, PartialEq, Eq, Hash)]
+pub struct NlAuthString {
+    /// From the start of the message.
+    pub offset: u32,
+    /// How many bytes of its own: those of a name run to where the next string
+    /// starts, and hold its zero byte or its first jump.
+    pub len: u16,
+    /// How many jumps the name takes: 0 to 16, and 0 for A and B.
+    pub jumps: u8,
+}
+
+impl NlAuthString {
+    /// The library's numbers for a string are inside a message of 65,535 bytes.
+    const fn of(offset: u64, len: u64, jumps: u64) -> Self {
+        Self {
+            offset: offset as u32,
+            len: len as u16,
+            jumps: jumps as u8,
+        }
+    }
+
+    /// The string's own bytes in the message that it was read from; none of a
+    /// message that it doesn't fit.
+    pub fn bytes(self, message: &[u8]) -> &[u8] {
+        self.field().bytes(message)
+    }
+
+    /// Copies the string's own bytes; see [`Field::copy`].
+    pub fn copy<'a>(self, message: &[u8], out: &'a mut [u8]) -> Result<&'a [u8], Refusal> {
+        self.field().copy(message, out)
+    }
+
+    const fn field(self) -> Field {
+        Field {
+            offset: self.offset,
+            len: self.len,
+        }
+    }
+}
+
 /// An NL_AUTH message.
 #[derive(Clone, Copy, Debug, PartialEq, Eq)]
 pub enum NlAuth {
@@ -169,7 +211,7 @@ pub enum NlAuth {
         /// Bits A to E.
         flags: u32,
         /// The strings of bits A to E, none under a clear bit.
-        strings: [Option<Field>; 5],
+        strings: [Option<NlAuthString>; 5],
     },
     /// A negotiate response.
     Response,
@@ -183,17 +225,31 @@ pub fn read_nl_auth(message: &[u8]) -> Result<NlAuth, Refusal> {
     if message_type != 0 {
         return Ok(NlAuth::Response);
     }
-    let [a_offset, a_len, b_offset, b_len, c_offset, c_len, d_offset, d_len, e_offset, e_len] =
-        strings;
-    let under = |bit: u32, offset, len| (flags >> bit & 1 == 1).then(|| Field::of(offset, len));
+    let [a_offset, a_len, b_offset, b_len, names @ ..] = strings;
+    let [c_offset, c_len, d_offset, d_len, e_offset, e_len, c_jumps, d_jumps, e_jumps] = names;
+    let under = |bit: u32, offset, len, jumps| {
+        (flags >> bit & 1 == 1).then(|| NlAuthString::of(offset, len, jumps))
+    };
     Ok(NlAuth::Request {
         flags: flags as u32,
         strings: [
-            under(0, a_offset, a_len),
-            under(1, b_offset, b_len),
-            under(2, c_offset, c_len),
-            under(3, d_offset, d_len),
-            under(4, e_offset, e_len),
+            under(0, a_offset, a_len, 0),
+            under(1, b_offset, b_len, 0),
+            under(2, c_offset, c_len, c_jumps),
+            under(3, d_offset, d_len, d_jumps),
+            under(4, e_offset, e_len, e_jumps),
         ],
     })
+}
+
+/// The text of one string of an NL_AUTH message, as its line shows it, at the
+/// start of `out`: the labels of a name joined with full stops. `which` is the
+/// string's number, A = 1 to E = 5; one that isn't there, and any other number,
+/// has an empty text.
+pub fn nl_auth_name<'a>(
+    message: &[u8],
+    which: u32,
+    out: &'a mut [u8],
+) -> Result<&'a [u8], Refusal> {
+    crate::written(raw::nl_auth_name(message, which, out), out)
 }

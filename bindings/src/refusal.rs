@@ -56,7 +56,7 @@ reasons! {
     12 EndPair "end pair with nonzero length, or bytes after it";
     13 PairSize "a pair of a size that its id forbids";
     14 NoStrings "NL_AUTH request with no bit A to E";
-    15 StringNotEnded "a string without its zero byte";
+    15 StringNotEnded "a string without its zero byte, or a name cut short";
     16 BytesAfterStrings "bytes after the last string";
     17 ResponseBuffer "a response's buffer isn't one zero byte";
     20 No128Bit "128-bit demanded, not in the flags";
@@ -66,6 +66,10 @@ reasons! {
     32 WrittenKey "a key neither empty nor 16 bytes, or without KEY_EXCH";
     33 NoRoom "an output is too short";
     34 WrittenZeroByte "an NL_AUTH string to write holds a zero byte";
+    50 WrongLabel "a length byte of other top bits, or a label to write that is empty or over 63";
+    51 JumpNotBack "a jump to a place that is not before its run of labels";
+    52 TooManyJumps "a seventeenth jump in one name";
+    53 NameTooLong "a name whose coded length is over 255";
 }
 
 /// A refused call. It changed no byte that it was lent.

@@ -26,7 +26,8 @@ pub fn write_negotiate<'a>(
 }
 
 /// Writes an NL_AUTH request with the strings of bits A to E. Bits above are
-/// dropped, and a clear bit's string is passed over.
+/// dropped, and a clear bit's string is passed over. C, D and E are given as text
+/// and written as names, whose labels are what stands between full stops.
 pub fn write_nl_auth_request<'a>(
     out: &'a mut [u8],
     flags: u32,

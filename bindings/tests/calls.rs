@@ -4,12 +4,12 @@ use std::fs;
 
 use dialtable::{
     authenticate_line, challenge_line, check_pairs, count_pairs, decide, domain_to_send, find_pair,
-    negotiate_line, nl_auth_line, nl_auth_program_line, ntlm_line, ntlm_program_line, raw,
-    read_authenticate, read_challenge, read_negotiate, read_nl_auth, read_server_names,
+    negotiate_line, nl_auth_line, nl_auth_name, nl_auth_program_line, ntlm_line, ntlm_program_line,
+    raw, read_authenticate, read_challenge, read_negotiate, read_nl_auth, read_server_names,
     read_timestamp, respond, respond_for_bench, respond_for_relay, respond_to_old_server,
     write_authenticate, write_negotiate, write_nl_auth_request, write_nl_auth_response,
-    write_response_pairs, Answer, Decision, Field, Negotiate, NlAuth, Pair, Parts, Reason, Refusal,
-    ServerNames, Settings, Walk,
+    write_response_pairs, Answer, Decision, Field, Negotiate, NlAuth, NlAuthString, Pair, Parts,
+    Reason, Refusal, ServerNames, Settings, Walk,
 };
 
 const UNICODE: u32 = 0x1;
@@ -21,6 +21,8 @@ const KEY_EXCH: u32 = 0x4000_0000;
 const P1_LINE: &[u8] =
     b"auth flags=00000201 set=U domain= user=box7 work= lm=0 nt=24 key=0 mic=1 kind=v1\n";
 const P12: &[u8] = b"\0\0\0\0\x01\0\0\0LINE\0";
+/// Strings A, C and D: D's name ends in a jump to C.
+const NAMES: &[u8] = b"\0\0\0\0\x0D\0\0\0A.\0\x03x.y\x03com\0\x02dc\xC0\x03";
 const TIME: u64 = 0x01DD_750F_3F7F_2C5C;
 const CLOCK: u64 = 0x0123_4567_89AB_CDEF;
 
@@ -325,7 +327,11 @@ fn pair_lists() {
 
 #[test]
 fn nl_auth_messages_are_read() {
-    let a = Field { offset: 8, len: 4 };
+    let a = NlAuthString {
+        offset: 8,
+        len: 4,
+        jumps: 0,
+    };
     let request = NlAuth::Request {
         flags: 1,
         strings: [Some(a), None, None, None, None],
@@ -337,6 +343,60 @@ fn nl_auth_messages_are_read() {
         Ok(NlAuth::Response)
     );
     assert_eq!(refusal(read_nl_auth(&P12[..12])), (15, 1));
+}
+
+#[test]
+fn nl_auth_names_are_read() {
+    let Ok(NlAuth::Request { flags, strings }) = read_nl_auth(NAMES) else {
+        panic!("a request");
+    };
+    assert_eq!(flags, 0x0D);
+    let own = strings.map(|string| string.map(|string| (string.bytes(NAMES), string.jumps)));
+    let expected: [Option<(&[u8], u8)>; 5] = [
+        Some((b"A.", 0)),
+        None,
+        Some((b"\x03x.y\x03com\0", 0)),
+        Some((b"\x02dc\xC0\x03", 1)),
+        None,
+    ];
+    assert_eq!(own, expected);
+    let mut out = [0xEE; 20];
+    let copied = strings[3].expect("D").copy(NAMES, &mut out);
+    assert_eq!(copied, Ok(&b"\x02dc\xC0\x03"[..]));
+
+    let texts = ["", "A.", "", "x\\x2Ey.com", "dc.x\\x2Ey.com", "", ""];
+    for (which, text) in (0..).zip(texts) {
+        let mut out = [0xEE; 20];
+        assert_eq!(nl_auth_name(NAMES, which, &mut out), Ok(text.as_bytes()));
+        assert!(out[text.len()..].iter().all(|&byte| byte == 0xEE));
+        if let Some(less) = text.len().checked_sub(1) {
+            let answer = nl_auth_name(NAMES, which, &mut out[..less]);
+            assert_eq!(refusal(answer), (33, 0));
+        }
+    }
+    let line = b"nl type=0 flags=0000000D a=A. c=x\\x2Ey.com d=dc.x\\x2Ey.com\n";
+    assert_eq!(nl_auth_line(NAMES, &mut [0; 80]), Ok(&line[..]));
+
+    // D's jump, its last byte, at its own label, at what is no label, and cut off.
+    let with = |place: u8| [&NAMES[..NAMES.len() - 1], &[place]].concat();
+    for (message, expected) in [
+        (with(12), (51, 4)),
+        (with(4), (50, 4)),
+        (NAMES[..NAMES.len() - 1].to_vec(), (15, 4)),
+    ] {
+        assert_eq!(refusal(read_nl_auth(&message)), expected);
+        assert_eq!(refusal(nl_auth_name(&message, 1, &mut [])), expected);
+    }
+    let reasons = [50, 51, 52, 53].map(Reason::of);
+    assert_eq!(
+        reasons,
+        [
+            Reason::WrongLabel,
+            Reason::JumpNotBack,
+            Reason::TooManyJumps,
+            Reason::NameTooLong
+        ]
+    );
 }
 
 #[test]
@@ -451,7 +511,7 @@ fn a_negotiate_that_is_written_reads_back() {
 
 #[test]
 fn nl_auth_is_written() {
-    let mut out = [0xEE; 40];
+    let (mut out, mut room) = ([0xEE; 40], [0; 20]);
     let strings: [&[u8]; 5] = [b"LINE", b"\0", b"", b"", b""];
     assert_eq!(write_nl_auth_request(&mut out, 0x21, &strings), Ok(P12));
     assert_eq!(
@@ -461,6 +521,23 @@ fn nl_auth_is_written() {
     assert_eq!(
         refusal(write_nl_auth_request(&mut out, 0x20, &strings)),
         (14, 0)
+    );
+    let names: [&[u8]; 5] = [b"", b"", b"", b"dc.example", b"a..b"];
+    let message = write_nl_auth_request(&mut out, 0x0D, &names).expect("a request");
+    assert_eq!(message, b"\0\0\0\0\x0D\0\0\0\0\0\x02dc\x07example\0");
+    let text = nl_auth_name(message, 4, &mut room);
+    assert_eq!(text, Ok(&b"dc.example"[..]));
+    assert_eq!(
+        refusal(write_nl_auth_request(&mut out, 0x1F, &names)),
+        (50, 5)
+    );
+    let mut long = [b'x'; 254];
+    for dot in [50, 100, 150, 200] {
+        long[dot] = b'.';
+    }
+    assert_eq!(
+        refusal(write_nl_auth_request(&mut out, 4, &[&long; 5])),
+        (53, 3)
     );
     let response = write_nl_auth_response(&mut out);
     assert_eq!(response, Ok(&b"\x01\0\0\0\0\0\0\0\0"[..]));
@@ -684,7 +761,7 @@ fn any_bytes_are_answered() {
         state = state.wrapping_mul(0x5851_F42D_4C95_7F2D).wrapping_add(1);
         (state >> 33) as usize
     };
-    let mut messages = vec![p1(), challenge(), negotiate(), P12.to_vec()];
+    let mut messages = vec![p1(), challenge(), negotiate(), NAMES.to_vec()];
     for _ in 0..2_000 {
         let mut message = messages[next() % 4].clone();
         for _ in 0..next() % 4 {
@@ -720,6 +797,10 @@ fn any_bytes_are_answered() {
             read_timestamp(message),
             read_nl_auth(message),
         );
+        for which in 0..7 {
+            let text = nl_auth_name(message, which, &mut room);
+            assert_eq!(text.is_ok(), read_nl_auth(message).is_ok());
+        }
         assert!(Walk::new(message).count() <= message.len() / 4 + 1);
         assert!(find_pair(message, 7).is_err() || check_pairs(message).is_ok());
         assert!(ntlm_line(message, &mut room).is_ok());

@@ -79,6 +79,10 @@ static const uint8_t nego[] = "NTLMSSP\0" "\1\0\0\0" "\x07\xB2\x08\xA2" "\7\0\7\
                               "\x0A\0\x61\x4A\0\0\0\x0F" "LINE 31" "box\\\xFC";
 #define NEGO_LEN (sizeof nego - 1)
 
+/* Every string of an NL_AUTH: D jumps to the last label of C, and E to D. The C string's own zero byte is left out. */
+static const uint8_t five[] = "\0\0\0\0\x1F\0\0\0" "a\0" "b.\0" "\3c.c" "\3com\0" "\1d\xC0\x09" "\xC0\x0E";
+#define FIVE_LEN (sizeof five - 1)
+
 #define CHALLENGE_TIME 0x01DD750F3F7F2C5Cu
 #define CLOCK 0x0123456789ABCDEFu
 
@@ -233,13 +237,12 @@ static void reads_negotiate(void)
 
 static void reads_nl_auth(void)
 {
-    /* Every string has its own length: a to e, of 1 to 5 bytes. */
-    static const uint8_t five[] = "\0\0\0\0\x1F\0\0\0" "a\0" "bb\0" "ccc\0" "dddd\0" "eeeee";
     static const uint8_t response[] = {1, 0, 0, 0, 0xFF, 0, 0, 0, 0};
-    uint64_t numbers[DIALTABLE_NL_AUTH_NUMBERS];
+    uint64_t numbers[DIALTABLE_NL_AUTH_NUMBERS + 1];
 
-    EQUAL(dialtable_read_nl_auth(five, sizeof five, numbers, DIALTABLE_NL_AUTH_NUMBERS), 0);
-    EQUAL(DIALTABLE_NL_AUTH_NUMBERS, 12);
+    numbers[DIALTABLE_NL_AUTH_NUMBERS] = 77;
+    EQUAL(dialtable_read_nl_auth(five, FIVE_LEN, numbers, DIALTABLE_NL_AUTH_NUMBERS), 0);
+    EQUAL(DIALTABLE_NL_AUTH_NUMBERS, 15);
     EQUAL(numbers[DIALTABLE_NL_AUTH_TYPE], 0);
     EQUAL(numbers[DIALTABLE_NL_AUTH_FLAGS], 0x1F);
     EQUAL(numbers[DIALTABLE_NL_AUTH_A_OFFSET], 8);
@@ -247,16 +250,99 @@ static void reads_nl_auth(void)
     EQUAL(numbers[DIALTABLE_NL_AUTH_B_OFFSET], 10);
     EQUAL(numbers[DIALTABLE_NL_AUTH_B_LEN], 2);
     EQUAL(numbers[DIALTABLE_NL_AUTH_C_OFFSET], 13);
-    EQUAL(numbers[DIALTABLE_NL_AUTH_C_LEN], 3);
-    EQUAL(numbers[DIALTABLE_NL_AUTH_D_OFFSET], 17);
+    EQUAL(numbers[DIALTABLE_NL_AUTH_C_LEN], 9);
+    EQUAL(numbers[DIALTABLE_NL_AUTH_D_OFFSET], 22);
     EQUAL(numbers[DIALTABLE_NL_AUTH_D_LEN], 4);
-    EQUAL(numbers[DIALTABLE_NL_AUTH_E_OFFSET], 22);
-    EQUAL(numbers[DIALTABLE_NL_AUTH_E_LEN], 5);
+    EQUAL(numbers[DIALTABLE_NL_AUTH_E_OFFSET], 26);
+    EQUAL(numbers[DIALTABLE_NL_AUTH_E_LEN], 2);
+    EQUAL(numbers[DIALTABLE_NL_AUTH_C_JUMPS], 0);
+    EQUAL(numbers[DIALTABLE_NL_AUTH_D_JUMPS], 1);
+    EQUAL(numbers[DIALTABLE_NL_AUTH_E_JUMPS], 2);
+    EQUAL(numbers[DIALTABLE_NL_AUTH_NUMBERS], 77);
     EQUAL(dialtable_read_nl_auth(response, sizeof response, numbers, DIALTABLE_NL_AUTH_NUMBERS), 0);
     EQUAL(numbers[DIALTABLE_NL_AUTH_TYPE], 1);
     EQUAL(numbers[DIALTABLE_NL_AUTH_FLAGS], 0);
     EQUAL(numbers[DIALTABLE_NL_AUTH_E_LEN], 0);
+    EQUAL(numbers[DIALTABLE_NL_AUTH_E_JUMPS], 0);
     CHECK(refused(dialtable_read_nl_auth(p12, sizeof p12 - 1, numbers, DIALTABLE_NL_AUTH_NUMBERS), 15, 1));
+    CHECK(refused(dialtable_read_nl_auth(five, FIVE_LEN, numbers, 14), 33, 0));
+}
+
+/* Whether five with another byte at a place is refused so. */
+static int refused_with(unsigned at, uint8_t byte, unsigned number, unsigned field)
+{
+    uint8_t other[FIVE_LEN], out[8];
+
+    memcpy(other, five, sizeof other);
+    other[at] = byte;
+    memset(out, FILL, sizeof out);
+    return refused(dialtable_nl_auth_name(other, sizeof other, 3, out, sizeof out), number, field) &&
+           untouched(out, sizeof out);
+}
+
+static void reads_nl_auth_names(void)
+{
+    static const char *const texts[] = {"", "a", "b.", "c\\x2Ec.com", "d.com", "d.com", ""};
+    static const uint8_t response[] = {1, 0, 0, 0, 0xFF, 0, 0, 0, 0};
+    /* At 8 a label of 63 bytes, which holds a zero byte and then jumps, each to what stands before it. */
+    uint8_t jumps[8 + 65 + 2] = {0, 0, 0, 0, DIALTABLE_NL_AUTH_BIT_C | DIALTABLE_NL_AUTH_BIT_D, 0, 0, 0, 63, 0};
+    uint64_t numbers[DIALTABLE_NL_AUTH_NUMBERS];
+    uint8_t out[16];
+    uint32_t which, i;
+    size_t len;
+
+    for (which = 0; which < sizeof texts / sizeof *texts; which++) {
+        len = strlen(texts[which]);
+        memset(out, FILL, sizeof out);
+        EQUAL(dialtable_nl_auth_name(five, FIVE_LEN, which, out, len), len);
+        CHECK(memcmp(out, texts[which], len) == 0);
+        CHECK(untouched(out + len, sizeof out - len));
+        memset(out, FILL, sizeof out);
+        if (len > 0)
+            CHECK(refused(dialtable_nl_auth_name(five, FIVE_LEN, which, out, len - 1), 33, 0));
+        CHECK(untouched(out, sizeof out));
+    }
+    EQUAL(dialtable_nl_auth_name(five, FIVE_LEN, 0x103, NULL, 0), 0);
+    EQUAL(dialtable_nl_auth_name(p12, sizeof p12, 2, NULL, 0), 0);
+    EQUAL(dialtable_nl_auth_name(response, sizeof response, 1, NULL, 0), 0);
+
+    CHECK(refused_with(25, 14, 51, 4)); /* D's jump to its own label */
+    CHECK(refused_with(27, 18, 51, 5)); /* E's to itself */
+    CHECK(refused_with(13, 0x80, 50, 3));
+    CHECK(refused_with(13, 0x3F, 15, 3));
+    CHECK(refused(dialtable_nl_auth_name(five, FIVE_LEN - 1, 1, out, sizeof out), 15, 5));
+    CHECK(refused(dialtable_nl_auth_name(NULL, 0, 1, NULL, 0), 2, 0));
+
+    for (i = 10; i < 72; i += 2) {
+        jumps[i] = 0xC0;
+        jumps[i + 1] = (uint8_t)(i == 10 ? 1 : i - 10);
+    }
+    jumps[8 + 65] = 0xC0;
+    jumps[8 + 66] = 30;
+    EQUAL(dialtable_read_nl_auth(jumps, sizeof jumps, numbers, DIALTABLE_NL_AUTH_NUMBERS), 0);
+    EQUAL(numbers[DIALTABLE_NL_AUTH_D_JUMPS], 16);
+    jumps[8 + 66] = 32;
+    CHECK(refused(dialtable_read_nl_auth(jumps, sizeof jumps, numbers, DIALTABLE_NL_AUTH_NUMBERS), 52, 4));
+}
+
+/* The longest name reads back, its text in the most room that a name wants; one byte more is 53. */
+static void writes_the_longest_name(void)
+{
+    static uint8_t text[255], out[300], shown[DIALTABLE_NL_AUTH_NAME_ROOM];
+
+    memset(text, 0xFF, sizeof text);
+    text[63] = text[127] = text[191] = '.';
+    EQUAL(dialtable_write_nl_auth_request(out, sizeof out, 16, NULL, 0, NULL, 0, NULL, 0, NULL, 0, text, 253), 8 + 255);
+    EQUAL(dialtable_nl_auth_name(out, 8 + 255, 5, shown, sizeof shown), DIALTABLE_NL_AUTH_NAME_ROOM);
+    CHECK(memcmp(shown, "\\xFF\\xFF", 8) == 0 && shown[4 * 63] == '.');
+    memset(out, FILL, sizeof out);
+    CHECK(refused(dialtable_write_nl_auth_request(out, sizeof out, 16, NULL, 0, NULL, 0, NULL, 0, NULL, 0, text, 254),
+                  53, 5));
+    text[128] = 'x';
+    text[127] = 'x';
+    CHECK(refused(dialtable_write_nl_auth_request(out, sizeof out, 8, NULL, 0, NULL, 0, NULL, 0, text, 253, NULL, 0),
+                  50, 4));
+    CHECK(untouched(out, sizeof out));
 }
 
 /* TargetInfo stands at 70 of the challenge and has five pairs. */
@@ -411,6 +497,8 @@ static void prints_lines(const message_t *p1, const message_t *challenge)
     has_line(dialtable_negotiate_line, nego, NEGO_LEN, opening);
     has_line(dialtable_ntlm_line, nego, NEGO_LEN, opening);
     has_line(dialtable_ntlm_program_line, nego, NEGO_LEN, opening);
+    has_line(dialtable_nl_auth_line, five, FIVE_LEN,
+             "nl type=0 flags=0000001F a=a b=b. c=c\\x2Ec.com d=d.com e=d.com\n");
     has_line(dialtable_nl_auth_line, p12, sizeof p12, nl);
     has_line(dialtable_nl_auth_program_line, p12, sizeof p12, nl);
     has_line(dialtable_authenticate_line, NULL, 0, "refused 2 field=0 at=0\n");
@@ -520,7 +608,8 @@ static void writes_the_longest_negotiate(void)
 
 static void writes_nl_auth(void)
 {
-    static const uint8_t name[] = {'L', 'I', 'N', 'E'}, zero[] = {0};
+    static const uint8_t name[] = {'L', 'I', 'N', 'E'}, zero[] = {0}, dotted[] = {'x', '.', 'y'};
+    static const uint8_t names[] = "\0\0\0\0\x1E\0\0\0" "x.y\0" "\1x\1y\0" "\0" "\4LINE\0";
     static const uint8_t response[] = {1, 0, 0, 0, 0, 0, 0, 0, 0};
     uint8_t out[32];
 
@@ -532,6 +621,24 @@ static void writes_nl_auth(void)
     CHECK(untouched(out + sizeof p12, sizeof out - sizeof p12));
     CHECK(refused(dialtable_write_nl_auth_request(out, sizeof out, 3, name, 4, zero, 1, NULL, 0, NULL, 0, NULL, 0),
                   34, 2));
+    /* C, D and E are text, split at full stops; empty text is a zero byte. */
+    memset(out, FILL, sizeof out);
+    EQUAL(dialtable_write_nl_auth_request(out, sizeof names - 1, 0x1E, NULL, 0, dotted, 3, dotted, 3, NULL, 0, name, 4),
+          sizeof names - 1);
+    CHECK(memcmp(out, names, sizeof names - 1) == 0);
+    CHECK(untouched(out + sizeof names - 1, sizeof out - (sizeof names - 1)));
+    memset(out, FILL, sizeof out);
+    CHECK(refused(dialtable_write_nl_auth_request(out, sizeof names - 2, 0x1E, NULL, 0, dotted, 3, dotted, 3, NULL, 0,
+                                                  name, 4), 33, 0));
+    CHECK(refused(dialtable_write_nl_auth_request(out, 0, 0x1E, NULL, 0, NULL, 0, dotted, 3, dotted, 2, zero, 1), 34,
+                  5));
+    CHECK(refused(dialtable_write_nl_auth_request(out, 0, 0x1E, NULL, 0, NULL, 0, dotted, 3, dotted, 2, dotted, 2), 50,
+                  4));
+    CHECK(refused(dialtable_write_nl_auth_request(out, 0, 4, NULL, 0, NULL, 0, dotted + 1, 2, NULL, 0, NULL, 0), 50,
+                  3));
+    CHECK(refused(dialtable_write_nl_auth_request(out, 0, 16, NULL, 0, NULL, 0, NULL, 0, NULL, 0, dotted + 1, 1), 50,
+                  5));
+    CHECK(untouched(out, sizeof out));
     EQUAL(dialtable_write_nl_auth_response(out, sizeof out), sizeof response);
     CHECK(memcmp(out, response, sizeof response) == 0);
     CHECK(refused(dialtable_write_nl_auth_response(out, 8), 33, 0));
@@ -770,6 +877,12 @@ __attribute__((noinline)) static uint64_t open_wide(uint8_t *out, dialtable_len 
     return dialtable_write_negotiate(out, out_len, (uint32_t)flags, version, domain, domain_len, NULL, 0);
 }
 
+__attribute__((noinline)) static uint64_t name_wide(const uint8_t *msg, dialtable_len msg_len, uint64_t which,
+                                                    uint8_t *out, dialtable_len out_len)
+{
+    return dialtable_nl_auth_name(msg, msg_len, (uint32_t)which, out, out_len);
+}
+
 static void takes_numbers_in_wide_registers(const message_t *p1, const message_t *challenge)
 {
     volatile uint64_t above = 0xA5A5A5A500000000u;
@@ -787,6 +900,8 @@ static void takes_numbers_in_wide_registers(const message_t *p1, const message_t
     EQUAL(open_wide(out, sizeof out, above | 1, NULL, 0), 40);
     CHECK(memcmp(out + 12, "\1\0\0\0" "\0\0\0\0" "\x28\0\0\0", 12) == 0);
     CHECK(refused(open_wide(out, sizeof out, above, NULL, 0), 5, 0));
+    EQUAL(name_wide(five, FIVE_LEN, above | 4, out, sizeof out), 5);
+    CHECK(memcmp(out, "d.com", 5) == 0);
 }
 
 /* The names of refusals, flags, pair ids and NL_AUTH's bits have the numbers of document 01. */
@@ -801,6 +916,8 @@ static void names_numbers(void)
         DIALTABLE_REFUSED_BYTES_LEFT, DIALTABLE_REFUSED_WRONG_RESPONSE, DIALTABLE_REFUSED_NO_128_BIT,
         DIALTABLE_REFUSED_NO_SERVER_NAMES, DIALTABLE_REFUSED_TOO_LONG_TO_WRITE, DIALTABLE_REFUSED_ODD_NAME_TO_WRITE,
         DIALTABLE_REFUSED_WRONG_KEY, DIALTABLE_REFUSED_NO_ROOM, DIALTABLE_REFUSED_ZERO_IN_STRING,
+        DIALTABLE_REFUSED_WRONG_LABEL, DIALTABLE_REFUSED_PLACE_NOT_BEFORE, DIALTABLE_REFUSED_TOO_MANY_JUMPS,
+        DIALTABLE_REFUSED_NAME_TOO_LONG,
         DIALTABLE_FLAG_UNICODE, DIALTABLE_FLAG_OEM, DIALTABLE_FLAG_REQUEST_TARGET, DIALTABLE_FLAG_SIGN,
         DIALTABLE_FLAG_SEAL, DIALTABLE_FLAG_DOMAIN_SUPPLIED, DIALTABLE_FLAG_WORKSTATION_SUPPLIED,
         DIALTABLE_FLAG_TARGET_INFO, DIALTABLE_FLAG_VERSION, DIALTABLE_FLAG_128, DIALTABLE_FLAG_KEY_EXCH,
@@ -809,7 +926,7 @@ static void names_numbers(void)
         DIALTABLE_PAIR_TARGET_NAME, DIALTABLE_PAIR_CHANNEL_BINDINGS, DIALTABLE_NL_AUTH_BIT_A, DIALTABLE_NL_AUTH_BIT_B,
         DIALTABLE_NL_AUTH_BIT_C, DIALTABLE_NL_AUTH_BIT_D, DIALTABLE_NL_AUTH_BIT_E};
     static const uint32_t expected[] = {
-        1, 2, 3, 4, 5, 6, 7, 8, 9, 10, 11, 12, 13, 14, 15, 16, 17, 20, 21, 30, 31, 32, 33, 34,
+        1, 2, 3, 4, 5, 6, 7, 8, 9, 10, 11, 12, 13, 14, 15, 16, 17, 20, 21, 30, 31, 32, 33, 34, 50, 51, 52, 53,
         0x1, 0x2, 0x4, 0x10, 0x20, 0x1000, 0x2000, 0x800000, 0x2000000, 0x20000000, 0x40000000,
         1, 2, 3, 4, 5, 6, 7, 8, 9, 10, 0x1, 0x2, 0x4, 0x8, 0x10};
     unsigned i;
@@ -837,6 +954,7 @@ int main(int argc, char **argv)
     reads_challenge(&challenge);
     reads_negotiate();
     reads_nl_auth();
+    reads_nl_auth_names();
     reads_pairs(&challenge);
     says_where(&challenge);
     shows_far_places(&challenge);
@@ -845,6 +963,7 @@ int main(int argc, char **argv)
     writes_negotiate();
     writes_the_longest_negotiate();
     writes_nl_auth();
+    writes_the_longest_name();
     writes_response_pairs(&challenge);
     writes_the_longest_pairs();
     decides(&challenge, &no_timestamp);

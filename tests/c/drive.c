@@ -86,7 +86,7 @@ static void draw_message(void)
 
 static void reads(unsigned room, unsigned places, unsigned bytes_room)
 {
-    uint32_t offset = draw(400);
+    uint32_t offset = draw(400), which = draw(7);
     uint16_t size = (uint16_t)draw(100);
 
     CALL(dialtable_read_authenticate(msg, len, numbers, places, bytes, bytes_room));
@@ -95,6 +95,7 @@ static void reads(unsigned room, unsigned places, unsigned bytes_room)
     CALL(dialtable_read_server_names(msg, len, numbers, places));
     CALL(dialtable_read_negotiate(msg, len, numbers, places));
     CALL(dialtable_read_nl_auth(msg, len, numbers, places));
+    CALL(dialtable_nl_auth_name(msg, len, which, out, room));
     CALL(dialtable_field_bytes(msg, len, offset, size, out, room));
 }
 
@@ -131,16 +132,23 @@ static void prints(unsigned room)
 
 static const uint8_t version[8] = {6, 1, 0xB1, 0x1D, 0, 0, 0, 15};
 static uint8_t mic[16];
+/* Names with labels of 1 to 3 bytes, then one of 70. */
+static const uint8_t text[] =
+    "dc1.a.bc.dc1.a.bc.dc1.a.bc.dc1.a.bc.dc1.a.bc.dc1.a.bc.dc1.a.bc.dc1.a.bc.dc1.a.bc.dc1.a.bc.dc1.a.bc.dc1.a.bc."
+    "dc1.a.bc.dc1.a.bc.dc1.a.bc.dc1.a.bc.dc1.a.bc.dc1.a.bc.dc1.a.bc.dc1.a.bc.dc1.a.bc.dc1.a.bc.dc1.a.bc.dc1.a.bc."
+    "dc1.a.bc.dc1.a.bc.dc1.a.bc.dc1.a.bc.dc1.a.bc."
+    "0123456789012345678901234567890123456789012345678901234567890123456789";
 
 static void writes(unsigned room)
 {
     uint32_t flags = draw(2) ? 0xE28A8215u : draw_32(), bits = draw(64), unverified = draw(3);
     unsigned a = draw(30), b = draw(30), c = draw(30), key_len = 16 * draw(2), name_len = draw(4) ? b & ~1u : b;
+    unsigned text_len = draw(3) ? draw(12) : draw(sizeof text);
 
     CALL(dialtable_write_authenticate(out, room, flags, version, mic, msg, a, msg + 1, b, msg + 3, c, msg + 7, a & ~1u,
                                       msg + 9, b & ~1u, mic, key_len));
     CALL(dialtable_write_negotiate(out, room, flags, version, msg, a, msg + 5, b));
-    CALL(dialtable_write_nl_auth_request(out, room, bits, msg, a % 4, msg + 9, b % 3, msg + 13, c % 4, msg + 8, 0,
+    CALL(dialtable_write_nl_auth_request(out, room, bits, msg, a % 4, msg + 9, b % 3, msg + 13, c % 4, text, text_len,
                                          msg + 2, a % 3));
     CALL(dialtable_write_nl_auth_response(out, room));
     CALL(dialtable_write_response_pairs(out, room, msg, len, msg + 11, name_len, unverified, mic));

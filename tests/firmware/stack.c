@@ -47,6 +47,7 @@ static void measure(const uint8_t *msg, dialtable_len len)
     STACK(read_server_names, msg, len, numbers, 16);
     STACK(read_negotiate, msg, len, numbers, 16);
     STACK(read_nl_auth, msg, len, numbers, 16);
+    STACK(nl_auth_name, msg, len, 4, out, sizeof out);
     STACK(field_bytes, msg, len, 12, 8, out, sizeof out);
     STACK(check_pairs, msg, len);
     STACK(count_pairs, msg, len, numbers, 16);

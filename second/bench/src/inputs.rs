@@ -237,8 +237,25 @@ pub fn nl_auth(len: usize) -> Vec<u8> {
     message
 }
 
+/// The strings of a domain controller's request.
+pub const STRINGS: [&[u8]; 5] = [
+    b"DEPOT",
+    b"DC1",
+    b"depot.example.com",
+    b"dc1.depot.example.com",
+    b"DC1",
+];
+
+/// The same as a message: the host name ends in a jump to the domain name.
+pub fn nl_auth_names() -> Vec<u8> {
+    let mut message = b"\0\0\0\0\x1F\0\0\0DEPOT\0DC1\0".to_vec();
+    message.extend(b"\x05depot\x07example\x03com\0");
+    message.extend(b"\x03dc1\xC0\x0A\x03DC1\0");
+    message
+}
+
 /// Messages of Samba, gss-ntlmssp, impacket and winpr, as files of messages/.
-pub const CAPTURED: [&str; 10] = [
+pub const CAPTURED: [&str; 11] = [
     "challenge-smbd.bin",
     "challenge-samba-ad-dc.b64",
     "authenticate-smbclient.bin",
@@ -249,6 +266,7 @@ pub const CAPTURED: [&str; 10] = [
     "negotiate-impacket.bin",
     "negotiate-winpr.b64",
     "nl-request-samba.bin",
+    "nl-request-samba-dns.bin",
 ];
 
 /// The message in a file, which is raw or text.

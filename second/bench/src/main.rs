@@ -13,8 +13,8 @@ use std::time::{Duration, Instant};
 use dialtable::raw;
 use reader::{
     answer_for_bench, authenticate_line, challenge_line, negotiate_line, nl_auth_line,
-    write_authenticate, write_negotiate, write_response_pairs, Authenticate, AvId, Challenge,
-    Negotiate, NlAuth, Refusal, Secrets, TargetInfo,
+    nl_auth_name, write_authenticate, write_negotiate, write_nl_auth_request, write_response_pairs,
+    Authenticate, AvId, Challenge, Negotiate, NlAuth, NlAuthFlags, Refusal, Secrets, TargetInfo,
 };
 
 use inputs::{Account, Opening, Target, BEFORE_LIST, FLAGS, TIMESTAMP};
@@ -244,14 +244,18 @@ fn usual() -> Vec<Measured> {
         read_challenge(challenge.clone(), "six pairs"),
         read_authenticate(message.clone()),
         read_negotiate(negotiate.clone()),
-        read_nl_auth(nl_auth.clone()),
+        read_nl_auth(nl_auth.clone(), ""),
+        read_nl_auth(inputs::nl_auth_names(), "a jump"),
+        name_of_nl_auth(inputs::nl_auth_names(), 4, "a jump"),
         line_of_challenge(challenge.clone()),
         line_of_authenticate(message, "a line of 100 bytes"),
         line_of_negotiate(negotiate),
-        line_of_nl_auth(nl_auth),
+        line_of_nl_auth(nl_auth, ""),
+        line_of_nl_auth(inputs::nl_auth_names(), "a jump"),
         find_pair(inputs::six_pairs(), "the last of six pairs"),
         write(account.clone()),
         open(opening),
+        write_names(),
         go_back(challenge.clone(), "six pairs"),
         respond(challenge, account),
     ]
@@ -273,7 +277,10 @@ fn captured(folder: &Path) -> Result<Vec<Measured>, String> {
             Some(3) => &[read_authenticate, |message| {
                 line_of_authenticate(message, "")
             }],
-            _ => &[read_nl_auth, line_of_nl_auth],
+            _ => &[
+                |message| read_nl_auth(message, ""),
+                |message| line_of_nl_auth(message, ""),
+            ],
         };
         calls.extend(made.iter().map(|make| {
             let call = make(message.clone());
@@ -296,11 +303,12 @@ fn growing() -> Vec<Measured> {
         )
     });
     each(|len| read_negotiate(Opening::of_message(len).message(FLAGS)));
-    each(|len| read_nl_auth(inputs::nl_auth(len)));
+    each(|len| read_nl_auth(inputs::nl_auth(len), ""));
+    each(|len| name_of_nl_auth(inputs::nl_auth(len), 2, "string B"));
     each(|len| line_of_authenticate(inputs::authenticate_with_name(len), "of a name"));
     each(|len| line_of_challenge(inputs::challenge(&inputs::long_list(len - BEFORE_LIST))));
     each(|len| line_of_negotiate(Opening::of_message(len).message(FLAGS)));
-    each(|len| line_of_nl_auth(inputs::nl_auth(len)));
+    each(|len| line_of_nl_auth(inputs::nl_auth(len), ""));
     each(|len| find_pair(inputs::long_list(len), "the last pair"));
     each(|len| write(Account::of_message(len)));
     each(|len| open(Opening::of_message(len)));
@@ -321,6 +329,10 @@ fn growing() -> Vec<Measured> {
 
 fn bytes(message: &[u8]) -> String {
     format!("({} bytes)", message.len())
+}
+
+fn what_and_bytes(what: &str, message: &[u8]) -> String {
+    format!("{what} {}", bytes(message)).trim_start().to_owned()
 }
 
 fn read_authenticate(message: Vec<u8>) -> Measured {
@@ -364,15 +376,25 @@ fn read_negotiate(message: Vec<u8>) -> Measured {
     }
 }
 
-fn read_nl_auth(message: Vec<u8>) -> Measured {
+fn read_nl_auth(message: Vec<u8>, what: &str) -> Measured {
     let other = message.clone();
     let mut numbers = [0; raw::NL_AUTH_NUMBERS];
     Measured {
         name: "read_nl_auth",
-        on: bytes(&message),
+        on: what_and_bytes(what, &message),
         proved: repeat!(raw::read_nl_auth(black_box(&message), &mut numbers)),
         second: repeat!(NlAuth::read(black_box(&other))),
     }
+}
+
+fn name_of_nl_auth(message: Vec<u8>, which: u32, what: &str) -> Measured {
+    line(
+        "nl_auth_name",
+        what_and_bytes(what, &message),
+        move |message, out| raw::nl_auth_name(message, which, out),
+        move |message, out| nl_auth_name(message, which, out),
+        message,
+    )
 }
 
 /// Room for any line here.
@@ -411,10 +433,10 @@ fn line_of_negotiate(message: Vec<u8>) -> Measured {
     )
 }
 
-fn line_of_nl_auth(message: Vec<u8>) -> Measured {
+fn line_of_nl_auth(message: Vec<u8>, what: &str) -> Measured {
     line(
         "nl_auth_line",
-        bytes(&message),
+        what_and_bytes(what, &message),
         raw::nl_auth_line,
         nl_auth_line,
         message,
@@ -505,6 +527,28 @@ fn open(opening: Opening) -> Measured {
     }
 }
 
+/// A request with all five strings.
+fn write_names() -> Measured {
+    const ALL: u32 = 0x1F;
+    let (mut out, mut other_out) = (room(), room());
+    let strings = inputs::STRINGS;
+    let len = write_nl_auth_request(NlAuthFlags::new(ALL), &strings, &mut out);
+    Measured {
+        name: "write_nl_auth_request",
+        on: format!("({} bytes)", len.expect("a request")),
+        proved: repeat!(raw::write_nl_auth_request(
+            &mut out,
+            ALL,
+            black_box(&strings)
+        )),
+        second: repeat!(write_nl_auth_request(
+            NlAuthFlags::new(ALL),
+            black_box(&strings),
+            &mut other_out
+        )),
+    }
+}
+
 fn go_back(challenge: Vec<u8>, what: &str) -> Measured {
     let (other, target) = (challenge.clone(), Target::usual());
     let other_target = target.clone();
@@ -590,6 +634,11 @@ mod tests {
         let names =
             Negotiate::read(&opening).map(|read| (read.domain.bytes, read.workstation.bytes));
         assert_eq!(names, Ok((&b"CLIGROUP"[..], &b"PEERCLI"[..])));
+        let names = inputs::nl_auth_names();
+        let jumps = NlAuth::read(&names).map(|read| read.strings.map(|string| string.jumps));
+        assert_eq!(jumps, Ok([0, 0, 0, 1, 0]));
+        let host = nl_auth_name(&names, 4, &mut out).map(|len| &out[..len]);
+        assert_eq!(host, Ok(inputs::STRINGS[3]));
         for len in SIZES {
             let opening = Opening::of_message(len).message(FLAGS);
             assert_eq!(opening.len(), len);

@@ -10,6 +10,7 @@ mod authenticate;
 mod cases;
 mod challenge;
 pub mod command;
+mod dns_names;
 mod hex;
 mod lines;
 mod names;

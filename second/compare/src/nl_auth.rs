@@ -1,26 +1,43 @@
 //! NL_AUTH messages.
 
+use crate::dns_names::{self, coded};
 use crate::names::{bytes_of_line, string, EDGES};
 use crate::random::Random;
 use crate::wire::{cut_or_changed, maybe_damaged, LONG, LONG_LINES};
 
 /// Type, flags and buffer.
-fn message(number: u32, flags: u32, buffer: &[u8]) -> Vec<u8> {
+pub fn message(number: u32, flags: u32, buffer: &[u8]) -> Vec<u8> {
     let mut message = number.to_le_bytes().to_vec();
     message.extend(flags.to_le_bytes());
     message.extend(buffer);
     message
 }
 
-/// A request with one string for each set bit.
+/// The first of the bits whose strings are names.
+const NAMES: u32 = 0x4;
+
+/// A request with one string for each set bit, those of C, D and E with jumps.
 fn request(random: &mut Random, flags: u32) -> Vec<u8> {
     let mut buffer = Vec::new();
-    for _ in 0..(flags & 0x1F).count_ones() {
-        let len = random.pick(&[0, 1, 4, 4, 9, 20]);
-        buffer.extend(string(random, len));
-        buffer.push(0);
+    let mut places = Vec::new();
+    for bit in set_bits(flags) {
+        if bit < NAMES {
+            let len = random.pick(&[0, 1, 4, 4, 9, 20]);
+            buffer.extend(string(random, len));
+            places.push(buffer.len());
+            buffer.push(0);
+        } else {
+            dns_names::put_drawn(random, &mut buffer, &mut places);
+        }
     }
     message(0, flags, &buffer)
+}
+
+/// Those of the bits A to E that are set, A first.
+fn set_bits(flags: u32) -> impl Iterator<Item = u32> {
+    (0..5)
+        .map(|bit| 1 << bit)
+        .filter(move |bit| flags & bit != 0)
 }
 
 /// Messages at every boundary.
@@ -33,6 +50,7 @@ pub fn boundaries(random: &mut Random) -> Vec<Vec<u8>> {
     units(&mut messages);
     long_messages(&mut messages);
     long_lines(random, &mut messages);
+    messages.extend(dns_names::boundaries(random));
     messages
 }
 
@@ -58,32 +76,35 @@ fn requests(random: &mut Random, messages: &mut Vec<Vec<u8>>) {
 /// Each string of each subset without its zero byte, and empty.
 fn strings(random: &mut Random, messages: &mut Vec<Vec<u8>>) {
     for bits in 1_u32..32 {
-        let count = bits.count_ones();
-        for chosen in 0..count {
+        for chosen in set_bits(bits) {
             for (text, end) in [(&b"BOX7"[..], &b""[..]), (b"", b"\0"), (b"", b"")] {
                 let mut buffer = Vec::new();
-                for string in 0..count {
-                    if string == chosen {
-                        buffer.extend(text);
-                        buffer.extend(end);
+                let mut after_chosen = 0;
+                for bit in set_bits(bits) {
+                    let sound = if bit == chosen { text } else { b"LINE" };
+                    if bit < NAMES {
+                        buffer.extend([sound, b"\0"].concat());
+                    } else if sound.is_empty() {
+                        buffer.push(0);
                     } else {
-                        buffer.extend(b"LINE\0");
+                        buffer.extend(coded(&[sound]));
+                    }
+                    if bit == chosen {
+                        buffer.truncate(buffer.len() - 1 + end.len());
+                        after_chosen = buffer.len();
                     }
                 }
                 messages.push(message(0, bits, &buffer));
                 // What is missing is the rest of the message too.
                 if end.is_empty() {
-                    let len = 8 + 5 * chosen as usize + text.len();
-                    let mut cut = messages[messages.len() - 1].clone();
-                    cut.truncate(len);
-                    messages.push(cut);
+                    messages.push(message(0, bits, &buffer[..after_chosen]));
                 }
             }
         }
     }
     // Flags that ask for more strings than there are: every string is missed.
     for held in 0..5 {
-        let buffer = random.pick(&[&b"A\0"[..], b"\0", b"LINE\0"]).repeat(held);
+        let buffer = random.pick(&[&b"\x01A\0"[..], b"\0"]).repeat(held);
         messages.push(message(0, 0x1F, &buffer));
     }
 }
@@ -118,7 +139,8 @@ fn types(random: &mut Random, messages: &mut Vec<Vec<u8>>) {
     }
 }
 
-/// Every byte that a string can hold, in each string.
+/// Every byte that a string can hold, in A and B; in C, D and E most of these
+/// begin no name.
 fn units(messages: &mut Vec<Vec<u8>>) {
     let mut all: Vec<u8> = (1..=u8::MAX).collect();
     all.push(0);
@@ -151,15 +173,20 @@ fn long_messages(messages: &mut Vec<Vec<u8>>) {
 fn long_lines(random: &mut Random, messages: &mut Vec<Vec<u8>>) {
     let words = "nl type=0 flags=00000000 a=\n";
     for line in LONG_LINES {
-        for bit in 0..5 {
+        for bit in 0..2 {
             let mut text = bytes_of_line(random, line, words);
             text.push(0);
             messages.push(message(0, 1 << bit, &text));
         }
+        // D's name has more characters than bytes of its own.
+        let words = "nl type=0 flags=0000000B a=\\x03pit b= d=dc.\\xFF.pit\n";
+        let b = bytes_of_line(random, line, words);
+        let buffer = [&b"\x03pit\0"[..], &b, b"\0\x02dc\x01\xFF\xC0\0"];
+        messages.push(message(0, 0x0B, &buffer.concat()));
     }
-    let mut escaped = vec![0xFF; 13_000];
+    let mut escaped = vec![0xFF; 32_000];
     escaped.push(0);
-    messages.push(message(0, 0x1F, &escaped.repeat(5)));
+    messages.push(message(0, 0x03, &escaped.repeat(2)));
 }
 
 /// A message of any flags and strings, sound or damaged.

@@ -36,7 +36,7 @@ pub type Refusals = (u8, &'static [u8]);
 
 /// Each refusal that a reading or a line can give, with every field that it
 /// can have.
-pub const REFUSALS: [Refusals; 18] = [
+pub const REFUSALS: [Refusals; 22] = [
     (1, &[0]),
     (2, &[0]),
     (3, &[0]),
@@ -55,6 +55,10 @@ pub const REFUSALS: [Refusals; 18] = [
     (16, &[0]),
     (17, &[0]),
     (33, &[0]),
+    (50, &[3, 4, 5]),
+    (51, &[3, 4, 5]),
+    (52, &[3, 4, 5]),
+    (53, &[3, 4, 5]),
 ];
 
 impl Kind {
@@ -264,11 +268,11 @@ mod tests {
     #[test]
     fn what_was_not_reached_is_named() {
         let mut tally = Tally::default();
-        assert_eq!(tally.not_reached().len(), 6 + 37);
+        assert_eq!(tally.not_reached().len(), 6 + 49);
         tally.add(b"refused 8 field=5 at=0\n");
         tally.add(b"auth\n");
         let missing = tally.not_reached();
-        assert_eq!(missing.len(), 6 + 37 - 2);
+        assert_eq!(missing.len(), 6 + 49 - 2);
         assert!(!missing.contains(&Kind::Authenticate));
         assert!(!missing.contains(&Kind::Refused {
             number: 8,

@@ -132,6 +132,9 @@ impl NlAuthFlags {
         (Self::E, 5),
     ];
 
+    /// "Strings C, D and E follow RFC 1035."
+    pub(crate) const DNS_NAMES: u32 = Self::C | Self::D | Self::E;
+
     /// Bits A to E of `flags`.
     pub const fn new(flags: u32) -> Self {
         Self(flags & (Self::A | Self::B | Self::C | Self::D | Self::E))

@@ -2,7 +2,7 @@
 
 use crate::authenticate::Authenticate;
 use crate::challenge::Challenge;
-use crate::flags::{CharacterSet, NlAuthFlags};
+use crate::flags::CharacterSet;
 use crate::negotiate::Negotiate;
 use crate::nl_auth::NlAuth;
 use crate::output::{Count, Cursor, Sink};
@@ -65,7 +65,7 @@ pub(crate) fn write_line<L: Line>(line: &L, out: &mut [u8]) -> Result<usize, Ref
     Ok(cursor.len())
 }
 
-/// Something that has a log line.
+/// Something that has a log line, or a text in one.
 pub(crate) trait Line {
     /// A length that the line does not pass.
     fn length_limit(&self) -> usize;
@@ -163,21 +163,19 @@ impl Line for Negotiate<'_> {
 /// NL_AUTH bits".
 impl Line for NlAuth<'_> {
     fn length_limit(&self) -> usize {
-        limit_with(self.strings)
+        let limits = self.texts().map(|(_, text)| text.length_limit());
+        limits.fold(WORDS_LIMIT, usize::saturating_add)
     }
 
     fn put<S: Sink>(&self, sink: &mut S) {
-        const WORDS: [&[u8; 3]; 5] = [b" a=", b" b=", b" c=", b" d=", b" e="];
         sink.put(b"nl type=");
         put_decimal(sink, self.message_type as usize);
         sink.put(b" flags=");
         put_hex(sink, self.flags.bits().to_be_bytes());
-        let words = WORDS.iter().zip(NlAuthFlags::STRINGS);
-        for ((word, (bit, _)), string) in words.zip(&self.strings) {
-            if self.flags.has(bit) {
-                sink.put(*word);
-                put_name(sink, CharacterSet::Oem, string.bytes);
-            }
+        for (number, text) in self.texts() {
+            // a to e
+            sink.put(&[b' ', number.saturating_add(b'a' - 1), b'=']);
+            text.put(sink);
         }
         sink.put(b"\n");
     }
@@ -219,7 +217,7 @@ fn limit_with<const N: usize>(names: [Field<'_>; N]) -> usize {
 /// "In N a unit 0x21 to 0x7E other than backslash stands for itself. Any other
 /// 16-bit unit is `\u` and four hex digits, any other byte `\x` and two, upper
 /// case."
-fn put_name<S: Sink>(sink: &mut S, set: CharacterSet, name: &[u8]) {
+pub(crate) fn put_name<S: Sink>(sink: &mut S, set: CharacterSet, name: &[u8]) {
     match set {
         CharacterSet::Unicode => put_units(
             sink,
@@ -232,16 +230,21 @@ fn put_name<S: Sink>(sink: &mut S, set: CharacterSet, name: &[u8]) {
                 [b'\\', b'u', a, b, c, d]
             },
         ),
-        CharacterSet::Oem => put_units(
-            sink,
-            name,
-            |&byte| is_plain(byte).then_some(byte),
-            |&byte| {
-                let [a, b] = hex_digits(byte);
-                [b'\\', b'x', a, b]
-            },
-        ),
+        CharacterSet::Oem => put_bytes(sink, name, is_plain),
     }
+}
+
+/// Puts bytes, those that aren't plain as escapes.
+pub(crate) fn put_bytes<S: Sink>(sink: &mut S, bytes: &[u8], plain: impl Fn(u8) -> bool) {
+    put_units(
+        sink,
+        bytes,
+        |&byte| plain(byte).then_some(byte),
+        |&byte| {
+            let [a, b] = hex_digits(byte);
+            [b'\\', b'x', a, b]
+        },
+    );
 }
 
 /// Puts the units that stand for themselves run by run, and each unit that
@@ -262,7 +265,7 @@ fn put_units<S: Sink, Unit, const N: usize>(
     }
 }
 
-const fn is_plain(byte: u8) -> bool {
+pub(crate) const fn is_plain(byte: u8) -> bool {
     matches!(byte, 0x21..=0x7E) && byte != b'\\'
 }
 

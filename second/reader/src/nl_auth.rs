@@ -1,8 +1,9 @@
 //! Reading NL_AUTH.
 
+use crate::dns_name::{DnsName, Ended};
 use crate::flags::NlAuthFlags;
 use crate::refusal::{Reason, Refusal};
-use crate::wire::{check_length, number_at, Field};
+use crate::wire::{check_length, number_at};
 
 /// The MessageType of an NL_AUTH message.
 #[derive(Clone, Copy, Debug, PartialEq, Eq)]
@@ -14,6 +15,49 @@ pub enum NlAuthType {
     Response = 1,
 }
 
+/// A string of an NL_AUTH request. One under a clear bit, and each one of a
+/// response, is empty at place 0.
+#[derive(Clone, Copy, Debug, Default, PartialEq, Eq)]
+pub struct NlAuthString<'a> {
+    /// Where the string begins, from the start of the message.
+    pub place: usize,
+    /// The string's own bytes: of A and B those before the zero byte, of C, D
+    /// and E all "to where the next starts".
+    pub bytes: &'a [u8],
+    /// How many jumps its name takes: none in A and B.
+    pub jumps: usize,
+}
+
+impl<'a> NlAuthString<'a> {
+    /// A or B, "up to and without its first zero byte", and the place of the
+    /// buffer where the next string starts.
+    fn plain(buffer: &'a [u8], start: usize) -> Result<(Self, usize), Reason> {
+        let left = buffer.get(start..).unwrap_or_default();
+        let zero = left.iter().position(|&byte| byte == 0);
+        let bytes = zero
+            .and_then(|zero| left.get(..zero))
+            .ok_or(Reason::StringNotEnded)?;
+        let next = start.saturating_add(bytes.len()).saturating_add(1);
+        let string = Self {
+            place: NlAuth::FIXED.saturating_add(start),
+            bytes,
+            jumps: 0,
+        };
+        Ok((string, next))
+    }
+
+    /// C, D or E. "A string's own bytes run to where the next starts."
+    fn dns(buffer: &'a [u8], start: usize) -> Result<(Self, usize), Reason> {
+        let Ended { jumps, next } = DnsName { buffer, start }.read()?;
+        let string = Self {
+            place: NlAuth::FIXED.saturating_add(start),
+            bytes: buffer.get(start..next).unwrap_or_default(),
+            jumps,
+        };
+        Ok((string, next))
+    }
+}
+
 /// An NL_AUTH message that every check holds for.
 #[derive(Clone, Copy, Debug, PartialEq, Eq)]
 pub struct NlAuth<'a> {
@@ -21,17 +65,26 @@ pub struct NlAuth<'a> {
     pub message_type: NlAuthType,
     /// Bits A to E, none in a response: "a response's flags are ignored".
     pub flags: NlAuthFlags,
-    /// The strings of bits A to E. One under a clear bit, and each one of a
-    /// response, is empty at place 0.
-    pub strings: [Field<'a>; 5],
+    /// The strings of bits A to E.
+    pub strings: [NlAuthString<'a>; 5],
+    /// What the names jump in.
+    buffer: &'a [u8],
+}
+
+/// What a string is.
+pub(crate) enum Text<'a> {
+    /// A or B.
+    Plain(&'a [u8]),
+    /// C, D or E.
+    Name(DnsName<'a>),
 }
 
 impl<'a> NlAuth<'a> {
     /// "Type at 0, flags at 4, buffer from 8."
     pub(crate) const FIXED: usize = 8;
 
-    /// Reads `message` by checks 1, 2 and 4, then 14 to 16 for a request or
-    /// 17 for a response.
+    /// Reads `message` by checks 1, 2 and 4, then for a request 14, for each
+    /// string 15 and 50 to 53, and 16, or 17 for a response.
     pub fn read(message: &'a [u8]) -> Result<Self, Refusal> {
         check_length(message)?;
         let (fixed, buffer) = message
@@ -47,52 +100,63 @@ impl<'a> NlAuth<'a> {
         }
     }
 
-    /// "A request holds one string for each set bit, A first, each up to and
-    /// without its first zero byte."
+    /// "A request holds one string for each set bit, A first." Refuses "string by
+    /// string and before 16".
     fn read_request(flags: NlAuthFlags, buffer: &'a [u8]) -> Result<Self, Refusal> {
         if flags.is_empty() {
             return Err(Reason::NoStrings.of_message());
         }
-        let mut strings = [Field::default(); 5];
-        let mut place = Self::FIXED;
-        let mut rest = buffer;
+        let mut strings = [NlAuthString::default(); 5];
+        let mut at = 0;
         for (string, (bit, number)) in strings.iter_mut().zip(NlAuthFlags::STRINGS) {
             if !flags.has(bit) {
                 continue;
             }
-            let (bytes, after) =
-                split_at_zero(rest).ok_or(Reason::StringNotEnded.of_field(number))?;
-            *string = Field { place, bytes };
-            place = place.saturating_add(bytes.len()).saturating_add(1);
-            rest = after;
+            let read = if bit & NlAuthFlags::DNS_NAMES == 0 {
+                NlAuthString::plain(buffer, at)
+            } else {
+                NlAuthString::dns(buffer, at)
+            };
+            (*string, at) = read.map_err(|reason| reason.of_field(number))?;
         }
-        if !rest.is_empty() {
+        if at < buffer.len() {
             return Err(Reason::BytesAfterStrings.of_message());
         }
         Ok(Self {
             message_type: NlAuthType::Request,
             flags,
             strings,
+            buffer,
+        })
+    }
+
+    /// The strings that are there, each with its number.
+    pub(crate) fn texts(&self) -> impl Iterator<Item = (u8, Text<'a>)> + '_ {
+        let strings = NlAuthFlags::STRINGS.into_iter().zip(&self.strings);
+        let there = strings.filter(|((bit, _), _)| self.flags.has(*bit));
+        there.map(|((bit, number), string)| {
+            let text = if bit & NlAuthFlags::DNS_NAMES == 0 {
+                Text::Plain(string.bytes)
+            } else {
+                Text::Name(DnsName {
+                    buffer: self.buffer,
+                    start: string.place.saturating_sub(Self::FIXED),
+                })
+            };
+            (number, text)
         })
     }
 
     /// "A response's flags are ignored and its buffer is one zero byte."
-    fn read_response(buffer: &[u8]) -> Result<Self, Refusal> {
+    fn read_response(buffer: &'a [u8]) -> Result<Self, Refusal> {
         if buffer != [0] {
             return Err(Reason::ResponseBuffer.of_message());
         }
         Ok(Self {
             message_type: NlAuthType::Response,
             flags: NlAuthFlags::default(),
-            strings: [Field::default(); 5],
+            strings: [NlAuthString::default(); 5],
+            buffer,
         })
     }
-}
-
-/// What stands before the first zero byte and what stands after it.
-fn split_at_zero(bytes: &[u8]) -> Option<(&[u8], &[u8])> {
-    let zero = bytes.iter().position(|&byte| byte == 0)?;
-    let (string, rest) = bytes.split_at_checked(zero)?;
-    let (_, after) = rest.split_first()?;
-    Some((string, after))
 }

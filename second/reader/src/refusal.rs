@@ -35,7 +35,8 @@ pub enum Reason {
     PairSize = 13,
     /// "NL_AUTH request with no bit A to E"
     NoStrings = 14,
-    /// "a string without its zero byte"
+    /// "a string without its zero byte", in C, D and E "a length byte, label or
+    /// jump cut short"
     StringNotEnded = 15,
     /// "bytes after the last string"
     BytesAfterStrings = 16,
@@ -56,6 +57,14 @@ pub enum Reason {
     NoRoom = 33,
     /// "an NL_AUTH string to write holds a zero byte"
     WrittenZeroByte = 34,
+    /// "other top bits", in writing "an empty label or one over 63"
+    WrongLabel = 50,
+    /// "a place not before"
+    JumpNotBack = 51,
+    /// "a seventeenth jump"
+    TooManyJumps = 52,
+    /// "over 255"
+    NameTooLong = 53,
 }
 
 impl Reason {

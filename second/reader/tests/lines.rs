@@ -104,11 +104,14 @@ fn every_word_of_a_nego_line() {
 #[test]
 fn every_word_of_an_nl_line() {
     assert_eq!(
-        line(nl_auth_line, &nl(0, 0x1F, b"A\0\0c.d\0\\\0\xE9\0")),
-        "nl type=0 flags=0000001F a=A b= c=c.d d=\\x5C e=\\xE9\n"
+        line(
+            nl_auth_line,
+            &nl(0, 0x1F, b"A.\0\0\x01c\x01d\0\x02\\.\0\x01\xE9\0")
+        ),
+        "nl type=0 flags=0000001F a=A. b= c=c.d d=\\x5C\\x2E e=\\xE9\n"
     );
     assert_eq!(
-        line(nl_auth_line, &nl(0, 0xFFFF_FFF4, b"c\0e\0")),
+        line(nl_auth_line, &nl(0, 0xFFFF_FFF4, b"\x01c\0\x01e\0")),
         "nl type=0 flags=00000014 c=c e=e\n"
     );
     assert_eq!(
@@ -171,8 +174,12 @@ fn refused_lines() {
     let message = challenge(UNICODE | TARGET_INFO, b"", &[0; 3]);
     assert_eq!(line(ntlm_line, &message), "refused 11 field=2 at=56\n");
     assert_eq!(
-        line(nl_auth_line, &nl(0, 0x10, b"x")),
+        line(nl_auth_line, &nl(0, 0x10, b"\x02x")),
         "refused 15 field=5 at=0\n"
+    );
+    assert_eq!(
+        line(nl_auth_line, &nl(0, 0x08, b"x\0")),
+        "refused 50 field=4 at=0\n"
     );
 }
 

@@ -7,10 +7,10 @@ use std::ops::Range;
 use common::*;
 use reader::{
     answer, authenticate_line, challenge_line, domain_to_send, negotiate_line, nl_auth_line,
-    ntlm_line, write_authenticate, write_negotiate, write_nl_auth_request, write_response_pairs,
-    Account, Authenticate, AuthenticateParts, AvId, Challenge, Negotiate, NegotiateFlags,
-    NegotiateParts, NlAuth, NlAuthFlags, Policy, Refusal, ResponsePairs, Secrets, Settings,
-    TargetInfo,
+    nl_auth_name, ntlm_line, write_authenticate, write_negotiate, write_nl_auth_request,
+    write_response_pairs, Account, Authenticate, AuthenticateParts, AvId, Challenge, Negotiate,
+    NegotiateFlags, NegotiateParts, NlAuth, NlAuthFlags, Policy, Refusal, ResponsePairs, Secrets,
+    Settings, TargetInfo,
 };
 
 /// SplitMix64.
@@ -131,15 +131,36 @@ impl Random {
         message
     }
 
+    /// Puts a DNS name behind a buffer, often one that ends in a jump.
+    fn dns_name(&mut self, buffer: &mut Vec<u8>) {
+        let start = buffer.len();
+        for _ in 0..self.below(4) {
+            let len = self.below(6) + 1;
+            buffer.push(len as u8);
+            buffer.extend(self.bytes(len));
+        }
+        if start > 0 && self.coin() {
+            let place = self.below(start) as u16;
+            buffer.extend((0xC000 | place).to_be_bytes());
+        } else {
+            buffer.push(0);
+        }
+    }
+
     /// An NL_AUTH message, more often taken than not.
     fn nl_auth(&mut self) -> Vec<u8> {
         let flags = self.next() as u32;
         let mut buffer = Vec::new();
         for bit in 0..5 {
-            if flags >> bit & 1 == 1 {
+            if flags >> bit & 1 == 0 {
+                continue;
+            }
+            if bit < 2 {
                 let len = self.below(6);
                 buffer.extend(self.bytes(len).iter().map(|byte| byte | 1));
                 buffer.push(0);
+            } else {
+                self.dns_name(&mut buffer);
             }
         }
         if self.below(10) == 0 {
@@ -202,6 +223,8 @@ fn no_bytes_make_a_call_panic() {
             let room = random.below(200);
             let _ = call(&message, &mut out[..room]);
         }
+        let (which, room) = (random.below(7) as u32, random.below(20));
+        let _ = nl_auth_name(&message, which, &mut out[..room]);
         let (part, other) = message.split_at(random.below(message.len() + 1));
         let secrets = Secrets {
             lm: part,

@@ -497,13 +497,17 @@ fn refusals_14_to_17_in_nl_auth() {
     let bits = [0x1, 0x2, 0x4, 0x8, 0x10];
     for (bit, number) in bits.into_iter().zip(1..) {
         assert_eq!(refused(NlAuth::read(&nl(0, bit, b""))), (15, number));
-        assert_eq!(refused(NlAuth::read(&nl(0, bit, b"x"))), (15, number));
-        assert_eq!(refused(NlAuth::read(&nl(0, bit, b"x\0y"))), (16, 0));
-        assert_eq!(refused(NlAuth::read(&nl(0, bit, b"x\0\0"))), (16, 0));
-        assert!(NlAuth::read(&nl(0, bit, b"x\0")).is_ok());
+        // A string and a name alike.
+        assert_eq!(refused(NlAuth::read(&nl(0, bit, b"\x01x"))), (15, number));
+        assert_eq!(refused(NlAuth::read(&nl(0, bit, b"\x01x\0y"))), (16, 0));
+        assert_eq!(refused(NlAuth::read(&nl(0, bit, b"\x01x\0\0"))), (16, 0));
+        assert!(NlAuth::read(&nl(0, bit, b"\x01x\0")).is_ok());
     }
-    assert_eq!(refused(NlAuth::read(&nl(0, 0x15, b"a\0c\0e"))), (15, 5));
-    assert_eq!(refused(NlAuth::read(&nl(0, 0x1F, b"a\0b\0c"))), (15, 3));
+    assert_eq!(
+        refused(NlAuth::read(&nl(0, 0x15, b"a\0\x01c\0\x01e"))),
+        (15, 5)
+    );
+    assert_eq!(refused(NlAuth::read(&nl(0, 0x1F, b"a\0b\0\x01c"))), (15, 3));
     for buffer in [b"".as_slice(), b"\x01", b"\0\0", b"x\0"] {
         assert_eq!(refused(NlAuth::read(&nl(1, 1, buffer))), (17, 0));
     }
@@ -512,7 +516,7 @@ fn refusals_14_to_17_in_nl_auth() {
 
 #[test]
 fn an_nl_auth_request_reads_as_its_strings() {
-    let message = nl(0, 0x1B, b"DOM\0BOX7\0host.example\0\0");
+    let message = nl(0, 0x1B, b"DOM\0BOX7\0\x04host\x07example\0\0");
     let read = NlAuth::read(&message).unwrap();
     assert_eq!(read.message_type, NlAuthType::Request);
     assert_eq!(read.flags.bits(), 0x1B);
@@ -521,8 +525,8 @@ fn an_nl_auth_request_reads_as_its_strings() {
         (8, b"DOM"),
         (12, b"BOX7"),
         (0, b""),
-        (17, b"host.example"),
-        (30, b""),
+        (17, b"\x04host\x07example\0"),
+        (31, b"\0"),
     ];
     assert_eq!(strings, expected);
 }

@@ -203,10 +203,10 @@ fn point_12_nl_auth_checks_in_order() {
 
 #[test]
 fn point_13_places_of_strings() {
-    let message = nl(0, 0x15, b"\0c\0\0");
+    let message = nl(0, 0x15, b"\0\x01c\0\0");
     let read = NlAuth::read(&message).unwrap();
     let places = read.strings.map(|string| string.place);
-    assert_eq!(places, [8, 0, 9, 0, 11]);
+    assert_eq!(places, [8, 0, 9, 0, 12]);
     let response = nl(1, 0x1F, b"\0");
     let read = NlAuth::read(&response).unwrap();
     for string in read.strings {
@@ -371,7 +371,7 @@ fn point_23_escapes_by_character_set() {
         assert!(line(authenticate_line, &message).contains(word));
     }
     assert_eq!(
-        line(nl_auth_line, &nl(0, 8, b"\xC3\xA9\x7F\0")),
+        line(nl_auth_line, &nl(0, 8, b"\x03\xC3\xA9\x7F\0")),
         "nl type=0 flags=00000008 d=\\xC3\\xA9\\x7F\n"
     );
 }

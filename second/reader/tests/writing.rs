@@ -4,9 +4,9 @@ mod common;
 
 use common::*;
 use reader::{
-    write_authenticate, write_negotiate, write_nl_auth_request, write_nl_auth_response,
-    Authenticate, AuthenticateParts, Negotiate, NegotiateFlags, NegotiateParts, NlAuth,
-    NlAuthFlags, NlAuthType, MAX_MESSAGE,
+    nl_auth_name, write_authenticate, write_negotiate, write_nl_auth_request,
+    write_nl_auth_response, Authenticate, AuthenticateParts, Negotiate, NegotiateFlags,
+    NegotiateParts, NlAuth, NlAuthFlags, NlAuthType, MAX_MESSAGE,
 };
 
 fn parts(flags: u32) -> AuthenticateParts<'static> {
@@ -361,9 +361,9 @@ const NAMES: [&[u8]; 5] = [b"DOM", b"BOX7", b"", b"box7.example", b"box"];
 
 #[test]
 fn every_byte_of_an_nl_auth_request() {
-    let expected = nl(0, 0x1F, b"DOM\0BOX7\0\0box7.example\0box\0");
+    let expected = nl(0, 0x1F, b"DOM\0BOX7\0\0\x04box7\x07example\0\x03box\0");
     assert_eq!(request(0x1F, &NAMES, 100), Ok(expected));
-    let expected = nl(0, 0x0A, b"BOX7\0box7.example\0");
+    let expected = nl(0, 0x0A, b"BOX7\0\x04box7\x07example\0");
     assert_eq!(request(0xFFFF_FFEA, &NAMES, 100), Ok(expected));
 }
 
@@ -374,9 +374,11 @@ fn an_nl_auth_request_reads_back() {
         let read = NlAuth::read(&message).unwrap();
         assert_eq!(read.message_type, NlAuthType::Request);
         assert_eq!(read.flags.bits(), flags);
-        for (at, string) in read.strings.iter().enumerate() {
-            let expected: &[u8] = if flags & 1 << at != 0 { NAMES[at] } else { b"" };
-            assert_eq!(string.bytes, expected);
+        for (which, text) in (1..).zip(NAMES) {
+            let there = flags & 1 << (which - 1) != 0;
+            let mut out = [0; 100];
+            let len = nl_auth_name(&message, which, &mut out).unwrap();
+            assert_eq!(&out[..len], if there { text } else { b"" });
         }
     }
 }
@@ -384,12 +386,12 @@ fn an_nl_auth_request_reads_back() {
 #[test]
 fn an_nl_auth_request_is_refused_by_14_34_30_33() {
     let vast = vec![b'x'; 70_000];
-    let all: [&[u8]; 5] = [b"", b"a\0", &vast, b"\0", b""];
+    let all: [&[u8]; 5] = [&vast, b"a\0", b"", b"\0", b""];
     assert_eq!(request(0, &all, 0), Err((14, 0)));
-    assert_eq!(request(0x0E, &all, 0), Err((34, 2)));
-    assert_eq!(request(0x0C, &all, 0), Err((34, 4)));
-    assert_eq!(request(0x04, &all, 0), Err((30, 0)));
-    assert_eq!(request(0x01, &all, 0), Err((33, 0)));
+    assert_eq!(request(0x0B, &all, 0), Err((34, 2)));
+    assert_eq!(request(0x09, &all, 0), Err((34, 4)));
+    assert_eq!(request(0x01, &all, 0), Err((30, 0)));
+    assert_eq!(request(0x04, &all, 0), Err((33, 0)));
     for (bit, number) in [1, 2, 4, 8, 16].into_iter().zip(1..) {
         assert_eq!(request(bit, &[b"\0"; 5], 100), Err((34, number)));
     }

@@ -49,6 +49,7 @@ fn library(call: &Call<'_>, out: &mut [u8], numbers: &mut [u64]) -> u64 {
         Call::ReadServerNames { message } => raw::read_server_names(message, numbers),
         Call::ReadNegotiate { message } => raw::read_negotiate(message, numbers),
         Call::ReadNlAuth { message } => raw::read_nl_auth(message, numbers),
+        Call::NlAuthName { message, which } => raw::nl_auth_name(message, which, out),
         Call::FieldBytes {
             message,
             offset,

@@ -117,6 +117,10 @@ pub enum Call<'a> {
     ReadNlAuth {
         message: &'a [u8],
     },
+    NlAuthName {
+        message: &'a [u8],
+        which: u32,
+    },
     FieldBytes {
         message: &'a [u8],
         offset: u32,
@@ -176,13 +180,14 @@ pub enum Call<'a> {
 
 /// The names of the calls, without `dialtable_`, by [`Call::index`]; those of
 /// `crates/thin_calls` last.
-pub const NAMES: [&str; 32] = [
+pub const NAMES: [&str; 33] = [
     "read_authenticate",
     "read_challenge",
     "read_timestamp",
     "read_server_names",
     "read_negotiate",
     "read_nl_auth",
+    "nl_auth_name",
     "field_bytes",
     "check_pairs",
     "count_pairs",
@@ -239,6 +244,7 @@ impl Call<'_> {
             Self::ReadServerNames { .. } => const { place_of("read_server_names") },
             Self::ReadNegotiate { .. } => const { place_of("read_negotiate") },
             Self::ReadNlAuth { .. } => const { place_of("read_nl_auth") },
+            Self::NlAuthName { .. } => const { place_of("nl_auth_name") },
             Self::FieldBytes { .. } => const { place_of("field_bytes") },
             Self::CheckPairs { .. } => const { place_of("check_pairs") },
             Self::CountPairs { .. } => const { place_of("count_pairs") },
@@ -266,7 +272,7 @@ impl Call<'_> {
             Self::ReadAuthenticate { .. } => 14,
             Self::ReadChallenge { .. } | Self::ReadNegotiate { .. } => 5,
             Self::ReadTimestamp { .. } | Self::ReadServerNames { .. } => 2,
-            Self::ReadNlAuth { .. } => 12,
+            Self::ReadNlAuth { .. } => 15,
             Self::CountPairs { .. } => 1,
             Self::FindPair { .. } | Self::Decide { .. } => 3,
             Self::NextPair { .. } => 5,
@@ -306,6 +312,7 @@ impl Call<'_> {
             | Self::ReadServerNames { message }
             | Self::ReadNegotiate { message }
             | Self::ReadNlAuth { message }
+            | Self::NlAuthName { message, .. }
             | Self::FieldBytes { message, .. }
             | Self::Line { message, .. } => vec![("message", message)],
             Self::CheckPairs { list }
@@ -344,6 +351,7 @@ impl Call<'_> {
     /// The other inputs.
     fn settings(&self) -> String {
         match self {
+            Self::NlAuthName { which, .. } => format!(" which={which}"),
             Self::FieldBytes { offset, len, .. } => format!(" offset={offset} len={len}"),
             Self::FindPair { id, .. } => format!(" id={id}"),
             Self::NextPair { at, .. } => format!(" at={at}"),

@@ -6,7 +6,7 @@ use crate::names::{name, string, Set};
 use crate::random::Random;
 use crate::wire::{damage, offsets, set_of, FIELD_LENGTHS, LONG, MAX_MESSAGE};
 use crate::wire::{KEY_EXCH, OEM, UNICODE};
-use crate::{authenticate, challenge, negotiate, nl_auth, pairs};
+use crate::{authenticate, challenge, dns_names, negotiate, nl_auth, pairs};
 
 use super::call::Parts;
 
@@ -300,21 +300,26 @@ pub fn nl_auth_flags(random: &mut Random) -> u32 {
     }
 }
 
-/// Five strings for an NL_AUTH request, mostly such as are accepted.
+/// Five strings for an NL_AUTH request, mostly such as are accepted: A and B,
+/// then the texts of three names.
 pub fn strings(random: &mut Random) -> [Vec<u8>; 5] {
-    let mut strings: [Vec<u8>; 5] = std::array::from_fn(|_| {
-        let len = random.pick(&[0, 1, 4, 9, 20]);
-        let mut text = string(random, len);
-        if random.one_in(20) {
-            let at = random.below(len + 1);
+    let mut strings: [Vec<u8>; 5] = std::array::from_fn(|which| {
+        let mut text = if which < 2 {
+            let len = random.pick(&[0, 1, 4, 9, 20]);
+            string(random, len)
+        } else {
+            dns_names::drawn_text(random)
+        };
+        if random.one_in(24) {
+            let at = random.below(text.len() + 1);
             text.insert(at, 0);
         }
         text
     });
     if random.one_in(100) {
         let total: usize = strings.iter().map(Vec::len).sum();
-        let chosen = random.below(5);
-        let len = strings[chosen].len() + random.pick(&LONG) - 8 - random.below(6) - total;
+        let chosen = random.below(2);
+        let len = strings[chosen].len() + random.pick(&LONG) - 8 - random.below(9) - total;
         strings[chosen].resize(len, b'y');
     }
     strings

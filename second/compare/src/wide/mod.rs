@@ -126,6 +126,7 @@ impl<L: Library> Run<L> {
 
     fn calls(&mut self, message: &[u8]) {
         self.readings(message);
+        self.names(message);
         self.fields(message);
         let list = inputs::list(&mut self.random, message);
         self.pairs(&list);
@@ -171,6 +172,14 @@ impl<L: Library> Run<L> {
             2 => self.random.below(needed + 1),
             3 => needed,
             _ => needed + self.random.between(1, 6),
+        }
+    }
+
+    /// The text of each string that may have jumps, and of any other number.
+    fn names(&mut self, message: &[u8]) {
+        let other = self.random.pick(&[0, 1, 1, 2, 6, 0x103, u32::MAX]);
+        for which in [3, 4, 5, other] {
+            self.hold_rooms(&Call::NlAuthName { message, which });
         }
     }
 
@@ -259,13 +268,17 @@ impl<L: Library> Run<L> {
             workstation: &workstation,
         };
         self.hold_rooms(&Call::WriteNegotiate { parts });
+        self.nl_auth_request();
+        self.hold_rooms(&Call::WriteNlAuthResponse);
+    }
+
+    fn nl_auth_request(&mut self) {
         let flags = inputs::nl_auth_flags(&mut self.random);
         let strings = inputs::strings(&mut self.random);
         self.hold_rooms(&Call::WriteNlAuthRequest {
             flags,
             strings: strings.each_ref().map(Vec::as_slice),
         });
-        self.hold_rooms(&Call::WriteNlAuthResponse);
     }
 
     fn answering(&mut self, challenge: &[u8]) {

@@ -2,8 +2,8 @@
 
 use reader::{
     answer, answer_for_bench, answer_for_old_servers, answer_for_relay, authenticate_line,
-    challenge_line, domain_to_send, field_bytes, negotiate_line, nl_auth_line, ntlm_line,
-    write_authenticate, write_negotiate, write_nl_auth_request, write_nl_auth_response,
+    challenge_line, domain_to_send, field_bytes, negotiate_line, nl_auth_line, nl_auth_name,
+    ntlm_line, write_authenticate, write_negotiate, write_nl_auth_request, write_nl_auth_response,
     write_response_pairs, Answer, Authenticate, AuthenticateParts, AvId, Challenge, Field,
     Negotiate, NegotiateFlags, NlAuth, NlAuthFlags, Policy, Program, Reason, Refusal,
     ResponsePairs, Settings, TargetInfo,
@@ -32,6 +32,7 @@ fn call_of(call: &Call<'_>, out: &mut [u8], numbers: &mut [u64]) -> Result<usize
         Call::ReadServerNames { message } => read_server_names(message, numbers),
         Call::ReadNegotiate { message } => read_negotiate(message, numbers),
         Call::ReadNlAuth { message } => read_nl_auth(message, numbers),
+        Call::NlAuthName { message, which } => nl_auth_name(message, which, out),
         Call::FieldBytes {
             message,
             offset,
@@ -133,7 +134,11 @@ fn read_nl_auth(message: &[u8], numbers: &mut [u64]) -> Result<usize, Refusal> {
     let read = NlAuth::read(message)?;
     let head = [read.message_type as u64, u64::from(read.flags.bits())];
     put(numbers, &head);
-    put_fields(&mut numbers[2..], &read.strings);
+    for (numbers, string) in numbers[2..12].chunks_exact_mut(2).zip(read.strings) {
+        put(numbers, &[string.place as u64, string.bytes.len() as u64]);
+    }
+    let [_, _, c, d, e] = read.strings;
+    put(&mut numbers[12..], &[c, d, e].map(|name| name.jumps as u64));
     Ok(0)
 }
 

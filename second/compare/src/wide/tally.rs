@@ -18,7 +18,7 @@ const OF_WRITING: [Refusals; 6] = [
 
 /// Numbers, their fields and the readings and writings that can refuse by them:
 /// each must have done so itself, since kinds of message share numbers.
-const OF_CALLS: [(&[u8], &[u8], &[&str]); 19] = [
+const OF_CALLS: [(&[u8], &[u8], &[&str]); 21] = [
     (
         &[1, 2, 4, 33],
         &[0],
@@ -27,6 +27,7 @@ const OF_CALLS: [(&[u8], &[u8], &[&str]); 19] = [
             "read_challenge",
             "read_negotiate",
             "read_nl_auth",
+            "nl_auth_name",
             "write_response_pairs",
         ],
     ),
@@ -67,8 +68,13 @@ const OF_CALLS: [(&[u8], &[u8], &[&str]); 19] = [
             "respond_for_relay",
         ],
     ),
-    (&[14, 16, 17], &[0], &["read_nl_auth"]),
-    (&[15], &[1, 2, 3, 4, 5], &["read_nl_auth"]),
+    (&[14, 16, 17], &[0], &["read_nl_auth", "nl_auth_name"]),
+    (&[15], &[1, 2, 3, 4, 5], &["read_nl_auth", "nl_auth_name"]),
+    (
+        &[50, 51, 52, 53],
+        &[3, 4, 5],
+        &["read_nl_auth", "nl_auth_name"],
+    ),
     (
         &[5, 30, 33],
         &[0],
@@ -78,6 +84,7 @@ const OF_CALLS: [(&[u8], &[u8], &[&str]); 19] = [
     (&[32], &[6], &["write_authenticate"]),
     (&[14, 30, 33], &[0], &["write_nl_auth_request"]),
     (&[34], &[1, 2, 3, 4, 5], &["write_nl_auth_request"]),
+    (&[50, 53], &[3, 4, 5], &["write_nl_auth_request"]),
     (&[33], &[0], &["write_nl_auth_response"]),
     (&[31], &[2], &["write_response_pairs"]),
     (&[30], &[0], &["write_response_pairs"]),
@@ -162,7 +169,7 @@ fn refusals() -> Vec<Refusals> {
 }
 
 /// One more than the highest number, and than the highest field.
-const NUMBERS: usize = 35;
+const NUMBERS: usize = 54;
 const FIELDS: usize = 7;
 
 /// The counts of one call.

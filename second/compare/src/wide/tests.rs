@@ -1,10 +1,13 @@
+mod dns_names;
 mod response_pairs;
 
 use std::io::sink;
 
 use reader::NegotiateParts;
 
-use super::call::{place, refusal, refused, refused_at, Call, Line, Respond, Thin, FARTHEST, NAMES};
+use super::call::{
+    place, refusal, refused, refused_at, Call, Line, Respond, Thin, FARTHEST, NAMES,
+};
 use super::hold::{Difference, Library};
 use super::{run_on, second, Report};
 
@@ -60,7 +63,7 @@ fn a_difference_is_printed_whole_and_counted() {
     let out = String::from_utf8(out).expect("text");
     assert!(out.starts_with("1 cases from seed 5, "));
     let told =
-        "\nDIFFERENT: read_nl_auth message=02000000000000005C\n    lent: 0 bytes, 12 numbers\n    \
+        "\nDIFFERENT: read_nl_auth message=02000000000000005C\n    lent: 0 bytes, 15 numbers\n    \
                 proved: refused 16 field=0 at=0, numbers [";
     assert!(out.contains(told), "{out}");
     assert!(out.contains("\n    second: refused 4 field=0 at=0, numbers ["));

@@ -165,8 +165,20 @@ pub type LineCall = fn(&[u8], &mut [u8]) -> Result<usize, Refusal>;
 
 /// The line of a line call with room enough for any.
 pub fn line(call: LineCall, message: &[u8]) -> String {
-    // Each byte may stand in three names and takes up to 4 characters.
-    let mut room = vec![0; 128 + 12 * message.len()];
+    // Each byte may stand in three names and takes up to 4 characters; a DNS
+    // name, which may jump to bytes of others, has at most 255 of them.
+    let mut room = vec![0; 128 + 12 * message.len() + 12 * 255];
     let len = call(message, &mut room).expect("room enough");
     String::from_utf8(room[..len].to_vec()).expect("ASCII")
+}
+
+/// A DNS name without jumps: each label after its length, and the zero byte.
+pub fn dns(labels: &[&[u8]]) -> Vec<u8> {
+    let mut bytes = Vec::new();
+    for label in labels {
+        bytes.push(label.len() as u8);
+        bytes.extend(*label);
+    }
+    bytes.push(0);
+    bytes
 }
