@@ -179,7 +179,11 @@ fn what_stands_above_the_reader_hands_the_place_on() {
             let answer = answer(&message, &settings, 5, &secrets, &mut out);
             assert_eq!(refused_at(answer), expected);
         }
-        for call in [answer_for_bench, answer_for_old_servers, answer_for_relay] {
+        for demanded in [false, true] {
+            let answer = answer_for_bench(&message, &account, 5, demanded, &secrets, &mut out);
+            assert_eq!(refused_at(answer), expected);
+        }
+        for call in [answer_for_old_servers, answer_for_relay] {
             let answer = call(&message, &account, 5, &secrets, &mut out);
             assert_eq!(refused_at(answer), expected);
         }
