@@ -27,3 +27,4 @@ pub mod Printed
 pub mod ResponsePairs
 pub mod DnsName
 pub mod DnsText
+pub mod StringShown
