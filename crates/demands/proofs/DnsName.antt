@@ -1,15 +1,16 @@
 -- Names by RFC 1035, taken and refused exactly; and so there is one reading of a name only.
 use Prim.Native.Nat.{ℕ, _≤_, _<_}
 use mathlib.Core.Path.{_≡_, refl, sym, ap, _∙_, subst}
+use mathlib.Core.Logic.{_⊎_, inl, inr}
 use mathlib.Core.List.{List}
 use lib.ListN.{length}
 use Rattle.dns_name.specs.declared.Fault.{Fault}
 use Rattle.dns_name.specs.declared.Reading.{Reading}
 use Rattle.dns_name.specs.declared.Reading.the-variants.{Taken, Refused}
-use Rattle.dns_name.specs.DnsName.{readName, numberOf}
+use Rattle.dns_name.specs.DnsName.{readName, labelsAt, numberOf}
 use Rattle.dns_name.specs.Rfc1035.{NameAt, FirstFault}
 use Rattle.dns_name.proofs.Exact.{taken, is-taken, refused, is-refused, next-inside, next-after}
-use Rattle.demands.specs.DnsName.{NameRefusedWith, NameIsTaken, NameIsRefused}
+use Rattle.demands.specs.DnsName.{NameRefusedWith, NameIsTaken, NameIsRefused, NameOrFault, OneName, NameNoFault}
 
 pub name-taken : NameIsTaken
 name-taken s start ls jumps next = (
@@ -34,9 +35,26 @@ abbrev nextOf : Reading → ℕ
 nextOf (Taken m) = m .next
 nextOf (Refused e) = 0
 
+abbrev jumpsOf : Reading → ℕ
+jumpsOf (Taken m) = m .jumps
+jumpsOf (Refused e) = 0
+
+pub name-or-first-fault : NameOrFault
+name-or-first-fault s start = go (readName s start) refl where
+  go : (r : Reading) → readName s start ≡ r →
+      ((ls : List (List ℕ)) × (jumps : ℕ) × (next : ℕ) × NameAt s start ls jumps next) ⊎ ((n : ℕ) × FirstFault s start n)
+  go (Taken m) e = inl (labelsAt s start, m .jumps, m .next, taken s start m e)
+  go (Refused f) e = inr (numberOf f, refused s start f e)
+
+pub only-name : OneName
+only-name s start ls ms i j m n a b =
+    let x = is-taken s start ls i m a in
+    let y = is-taken s start ms j n b in
+    (sym (x .1) ∙ y .1, ap jumpsOf (sym (x .0) ∙ y .0), ap nextOf (sym (x .0) ∙ y .0))
+
 module _ (s : List ℕ) (start : ℕ) where
   pub one-name : (ls ms : List (List ℕ)) (i j m n : ℕ) → NameAt s start ls i m → NameAt s start ms j n → m ≡ n
-  one-name ls ms i j m n a b = ap nextOf (sym (is-taken s start ls i m a .0) ∙ is-taken s start ms j n b .0)
+  one-name ls ms i j m n a b = only-name s start ls ms i j m n a b .2
 
   pub name-or-fault : (ls : List (List ℕ)) (j m n : ℕ) → NameAt s start ls j m → FirstFault s start n → ⊥
   name-or-fault ls j m n a f =
@@ -54,3 +72,6 @@ module _ (s : List ℕ) (start : ℕ) where
         next-after s start (readName s start) (record { jumps = j; next = m }) refl e,
         next-inside s start (readName s start) (record { jumps = j; next = m }) refl e,
       )
+
+pub name-no-fault : NameNoFault
+name-no-fault s start ls jumps next n a f = name-or-fault s start ls jumps next n a f

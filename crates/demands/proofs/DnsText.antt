@@ -1,12 +1,12 @@
 -- Laws of the labels of a text: its parts between full stops are the only ones, they fail check 50 exactly when one is empty or
 -- over 63, and in the line a plain text is shown as it is.
-use Prim.Native.Nat.{ℕ, zero, suc, _+_, _≤_, _<_}
+use Prim.Native.Nat.{ℕ, zero, suc, _+_, _<_}
 use mathlib.Core.Path.{_≡_, refl, sym, ap, _∙_, subst}
 use mathlib.Core.Logic.{_⊎_, inl, inr}
 use mathlib.Core.Bool.{Bool, true, false, _&&_, not, cond}
 use mathlib.Core.List.{List, [], _∷_, _++_, append-nil}
 use native.Mathlib.Omega.{arith}
-use lib.Dec.{leb, ltb, eqb}
+use lib.Dec.{leb, eqb}
 use lib.ListN.{length, getD}
 use borrow.Author.Tests.{leb-true, leb-false, le-leb, eqb-true, eqb-false, ne-eqb}
 use Rattle.wire.specs.declared.check.Checked.the-variants.{Held, Failed}
@@ -14,7 +14,7 @@ use Rattle.wire.specs.Check.{checked, after}
 use Rattle.wire.proofs.Bools.{and-left, and-right, and-both}
 use Rattle.word.specs.Name.{plain, escape, unitText}
 use Rattle.dns_name_text.specs.DnsNameText.{byteText, labelText, partText, joined, nameText}
-use Rattle.dns_name_writing.specs.Writing.{onFirst, pieces, labelsOf, labelHolds, labelsHold, textHolds, codedHolds, nameBytes, beforeStop}
+use Rattle.dns_name_writing.specs.Writing.{onFirst, pieces, labelsOf, labelsHold, textHolds, nameBytes, beforeStop}
 use Rattle.dns_name_writing.proofs.Back.{withStops, NoStops, pieces-joined, pieces-plain, piece-then}
 use Rattle.dns_name.specs.Rfc1035.{codedLength}
 use Rattle.dns_name_writing.proofs.Holding.{size-all, bytes-empty, coded-pieces}

@@ -6,7 +6,7 @@ use Rattle.place.specs.Place.{le16, le32}
 use Rattle.head.specs.Head.{signatureHolds, readHead, kindOf}
 use Rattle.word.specs.Digits.{hexDigit, hex, decimalSize, decimal}
 use Rattle.word.specs.Name.{escape, unitText, textOf, nameText}
-use Rattle.word.specs.Words.{numberWord, nameWord, flagsWord, setWord, startText, micWord, kindWord}
+use Rattle.word.specs.Words.{numberWord, nameWord, stringWord, flagsWord, setWord, startText, micWord, kindWord}
 use Rattle.av_pairs.specs.AvPairs.{countPairs, checkPairs, pairsOf, valuesOf, stepAt, pairOf, left}
 use Rattle.challenge.specs.Challenge.{fieldsAt as challengeFieldsAt, checkEnds as challengeEnds, checkBegins as challengeBegins, checkNames as challengeNames, checkFields as challengeChecks, fieldsOf, checkInfo, readingOf as challengeReadingOf, readChallenge, timestampOf, serverNamesOf}
 use Rattle.negotiate.specs.Negotiate.{fieldsAt as negotiateFieldsAt, checkEnds as negotiateEnds, checkBegins as negotiateBegins, checkFields as negotiateChecks, readNegotiate}
@@ -14,6 +14,12 @@ use Rattle.negotiate_writing.specs.Writing.{flagsToWrite, fieldsTo as negotiate
 use Rattle.authenticate.specs.Authenticate.{fieldsAt, checkEnds, checkBegins, checkNames, checkShared, checkFields, micPresent, readingOf, readAuthenticate}
 use Rattle.authenticate_writing.specs.Writing.{fieldsTo, headsBytes, afterHeads, fixedBytes, payloadBytes, authenticateBytes, checkNamesToWrite, checkToWrite, writeAnswer, writeOut}
 use Rattle.nl_auth_writing.specs.Writing.{headBytes as nlHeadBytes, stringBytes, bytesUnder, nameUnder, utf8Bytes, requestBytes, responseBytes, checkZeros, labelsUnder, checkLabels, codedUnder, checkCoded, checkNames as checkTexts, checkRequest, requestAnswer, requestOut, responseAnswer, responseOut}
+use Rattle.nl_auth.specs.NlAuth.{readNlAuth, readRequest, readUtf8, stringUnder, nameUnder as nlNameUnder, nameAt as nlNameAt}
+use Rattle.nl_auth_text.specs.StringText.{utf8Text}
+use Rattle.dns_name.specs.DnsName.{readName, labelsAt, steps, stepAt as nameStep, labelOf, jumpAt, jumpTo, left as nameLeft}
+use Rattle.dns_name_text.specs.DnsNameText.{byteText, labelText, partText, joined, nameText as dnsText}
+use Rattle.dns_name_writing.specs.Writing.{pieces, labelsOf, labelBytes, coded, nameBytes, labelsHold, textHolds, codedHolds}
+use Rattle.line_nl.specs.Nl.{nlStart, nlOem, nlUtf8, nlText}
 use Rattle.respond.specs.Domain.{domainPart}
 use Rattle.respond.specs.Decision.{decisionOn}
 use Rattle.respond.specs.Answer.{lmToSend, micToSend, keyToSend, sendAnswer, sendOut, respondAnswer, respondOut}
@@ -21,9 +27,9 @@ use Rattle.response_pairs.specs.ResponsePairs.{dueBits, bitsDue, addedPairs, pa
 use Rattle.line_chal.specs.Chal.{timeText, timeWord, chalEnd, chalWords, chalText}
 use Rattle.line_nego.specs.Nego.{negoNames, negoText}
 use Rattle.line_auth.specs.Auth.{authNames, authLengths, authEnd, authText}
-use Rattle.line.specs.Line.{authenticateLine, challengeLine, negotiateLine, ntlmLine}
+use Rattle.line.specs.Line.{authenticateLine, challengeLine, negotiateLine, ntlmLine, nlAuthLine}
 use Rattle.target_info.specs.TargetInfo.{timestampIn, serverNamesIn}
-use Rattle.demands.specs.Examples.{ChallengeExample, NegotiateExample, AuthenticateExample, AnswerExample, PairListExample, NlAuthExample, ExamplesHold}
+use Rattle.demands.specs.Examples.{ChallengeExample, NegotiateExample, AuthenticateExample, AnswerExample, PairListExample, NlAuthExample, NlNamesExample, ExamplesHold}
 
 challenge-example : ChallengeExample
 unfolding readChallenge challengeReadingOf checkInfo fieldsOf challengeFieldsAt challengeEnds challengeBegins challengeNames challengeChecks readHead signatureHolds fieldAt fieldBytes countPairs checkPairs pairsOf stepAt pairOf left timestampIn timestampOf serverNamesIn serverNamesOf hexDigit hex decimalSize decimal escape unitText textOf nameText numberWord nameWord flagsWord setWord startText timeText timeWord chalEnd chalWords chalText challengeLine kindOf ntlmLine
@@ -68,5 +74,9 @@ nl-auth-example =
       response-no-room = refl;
     }
 
+nl-names-example : NlNamesExample
+unfolding readNlAuth readRequest readUtf8 stringUnder nlNameUnder nlNameAt readName labelsAt steps nameStep labelOf jumpAt jumpTo nameLeft utf8Text dnsText joined partText labelText byteText unitText escape hexDigit hex decimalSize decimal numberWord flagsWord stringWord nlStart nlOem nlUtf8 nlText nlAuthLine nlHeadBytes nameUnder utf8Bytes requestBytes checkZeros labelsUnder checkLabels codedUnder checkCoded checkTexts checkRequest requestAnswer requestOut bytesUnder pieces labelsOf labelBytes coded nameBytes labelsHold textHolds codedHolds le16 le32
+nl-names-example = record { names-line = refl; names-jumps = refl; name-written = refl; empty-label = refl }
+
 pub examples-hold : ExamplesHold
-examples-hold = (challenge-example, negotiate-example, authenticate-example, answer-example, pair-list-example, nl-auth-example)
+examples-hold = (challenge-example, negotiate-example, authenticate-example, answer-example, pair-list-example, nl-auth-example, nl-names-example)

@@ -29,3 +29,4 @@ pub mod DigitByDigit
 pub mod ThinCalls
 pub mod DnsName
 pub mod DnsText
+pub mod StringShown

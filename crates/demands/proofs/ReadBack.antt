@@ -37,7 +37,7 @@ use Rattle.dns_name_text.specs.DnsNameText.{nameText as dnsText}
 use Rattle.dns_name_writing.specs.Writing.{labelsOf, nameBytes, textHolds, codedHolds}
 use Rattle.dns_name_writing.proofs.Back.{back as name-back}
 use Rattle.nl_auth_flags.specs.Flags.{nbDomain, nbComputer, dnsDomain, dnsHost, utf8Computer, known, noFlags, stringsHold}
-use Rattle.nl_auth.specs.NlAuth.{noString, stringBytes as ownBytes, labelsOf as labelsIn, beforeZero, holdsZero, stringAt, stringUnder, refusalIn, nameString, onName, nameAt, nameUnder as readUnder, flagsAt, readUtf8, emptyStrings, readRequest, readResponse, readNlAuth}
+use Rattle.nl_auth.specs.NlAuth.{noString, stringBytes as ownBytes, beforeZero, holdsZero, stringAt, stringUnder, refusalIn, nameString, onName, nameAt, nameUnder as readUnder, flagsAt, readUtf8, emptyStrings, readRequest, readResponse, readNlAuth}
 use Rattle.nl_auth_writing.specs.Writing.{headBytes, stringBytes, bytesUnder, nameUnder, utf8Bytes, requestBytes, responseBytes, noZero, checkZeros, labelsUnder, checkLabels, codedUnder, checkCoded, checkNames, checkRequest, requestAnswer, requestOut, responseAnswer, responseOut}
 use Rattle.demands.specs.ReadBack.{NameBack, NlRequestReadsBack, ResponseBack, NlResponseReadsBack}
 use Rattle.demands.proofs.DnsText.{text-labels, text-shown}

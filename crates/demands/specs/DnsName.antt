@@ -24,6 +24,21 @@ NameIsTaken =
 abbrev pub NameIsRefused : Type 0
 NameIsRefused = (s : List ℕ) (start n : ℕ) → NameRefusedWith (readName s start) n ↔ FirstFault s start n
 
+-- every place has a name or a first fault, and never two: so a reading ends, and there is one reading only
+abbrev pub NameOrFault : Type 0
+NameOrFault =
+    (s : List ℕ) (start : ℕ) →
+    ((ls : List (List ℕ)) × (jumps : ℕ) × (next : ℕ) × NameAt s start ls jumps next) ⊎ ((n : ℕ) × FirstFault s start n)
+
+abbrev pub OneName : Type 0
+OneName =
+    (s : List ℕ) (start : ℕ) (ls ms : List (List ℕ)) (i j m n : ℕ) → NameAt s start ls i m → NameAt s start ms j n →
+    (ls ≡ ms) × (i ≡ j) × (m ≡ n)
+
+abbrev pub NameNoFault : Type 0
+NameNoFault =
+    (s : List ℕ) (start : ℕ) (ls : List (List ℕ)) (jumps next n : ℕ) → NameAt s start ls jumps next → FirstFault s start n → ⊥
+
 -- ---- "We write without jumps, from text split at full stops; empty text is the zero byte alone."
 
 abbrev pub NoStop : List ℕ → Type 0

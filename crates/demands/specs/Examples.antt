@@ -8,7 +8,7 @@ use mathlib.Core.Bool.{true, false}
 use mathlib.Core.List.{List, [], _∷_, _++_}
 use lib.ListN.{take, replicate}
 use Rattle.text.specs.Text.{ascii}
-use Rattle.wire.specs.declared.refusal.Refusal.the-variants.{OddNameToWrite, NoRoom, No128Bit}
+use Rattle.wire.specs.declared.refusal.Refusal.the-variants.{OddNameToWrite, NoRoom, No128Bit, WrongLabel}
 use Rattle.negotiate_flags.specs.declared.NegotiateFlags.{NegotiateFlags}
 use Rattle.place.specs.declared.written.Written.the-variants.{Length, Refused}
 use Rattle.av_pairs.specs.declared.Count.the-variants.{Pairs}
@@ -26,9 +26,12 @@ use Rattle.respond.specs.declared.answer.Answered.the-variants.{Sent, Refused a
 use Rattle.respond.specs.Answer.{respondAnswer, respondOut}
 use Rattle.respond.specs.Decision.{defaults, benchSettings, oldServerSettings}
 use Rattle.response_pairs.specs.ResponsePairs.{listFor, writeAnswer as pairsAnswer, writeOut as pairsOut}
-use Rattle.line.specs.Line.{ntlmLine}
+use Rattle.line.specs.Line.{ntlmLine, nlAuthLine}
 use Rattle.nl_auth_flags.specs.declared.NlAuthFlags.{NlAuthFlags}
 use Rattle.nl_auth_flags.specs.Flags.{known}
+use Rattle.nl_auth.specs.declared.NlAuth.{NlAuth}
+use Rattle.nl_auth.specs.declared.Reading.the-variants.{Taken as NlTaken}
+use Rattle.nl_auth.specs.NlAuth.{noString, readNlAuth}
 use Rattle.nl_auth_writing.specs.Writing.{requestAnswer, requestOut, responseAnswer, responseOut}
 use Rattle.demands.specs.Bench.{p12}
 
@@ -228,6 +231,38 @@ pub record NlAuthExample : Type 0 where
   pub response-bytes : responseOut (replicate 9 0xFF) ≡ 0x01 ∷ replicate 8 0x00
   pub response-no-room : responseAnswer 8 ≡ Refused NoRoom
 
+-- ---- NL_AUTH names: a domain controller's host name that ends in a jump back into its domain name. C is corp.test, at place 0 of
+-- the buffer, and D is dc and a jump to that place
+
+abbrev controllerNames : List ℕ
+controllerNames =
+    0x00 ∷ 0x00 ∷ 0x00 ∷ 0x00 ∷ 0x0C ∷ 0x00 ∷ 0x00 ∷ 0x00 ∷ []
+    ++ ((0x04 ∷ ascii "corp") ++ ((0x04 ∷ ascii "test") ++ (0x00 ∷ 0x02 ∷ 0x64 ∷ 0x63 ∷ 0xC0 ∷ 0x00 ∷ [])))
+
+abbrev controllerAnswer : NlAuth
+controllerAnswer =
+    record {
+      «message_type» = 0;
+      flags = record { bits = 0x0C };
+      strings = record {
+        «nb_domain» = noString;
+        «nb_computer» = noString;
+        «dns_domain» = record { offset = 8; len = 11; jumps = 0 };
+        «dns_host» = record { offset = 19; len = 5; jumps = 1 };
+        «utf8_computer» = noString;
+      };
+    }
+
+abbrev flags04 : NlAuthFlags
+flags04 = record { bits = 0x04 }
+
+pub record NlNamesExample : Type 0 where
+  pub names-line : nlAuthLine controllerNames ≡ lineOf "nl type=0 flags=0000000C c=corp.test d=dc.corp.test"
+  pub names-jumps : readNlAuth controllerNames ≡ NlTaken controllerAnswer
+  pub name-written : requestOut (replicate 19 0xFF) flags04 passed passed (ascii "corp.test") passed passed
+      ≡ (0x00 ∷ 0x00 ∷ 0x00 ∷ 0x00 ∷ 0x04 ∷ 0x00 ∷ 0x00 ∷ 0x00 ∷ []) ++ ((0x04 ∷ ascii "corp") ++ ((0x04 ∷ ascii "test") ++ (0x00 ∷ [])))
+  pub empty-label : requestAnswer 19 flags04 passed passed (ascii "corp..test") passed passed ≡ Refused (WrongLabel 3)
+
 -- all of them
 abbrev pub ExamplesHold : Type 0
-ExamplesHold = ChallengeExample × NegotiateExample × AuthenticateExample × AnswerExample × PairListExample × NlAuthExample
+ExamplesHold = ChallengeExample × NegotiateExample × AuthenticateExample × AnswerExample × PairListExample × NlAuthExample × NlNamesExample

@@ -27,3 +27,4 @@ pub mod ResponsePairs
 pub mod DigitByDigit
 pub mod ThinCalls
 pub mod DnsName
+pub mod StringShown

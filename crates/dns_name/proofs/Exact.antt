@@ -1,15 +1,14 @@
 -- A name is taken exactly when its bytes are a name, with those labels, jumps and next place, and else it has the number of the
 -- first fault. So the steps of the definition never run out.
-use Prim.Native.Nat.{ℕ, zero, suc, _+_, _-_, _*_, _%_, _≤_, _<_}
-use mathlib.Core.Path.{_≡_, refl, sym, ap, _∙_, subst}
-use mathlib.Core.Bool.{Bool, true, false, cond}
+use Prim.Native.Nat.{ℕ, zero, suc, _+_, _-_, _≤_, _<_}
+use mathlib.Core.Path.{_≡_, refl, sym, _∙_, subst}
+use mathlib.Core.Bool.{cond}
 use mathlib.Core.List.{List, [], _∷_}
-use mathlib.Core.Logic.{_↔_}
 use native.Mathlib.Nat.{add-zero, zero-add}
 use native.Mathlib.Omega.{arith}
-use lib.Dec.{leb, ltb, eqb}
+use lib.Dec.{eqb}
 use lib.ListN.{length, getD, take, drop, length-take, length-drop}
-use borrow.Author.Tests.{le-leb, lt-leb, lt-ltb, le-ltb, ne-eqb, eq-eqb}
+use borrow.Author.Tests.{le-leb, lt-leb, lt-ltb, le-ltb, ne-eqb}
 use Rattle.dns_name.specs.declared.Cursor.{Cursor}
 use Rattle.dns_name.specs.declared.Fault.{Fault}
 use Rattle.dns_name.specs.declared.Fault.the-variants.{CutShort, WrongTopBits, PlaceNotBefore, TooManyJumps, NameTooLong}
@@ -18,7 +17,7 @@ use Rattle.dns_name.specs.declared.Reading.{Reading}
 use Rattle.dns_name.specs.declared.Reading.the-variants.{Taken, Refused as Not}
 use Rattle.dns_name.specs.declared.Step.{Step}
 use Rattle.dns_name.specs.declared.Step.the-variants.{Label, Jump, End, Refused}
-use Rattle.dns_name.specs.DnsName.{left, labelOf, jumpTo, jumpPlace, jumpAt, stepAt, begin, pastLabel, jumped, ended, onStep, nameFrom, labelsFrom, steps, readName, labelsAt, numberOf}
+use Rattle.dns_name.specs.DnsName.{left, labelOf, jumpTo, jumpAt, stepAt, begin, pastLabel, jumped, ended, onStep, nameFrom, labelsFrom, steps, readName, labelsAt, numberOf}
 use Rattle.dns_name.specs.Rfc1035.{EndAt, LabelAt, JumpAt, NameFrom, end, label, jump, codedLength, NameAt, FaultAt, no-byte, label-cut, jump-cut, top-bits, not-before, seventeenth, too-long, FaultFrom, here, past-label, past-jump, FirstFault}
 use Rattle.dns_name.proofs.Judged.{JudgedS, step-judged}
 use Rattle.dns_name.proofs.Walks.{room, steps-do}

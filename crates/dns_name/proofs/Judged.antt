@@ -1,15 +1,13 @@
 -- What a step is: a label, a jump, the zero byte, or the fault at its place.
-use Prim.Native.Nat.{ℕ, zero, suc, _+_, _-_, _*_, _%_, _≤_, _<_}
-use mathlib.Core.Path.{_≡_, refl, sym, _∙_, subst}
+use Prim.Native.Nat.{ℕ, zero, _+_, _-_, _≤_, _<_}
+use mathlib.Core.Path.{_≡_, refl, sym, subst}
 use mathlib.Core.Bool.{Bool, true, false, cond}
-use mathlib.Core.List.{List, [], _∷_}
+use mathlib.Core.List.{List}
 use native.Mathlib.Omega.{arith}
-use lib.Dec.{leb, ltb, eqb}
 use lib.ListN.{length, getD}
 use borrow.Author.Tests.{leb-true, leb-false, ltb-true, ltb-false, eqb-true, eqb-false}
 use Rattle.wire.specs.Check.{checked, after}
 use Rattle.dns_name.specs.declared.Cursor.{Cursor}
-use Rattle.dns_name.specs.declared.Fault.the-variants.{CutShort, WrongTopBits, PlaceNotBefore, TooManyJumps, NameTooLong}
 use Rattle.dns_name.specs.declared.Step.{Step}
 use Rattle.dns_name.specs.declared.Step.the-variants.{Label, Jump, End, Refused}
 use Rattle.dns_name.specs.DnsName.{left, labelOf, jumpTo, jumpPlace, jumpAt, stepAt, numberOf}

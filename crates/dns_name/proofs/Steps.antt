@@ -1,24 +1,20 @@
 -- Laws of one step: what each check's answer tells, and how the cursor moves.
-use Prim.Native.Nat.{ℕ, suc, _+_, _-_, _^_, _≤_, _<_}
-use mathlib.Core.Path.{_≡_, refl, sym, _∙_}
-use mathlib.Core.Bool.{Bool, true, false, cond}
+use Prim.Native.Nat.{ℕ, _+_, _-_, _≤_, _<_}
+use mathlib.Core.Path.{_≡_, sym, _∙_}
+use mathlib.Core.Bool.{cond}
 use mathlib.Core.List.{List}
 use native.Mathlib.Omega.{arith}
-use lib.Dec.{leb, ltb, eqb}
-use lib.ListN.{length, getD}
-use mir.Syntax.{w64}
-use mir.Val.{Fits}
-use borrow.Author.Tests.{leb-true, ltb-true, lt-ltb, le-ltb, eq-eqb, ne-eqb}
+use lib.Dec.{leb, ltb}
+use lib.ListN.{length}
+use borrow.Author.Tests.{leb-true, lt-ltb, le-ltb, ne-eqb}
 use Rattle.wire.specs.declared.check.Checked.{Checked}
 use Rattle.wire.specs.declared.check.Checked.the-variants.{Held}
 use Rattle.wire.specs.Check.{checked, after}
 use Rattle.wire.proofs.Laws.{held-true, chain, branches}
 use Rattle.dns_name.specs.declared.Cursor.{Cursor}
 use Rattle.dns_name.specs.declared.Fault.{Fault}
-use Rattle.dns_name.specs.declared.Fault.the-variants.{CutShort, WrongTopBits, PlaceNotBefore, TooManyJumps, NameTooLong}
 use Rattle.dns_name.specs.declared.Step.{Step}
-use Rattle.dns_name.specs.declared.Step.the-variants.{Label, Jump, End, Refused}
-use Rattle.dns_name.specs.DnsName.{left, labelOf, jumpTo, jumpPlace, jumpAt, stepAt, jumped, ended, numberOf}
+use Rattle.dns_name.specs.DnsName.{left, labelOf, jumpTo, jumped, ended, numberOf}
 
 -- an `if` that compares two numbers
 pub when-lt : {A : Type 0} (m n : ℕ) (x y z : A) → m < n → z ≡ x → z ≡ cond (ltb m n) x y

@@ -1,16 +1,11 @@
 -- The example of RFC 1035 section 4.1.4: F.ISI.ARPA at 20, FOO.F.ISI.ARPA at 40, ARPA at 64 and the root at 92.
-use Prim.Native.Nat.{ℕ, _+_}
+use Prim.Native.Nat.{ℕ}
 use mathlib.Core.Path.{_≡_, refl}
-use mathlib.Core.List.{List, [], _∷_, _++_}
-use lib.ListN.{length}
+use mathlib.Core.List.{List, [], _∷_}
 use lib.Seq.{sets}
-use mathlib.Core.Bool.{Bool, true, false, _&&_}
-use lib.Dec.{eqb}
 use lib.ListN.{replicate}
-use Rattle.dns_name.specs.declared.Fault.{Fault}
-use Rattle.dns_name.specs.declared.Reading.{Reading}
-use Rattle.dns_name.specs.declared.Reading.the-variants.{Taken, Refused as Not}
-use Rattle.dns_name.specs.DnsName.{left, labelOf, jumpAt, jumpTo, stepAt, steps, readName, labelsAt, numberOf}
+use Rattle.dns_name.specs.declared.Reading.the-variants.{Taken}
+use Rattle.dns_name.specs.DnsName.{left, labelOf, jumpAt, jumpTo, stepAt, steps, readName, labelsAt}
 
 rfc : List ℕ
 rfc = sets (sets (sets (replicate 93 0) 20 (1 ∷ 0x46 ∷ 3 ∷ 0x49 ∷ 0x53 ∷ 0x49 ∷ 4 ∷ 0x41 ∷ 0x52 ∷ 0x50 ∷ 0x41 ∷ 0 ∷ [])) 40 (3 ∷ 0x46 ∷ 0x4F ∷ 0x4F ∷ 0xC0 ∷ 20 ∷ [])) 64 (0xC0 ∷ 26 ∷ [])

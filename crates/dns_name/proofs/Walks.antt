@@ -3,7 +3,7 @@ use Prim.Native.Nat.{ℕ, zero, suc, _+_, _-_, _^_, _≤_, _<_}
 use mathlib.Core.Path.{_≡_, refl, sym, ap, _∙_}
 use mathlib.Core.List.{List, [], _∷_}
 use native.Mathlib.Omega.{arith}
-use lib.ListN.{length, getD, take, drop}
+use lib.ListN.{length, take, drop}
 use mir.Syntax.{w64}
 use mir.Val.{Fits}
 use Rattle.dns_name.specs.declared.Cursor.{Cursor}
@@ -13,7 +13,7 @@ use Rattle.dns_name.specs.declared.Reading.the-variants.{Taken, Refused 
 use Rattle.dns_name.specs.declared.Step.{Step}
 use Rattle.dns_name.specs.declared.Step.the-variants.{Label, Jump, End, Refused}
 use Rattle.dns_name.specs.DnsName.{stepAt, begin, pastLabel, jumped, ended, nameFrom, labelsFrom, steps, readName, labelsAt}
-use Rattle.dns_name.specs.Rfc1035.{EndAt, LabelAt, JumpAt}
+use Rattle.dns_name.specs.Rfc1035.{LabelAt, JumpAt}
 use Rattle.dns_name.proofs.Judged.{gave}
 
 -- what is left of the two limits; it falls with each step

@@ -1,11 +1,11 @@
 -- Laws of a label's text: a byte of it, and the label byte by byte.
 use Prim.Native.Nat.{ℕ, _+_, _*_, _-_, _≤_, _<_}
-use mathlib.Core.Path.{_≡_, refl, sym, ap, _∙_}
-use mathlib.Core.Bool.{Bool, true, false, cond}
+use mathlib.Core.Path.{_≡_, ap}
+use mathlib.Core.Bool.{false}
 use mathlib.Core.List.{List, [], _∷_, _++_}
 use native.Mathlib.Numerals.{add-one}
 use native.Mathlib.Omega.{arith}
-use lib.ListN.{length, getD, take, drop, length-append, length-drop, drop-of-length-le}
+use lib.ListN.{length, getD, drop, length-append, drop-of-length-le}
 use lib.Seq.{drop-cons}
 use borrow.Author.Tests.{eq-eqb, ne-eqb}
 use Rattle.place.specs.Place.{Wrote}
@@ -13,7 +13,7 @@ use Rattle.word.specs.Digits.{hex}
 use Rattle.word.specs.Name.{escape, unitText}
 use Rattle.word.proofs.Numbers.{length-hex}
 use Rattle.word.proofs.Names.{byte-bound}
-use Rattle.dns_name_text.specs.DnsNameText.{byteText, labelText, partText}
+use Rattle.dns_name_text.specs.DnsNameText.{byteText, labelText}
 use Rattle.place.proofs.Parts.{Partly, none-written, all-written, still-kept, room-left, goes-on}
 
 -- ---- a full stop, and any other byte

@@ -1,10 +1,10 @@
 -- Laws of a name's text: a label with its full stop, and the name label by label.
-use Prim.Native.Nat.{ℕ, zero, suc, _+_, _*_, _-_, _^_, _≤_, _<_}
-use mathlib.Core.Path.{_≡_, refl, sym, ap, _∙_}
+use Prim.Native.Nat.{ℕ, zero, suc, _+_, _*_, _-_, _≤_}
+use mathlib.Core.Path.{_≡_, refl, ap, _∙_}
 use mathlib.Core.Bool.{Bool, true, false, cond}
 use mathlib.Core.List.{List, [], _∷_, _++_}
 use native.Mathlib.Omega.{arith}
-use lib.ListN.{length, getD, take, drop, length-append, length-take, length-drop}
+use lib.ListN.{length, take, drop, length-append, length-take, length-drop}
 use mir.Syntax.{w64}
 use mir.Val.{Fits}
 use Rattle.place.specs.Place.{Wrote}
@@ -14,9 +14,8 @@ use Rattle.dns_name.specs.declared.Fault.{Fault}
 use Rattle.dns_name.specs.declared.Step.{Step}
 use Rattle.dns_name.specs.declared.Step.the-variants.{Label, Jump, End, Refused}
 use Rattle.dns_name.specs.DnsName.{stepAt, begin, pastLabel, jumped, onStep, labelsFrom, steps, labelsAt}
-use Rattle.dns_name.specs.Rfc1035.{LabelAt}
 use Rattle.dns_name.proofs.Judged.{JudgedS, step-judged}
-use Rattle.dns_name.proofs.Walks.{Sound, Remaining, Split, all-remain, split, remain-jump, none-at-end, none-at-fault, given-label}
+use Rattle.dns_name.proofs.Walks.{Remaining, all-remain, split, remain-jump, none-at-end, none-at-fault, given-label}
 use Rattle.dns_name_text.specs.DnsNameText.{byteText, labelText, partText, joined, nameText}
 use lib.Dec.{eqb}
 use Rattle.text.specs.Text.{ascii}

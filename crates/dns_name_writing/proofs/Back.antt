@@ -1,23 +1,22 @@
 -- A name that was written reads back: the same labels and no jump, whatever stands before and after it.
-use Prim.Native.Nat.{ℕ, suc, _+_, _-_, _≤_, _<_}
+use Prim.Native.Nat.{ℕ, suc, _+_, _-_, _≤_}
 use mathlib.Core.Path.{_≡_, refl, sym, ap, _∙_, subst}
 use mathlib.Core.Bool.{Bool, true, false, _&&_, cond}
-use mathlib.Core.List.{List, [], _∷_, _++_, append-nil, append-assoc}
+use mathlib.Core.List.{List, [], _∷_, _++_, append-assoc}
 use native.Mathlib.Omega.{arith}
 use lib.Dec.{leb, eqb}
-use lib.ListN.{length, getD, take, drop, length-append}
+use lib.ListN.{length, take, drop, length-append}
 use lib.Seq.{getD-append-seam, drop-append-seam, take-append-seam}
-use borrow.Author.Tests.{leb-true, eqb-true, ne-eqb}
-use Rattle.wire.specs.declared.check.Checked.{Checked}
+use borrow.Author.Tests.{leb-true, eqb-true}
 use Rattle.wire.specs.declared.check.Checked.the-variants.{Held, Failed}
 use Rattle.wire.specs.Check.{checked, after}
 use Rattle.wire.proofs.Laws.{held-true}
 use Rattle.wire.proofs.Bools.{and-left, and-right}
 use Rattle.dns_name.specs.declared.Reading.the-variants.{Taken}
 use Rattle.dns_name.specs.DnsName.{readName, labelsAt}
-use Rattle.dns_name.specs.Rfc1035.{EndAt, LabelAt, NameFrom, end, label, codedLength, NameAt}
+use Rattle.dns_name.specs.Rfc1035.{EndAt, LabelAt, NameFrom, end, label, codedLength}
 use Rattle.dns_name.proofs.Exact.{is-taken}
-use Rattle.dns_name_writing.specs.Writing.{onFirst, pieces, labelsOf, labelBytes, coded, nameBytes, labelHolds, labelsHold, textHolds, codedHolds, beforeStop}
+use Rattle.dns_name_writing.specs.Writing.{onFirst, pieces, labelsOf, labelBytes, coded, nameBytes, labelsHold, textHolds, codedHolds, beforeStop}
 use Rattle.dns_name_writing.proofs.Pieces.{last-piece}
 
 -- labels that hold have 1 to 63 bytes

@@ -1,21 +1,20 @@
 -- Laws of writing a text's labels.
-use Prim.Native.Nat.{ℕ, suc, _+_, _-_, _≤_, _<_}
-use mathlib.Core.Path.{_≡_, refl, sym, ap, _∙_}
-use mathlib.Core.Bool.{Bool, true, false, _&&_, cond}
-use mathlib.Core.List.{List, [], _∷_, _++_, append-nil, append-assoc}
+use Prim.Native.Nat.{ℕ, _+_, _-_, _≤_}
+use mathlib.Core.Path.{_≡_, refl, _∙_}
+use mathlib.Core.Bool.{Bool, true, false, _&&_}
+use mathlib.Core.List.{List, [], _∷_, _++_, append-nil}
 use native.Mathlib.Omega.{arith}
-use lib.Dec.{leb, eqb}
+use lib.Dec.{leb}
 use lib.ListN.{length, take, drop, length-append}
 use borrow.Author.Tests.{leb-true}
-use Rattle.wire.specs.declared.check.Checked.{Checked}
 use Rattle.wire.specs.declared.check.Checked.the-variants.{Held, Failed}
 use Rattle.wire.specs.Check.{checked, after}
-use Rattle.wire.proofs.Bools.{and-left, and-right}
+use Rattle.wire.proofs.Bools.{and-right}
 use Rattle.place.specs.Place.{Wrote}
 use Rattle.place.proofs.Laws.{and-then, kept}
 use Rattle.place.proofs.Parts.{Partly, none-written, all-written, still-kept, room-left, goes-on}
-use Rattle.dns_name_writing.specs.Writing.{pieces, labelsOf, labelBytes, coded, nameBytes, labelHolds, labelsHold, textHolds, beforeStop}
-use Rattle.dns_name_writing.proofs.Pieces.{piece-last, piece-more, piece-size}
+use Rattle.dns_name_writing.specs.Writing.{pieces, labelBytes, coded, nameBytes, labelsHold, beforeStop}
+use Rattle.dns_name_writing.proofs.Pieces.{piece-last, piece-more}
 use Rattle.dns_name_writing.proofs.Holding.{bytes-empty, bytes-some}
 
 -- ---- one label

@@ -1,22 +1,15 @@
 -- Laws of a text's pieces: the first of them, and those behind it.
-use Prim.Native.Nat.{ℕ, zero, suc, _+_, _-_, _≤_, _<_}
+use Prim.Native.Nat.{ℕ, suc, _+_, _-_, _≤_, _<_}
 use mathlib.Core.Path.{_≡_, refl, sym, ap, _∙_}
-use mathlib.Core.Bool.{Bool, true, false, _&&_, cond}
-use mathlib.Core.List.{List, [], _∷_, _++_, append-assoc}
-use native.Mathlib.Nat.{add-zero, zero-add, sub-self}
+use mathlib.Core.Bool.{Bool, true, false, cond}
+use mathlib.Core.List.{List, [], _∷_}
 use native.Mathlib.Numerals.{add-one}
 use native.Mathlib.Omega.{arith}
-use lib.Dec.{leb, eqb}
-use lib.ListN.{length, getD, take, drop, length-append, length-take, length-drop, drop-of-length-le}
+use lib.Dec.{eqb}
+use lib.ListN.{length, getD, take, drop, length-take, length-drop, drop-of-length-le}
 use lib.Seq.{drop-cons, take-all, drop-drop}
-use borrow.Author.Tests.{leb-true, eq-eqb, ne-eqb, eqb-true, eqb-false}
-use Rattle.wire.specs.declared.check.Checked.{Checked}
-use Rattle.wire.specs.declared.check.Checked.the-variants.{Held, Failed}
-use Rattle.wire.specs.Check.{checked, after}
-use Rattle.wire.proofs.Laws.{held-true}
-use Rattle.wire.proofs.Bools.{and-left, and-right}
-use Rattle.dns_name.specs.Rfc1035.{codedLength}
-use Rattle.dns_name_writing.specs.Writing.{onFirst, pieces, labelsOf, labelBytes, coded, nameBytes, labelHolds, labelsHold, textHolds, codedHolds, beforeStop}
+use borrow.Author.Tests.{eq-eqb, ne-eqb}
+use Rattle.dns_name_writing.specs.Writing.{onFirst, pieces, beforeStop}
 
 -- ---- the first full stop
 

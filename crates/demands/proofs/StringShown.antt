@@ -1,0 +1,115 @@
+-- The text of one string alone: as in the line, refused exactly, kept and ignored.
+use Prim.Native.Nat.{ℕ, _+_}
+use mathlib.Core.Path.{_≡_, refl, sym, _∙_}
+use mathlib.Core.Bool.{Bool, true, false, cond}
+use mathlib.Core.List.{List, [], _++_, append-assoc}
+use native.Mathlib.Omega.{arith}
+use lib.ListN.{length}
+use borrow.Author.Tests.{le-leb, lt-leb, ne-eqb}
+use Rattle.wire.specs.declared.check.Verdict.the-variants.{Refused as NotClear}
+use Rattle.wire.specs.Number.{has}
+use Rattle.place.specs.declared.written.Written.the-variants.{Refused}
+use Rattle.place.specs.Written.{bytesAnswer, bytesAfter}
+use Rattle.word.specs.Words.{stringWord}
+use Rattle.nl_auth.specs.declared.NlAuth.{NlAuth}
+use Rattle.nl_auth.specs.declared.Reading.{Reading}
+use Rattle.nl_auth.specs.declared.Reading.the-variants.{Taken, Refused as Not}
+use Rattle.nl_auth.specs.NlAuth.{readNlAuth}
+use Rattle.nl_auth_text.specs.StringText.{oemText, utf8Text, utf8Numbered, stringText, onReading, textAnswer, textAfter}
+use Rattle.line_nl.specs.Nl.{nlOem, nlUtf8, nlText}
+use Rattle.demands.specs.Ignored.{SameNlAuth}
+use Rattle.demands.specs.Kept.{Kept}
+use Rattle.demands.specs.NlAuth.{maskOf}
+use Rattle.demands.specs.TakenExactly.{NlRefusedWith}
+use Rattle.demands.specs.WrittenExactly.{WritingRefusedWith}
+use Rattle.demands.specs.StringShown.{TextsAsInLine, StringShown, NoOtherText, NoTextWithoutBit, TextKept, TextIgnored, TextTells}
+use Rattle.c_number.specs.Number.{writtenNumber}
+use Rattle.demands.specs.Answers.{TellsWritten}
+use Rattle.demands.proofs.Answers.{copy-tells}
+use Rattle.demands.proofs.Answers.SmallFields.{nl-auth-small}
+use Rattle.demands.proofs.Answers.Told.{tells-refusal}
+use Rattle.demands.proofs.Kept.{by-verdict, line-kept}
+use Rattle.demands.proofs.NlAuth.{five, nl-auth-refused}
+use Rattle.demands.proofs.Ignored.NlIgnored.{nl-auth-ignored}
+
+-- ---- the line is made of these texts
+
+word-is : (label x : List ℕ) (b : Bool) → cond b (label ++ cond b x []) [] ≡ cond b (label ++ x) []
+word-is label x true = refl
+word-is label x false = refl
+
+pub texts-as-in-line : TextsAsInLine
+unfolding nlText nlOem nlUtf8 stringWord stringText utf8Numbered
+texts-as-in-line s m = simp (append-assoc, word-is)
+
+pub no-other-text : NoOtherText
+unfolding stringText utf8Numbered
+no-other-text s m which h =
+    simp (
+      ne-eqb which 1 (λ e. h (omega arith) (omega arith)),
+      ne-eqb which 2 (λ e. h (omega arith) (omega arith)),
+      ne-eqb which 3 (λ e. h (omega arith) (omega arith)),
+      ne-eqb which 4 (λ e. h (omega arith) (omega arith)),
+      ne-eqb which 5 (λ e. h (omega arith) (omega arith)),
+    )
+
+pub no-text-without-bit : NoTextWithoutBit
+unfolding stringText utf8Numbered
+no-text-without-bit s m =
+    five (λ i. has (m .flags .bits) (maskOf i) ≡ false → stringText s m i ≡ [])
+    (λ e. simp e) (λ e. simp e) (λ e. simp e) (λ e. simp e) (λ e. simp e)
+
+-- ---- the call
+
+pub string-shown : StringShown
+unfolding textAnswer textAfter bytesAnswer bytesAfter
+string-shown s which out =
+    record {
+      refused = λ n i f. go (readNlAuth s) n i (nl-auth-refused s n i .1 f);
+      no-room = λ m e h. simp (e, lt-leb (length (stringText s m which)) (length out) h);
+      text =
+          λ m e h. (
+            simp (e, le-leb (length (stringText s m which)) (length out) h),
+            simp (e, le-leb (length (stringText s m which)) (length out) h),
+          );
+    }
+  where
+    go : (r : Reading) (n i : ℕ) → NlRefusedWith r n i →
+        WritingRefusedWith (onReading r (λ m. bytesAnswer (stringText s m which) out) (λ e. Refused e)) n i
+    go (Taken m) n i w = absurd w
+    go (Not e) n i w = w
+
+pub text-kept : TextKept
+unfolding textAnswer textAfter
+text-kept s which out = go (readNlAuth s) where
+  go : (r : Reading) →
+      Kept (onReading r (λ m. bytesAnswer (stringText s m which) out) (λ e. Refused e)) out
+      (onReading r (λ m. bytesAfter (stringText s m which) out) (λ e. out))
+  go (Taken m) = line-kept (stringText s m which) out
+  go (Not e) = by-verdict (NotClear e) [] out (λ h. absurd (let z : _≡_ {A = ℕ} 0 1 = cc in omega arith))
+
+-- ---- ignored flag bits
+
+text-same : (s t : List ℕ) (which : ℕ) (m : NlAuth) → SameNlAuth s t → readNlAuth s ≡ Taken m → stringText s m which ≡ stringText t m which
+unfolding stringText utf8Numbered oemText utf8Text
+text-same s t which m w e = simp (w .a m e .bytes, w .b m e .bytes, w .c m e .labels, w .d m e .labels, w .e m e .labels)
+
+pub text-ignored : TextIgnored
+unfolding textAnswer textAfter
+text-ignored s t which out d = go (nl-auth-ignored s t d) (readNlAuth s) refl where
+  go : (w : SameNlAuth s t) (r : Reading) → readNlAuth s ≡ r →
+      (onReading (readNlAuth s) (λ m. bytesAnswer (stringText s m which) out) (λ e. Refused e) ≡ onReading (readNlAuth t) (λ m. bytesAnswer (stringText t m which) out) (λ e. Refused e))
+      × (onReading (readNlAuth s) (λ m. bytesAfter (stringText s m which) out) (λ e. out) ≡ onReading (readNlAuth t) (λ m. bytesAfter (stringText t m which) out) (λ e. out))
+  go w (Taken m) p = let q : readNlAuth t ≡ Taken m = sym (w .answer) ∙ p in (simp (p, q, text-same s t which m w p), simp (p, q, text-same s t which m w p))
+  go w (Not e) p = let q : readNlAuth t ≡ Not e = sym (w .answer) ∙ p in (simp (p, q), simp (p, q))
+
+-- ---- from C
+
+pub text-tells : TextTells
+unfolding textAnswer
+text-tells s which out l = go (readNlAuth s) refl where
+  go : (r : Reading) → readNlAuth s ≡ r →
+      TellsWritten (writtenNumber (onReading r (λ m. bytesAnswer (stringText s m which) out) (λ e. Refused e)))
+      (onReading r (λ m. bytesAnswer (stringText s m which) out) (λ e. Refused e))
+  go (Taken m) p = copy-tells (stringText s m which) out l
+  go (Not e) p = tells-refusal e (nl-auth-small s e p)
