@@ -24,8 +24,7 @@ fn main() {
         not_read();
         return;
     };
-    // Far more than the checks take.
-    let mut out = [0u8; 4096];
+    let mut out = [0u8; 65536];
     let written = explain::write(&space[..n], &mut out);
     let Written::Length(len) = written else {
         not_written();
