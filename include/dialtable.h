@@ -45,7 +45,7 @@
  *
  *     uint64_t answer = dialtable_authenticate_line(msg, msg_len, line, sizeof line);
  *     if (DIALTABLE_IS_REFUSED(answer))
- *         complain(DIALTABLE_NUMBER(answer), DIALTABLE_FIELD(answer));
+ *         complain(DIALTABLE_NUMBER(answer), DIALTABLE_FIELD(answer), DIALTABLE_PLACE(answer));
  *
  * Numbers come back in an array of uint64_t, at the places that are named below. An array (or a MIC's or a server
  * challenge's bytes) that is too short is refused 33, before anything is read.
@@ -73,10 +73,16 @@ typedef uint64_t dialtable_len;
 #define DIALTABLE_IS_REFUSED(answer) ((int)((uint64_t)(answer) >> 63))
 #define DIALTABLE_NUMBER(answer) ((unsigned)((uint64_t)(answer) >> 8 & 0xffu))
 #define DIALTABLE_FIELD(answer) ((unsigned)((uint64_t)(answer) & 0xffu))
+/* Where in a pair list a refusal 10 to 13 is: the first byte of the pair that failed (for 12 the end pair's, also where
+ * bytes stand after it), for 11 where a pair should have started, which is the list's end where the list just runs out.
+ * Counted from the start of the message, or of the list in the calls that are lent a list alone. 0 for every other
+ * number. It has 47 bits: a place past 0x7fffffffffff is shown as 0x7fffffffffff. No message is that long, only a list
+ * lent alone, or a walk that is asked past its list. */
+#define DIALTABLE_PLACE(answer) ((uint64_t)(answer) >> 16 & 0x7fffffffffffu)
 
-/* The numbers of refusals. The field is 0 where no other is said. AUTHENTICATE: LM response 1, NT response 2, domain 3,
- * user 4, workstation 5, session key 6. CHALLENGE: target name 1, target info 2. NEGOTIATE: domain 1, workstation 2.
- * NL_AUTH: strings A to E are 1 to 5. */
+/* The numbers of refusals. The field is 0 where no other is said, and so is the place. AUTHENTICATE: LM response 1, NT
+ * response 2, domain 3, user 4, workstation 5, session key 6. CHALLENGE: target name 1, target info 2. NEGOTIATE: domain
+ * 1, workstation 2. NL_AUTH: strings A to E are 1 to 5. */
 enum {
     DIALTABLE_REFUSED_TOO_LONG = 1,           /* message over 65,535 bytes */
     DIALTABLE_REFUSED_TOO_SHORT = 2,          /* shorter than its fixed part */
@@ -87,10 +93,10 @@ enum {
     DIALTABLE_REFUSED_IN_FIXED_PART = 7,      /* the field begins in the fixed part */
     DIALTABLE_REFUSED_ODD_NAME = 8,           /* UNICODE: the name is at an odd place or of odd length */
     DIALTABLE_REFUSED_NAME_OVER_SECRET = 9,   /* the name shares a byte with a secret */
-    DIALTABLE_REFUSED_PAIR_PAST_END = 10,     /* a pair's value passes the end of the list (field 2) */
-    DIALTABLE_REFUSED_PAIR_MISSING = 11,      /* under 4 bytes left where a pair should start (field 2) */
-    DIALTABLE_REFUSED_WRONG_END_PAIR = 12,    /* end pair with nonzero length, or bytes after it (field 2) */
-    DIALTABLE_REFUSED_WRONG_PAIR_SIZE = 13,   /* a pair of a size that its id forbids (field 2) */
+    DIALTABLE_REFUSED_PAIR_PAST_END = 10,     /* a pair's value passes the end of the list (field 2, place) */
+    DIALTABLE_REFUSED_PAIR_MISSING = 11,      /* under 4 bytes left where a pair should start (field 2, place) */
+    DIALTABLE_REFUSED_WRONG_END_PAIR = 12,    /* end pair with nonzero length, or bytes after it (field 2, place) */
+    DIALTABLE_REFUSED_WRONG_PAIR_SIZE = 13,   /* a pair of a size that its id forbids (field 2, place) */
     DIALTABLE_REFUSED_NO_STRINGS = 14,        /* NL_AUTH request with no bit A to E */
     DIALTABLE_REFUSED_UNTERMINATED = 15,      /* the string has no zero byte */
     DIALTABLE_REFUSED_BYTES_LEFT = 16,        /* bytes after the last string */
@@ -213,7 +219,8 @@ uint64_t dialtable_read_nl_auth(const uint8_t *msg, dialtable_len msg_len, uint6
 uint64_t dialtable_field_bytes(const uint8_t *msg, dialtable_len msg_len, uint32_t offset, uint16_t len, uint8_t *out,
                                dialtable_len out_len);
 
-/* ---- TargetInfo, the pair list of a CHALLENGE, lent by itself: of any length. Places are from the list's start. */
+/* ---- TargetInfo, the pair list of a CHALLENGE, lent by itself: of any length. Places are from the list's start, that
+ * of a refusal too. */
 
 enum {
     DIALTABLE_PAIR_NB_COMPUTER = 1,
@@ -253,13 +260,14 @@ enum {
     DIALTABLE_NEXT_AT, /* where to ask next */
     DIALTABLE_NEXT_NUMBERS
 };
-/* A walk: ask at 0, then at numbers[DIALTABLE_NEXT_AT]. At a fault the answer is its refusal. Answers 0. */
+/* A walk: ask at 0, then at numbers[DIALTABLE_NEXT_AT]. At a fault the answer is its refusal, at the place where it was
+ * asked. Answers 0. */
 uint64_t dialtable_next_pair(const uint8_t *list, dialtable_len list_len, dialtable_len at, uint64_t *numbers,
                              dialtable_len numbers_len);
 
-/* ---- Log lines, each with its 0A at the end. A refused message has a line too. Answers the line's length, or 33.
- * Room: 128 bytes, and four for each byte of the names, always suffice. mic=1 tells that bytes 72 to 87 are a MIC's,
- * and not what they are: it is shown for sixteen zeros too. */
+/* ---- Log lines, each with its 0A at the end. A refused message has a line too, 'refused NUMBER field=FIELD at=PLACE'.
+ * Answers the line's length, or 33. Room: 128 bytes, and four for each byte of the names, always suffice. mic=1 tells
+ * that bytes 72 to 87 are a MIC's, and not what they are: it is shown for sixteen zeros too. */
 
 uint64_t dialtable_authenticate_line(const uint8_t *msg, dialtable_len msg_len, uint8_t *out, dialtable_len out_len);
 uint64_t dialtable_challenge_line(const uint8_t *msg, dialtable_len msg_len, uint8_t *out, dialtable_len out_len);
@@ -267,7 +275,7 @@ uint64_t dialtable_negotiate_line(const uint8_t *msg, dialtable_len msg_len, uin
 uint64_t dialtable_nl_auth_line(const uint8_t *msg, dialtable_len msg_len, uint8_t *out, dialtable_len out_len);
 /* NEGOTIATE where 12 bytes are there and the type is 1, CHALLENGE where it is 2, else AUTHENTICATE. */
 uint64_t dialtable_ntlm_line(const uint8_t *msg, dialtable_len msg_len, uint8_t *out, dialtable_len out_len);
-/* What the programs print: the line, or that of 33 where it has no room. */
+/* What the programs print: the line, or that of 33 ('refused 33 field=0 at=0') where it has no room. */
 uint64_t dialtable_ntlm_program_line(const uint8_t *msg, dialtable_len msg_len, uint8_t *out, dialtable_len out_len);
 uint64_t dialtable_nl_auth_program_line(const uint8_t *msg, dialtable_len msg_len, uint8_t *out, dialtable_len out_len);
 

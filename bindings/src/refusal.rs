@@ -1,4 +1,4 @@
-//! Refusals: a number and a field.
+//! Refusals: a number, a field and a place.
 
 use core::error::Error;
 use core::fmt;
@@ -75,6 +75,10 @@ pub struct Refusal {
     pub reason: Reason,
     /// The field or string that it is about, or 0.
     pub field: u8,
+    /// For 10 to 13 where the pair begins that failed, or for 11 where one should
+    /// have, from the start of the message, or of a list that is lent alone; else
+    /// 0. A place past `0x7FFF_FFFF_FFFF` is shown as that.
+    pub place: usize,
 }
 
 impl Refusal {
@@ -84,7 +88,8 @@ impl Refusal {
     }
 
     /// An answer of the library: the refusal where its highest bit is set, with
-    /// the number in the second byte and the field in the first.
+    /// the field in the first byte, the number in the second and the place in what
+    /// is left.
     pub(crate) const fn check(answer: u64) -> Result<u64, Self> {
         if answer >> 63 == 0 {
             return Ok(answer);
@@ -93,13 +98,15 @@ impl Refusal {
         Err(Self {
             reason: Reason::of(number),
             field,
+            place: (answer >> 16 & 0x7FFF_FFFF_FFFF) as usize,
         })
     }
 }
 
 impl fmt::Display for Refusal {
     fn fmt(&self, f: &mut fmt::Formatter<'_>) -> fmt::Result {
-        write!(f, "refused {} field={}: ", self.number(), self.field)?;
+        let Self { field, place, .. } = self;
+        write!(f, "refused {} field={field} at={place}: ", self.number())?;
         f.write_str(self.reason.text())
     }
 }

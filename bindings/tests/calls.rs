@@ -4,7 +4,7 @@ use std::fs;
 
 use dialtable::{
     authenticate_line, challenge_line, check_pairs, count_pairs, decide, domain_to_send, find_pair,
-    negotiate_line, nl_auth_line, nl_auth_program_line, ntlm_line, ntlm_program_line,
+    negotiate_line, nl_auth_line, nl_auth_program_line, ntlm_line, ntlm_program_line, raw,
     read_authenticate, read_challenge, read_negotiate, read_nl_auth, read_server_names,
     read_timestamp, respond, respond_for_bench, respond_for_relay, respond_to_old_server,
     write_authenticate, write_negotiate, write_nl_auth_request, write_nl_auth_response,
@@ -44,9 +44,17 @@ fn negotiate() -> Vec<u8> {
     file("messages/negotiate-names-escapes.bin")
 }
 
+/// A refusal as number and field. Only one of a pair has a place.
 fn refusal<T: std::fmt::Debug>(answer: Result<T, Refusal>) -> (u8, u8) {
+    let (number, field, place) = refusal_at(answer);
+    assert!(place == 0 || matches!(number, 10..=13), "{number}: {place}");
+    (number, field)
+}
+
+/// A refusal as number, field and place.
+fn refusal_at<T: std::fmt::Debug>(answer: Result<T, Refusal>) -> (u8, u8, usize) {
     let refusal = answer.expect_err("a refusal");
-    (refusal.number(), refusal.field)
+    (refusal.number(), refusal.field, refusal.place)
 }
 
 fn parts() -> Parts<'static> {
@@ -110,11 +118,16 @@ fn a_refusal_says_what_is_wrong() {
     assert_eq!(refused.reason, Reason::MessageTooShort);
     assert_eq!(
         refused.to_string(),
-        "refused 2 field=0: shorter than its fixed part"
+        "refused 2 field=0 at=0: shorter than its fixed part"
     );
     for number in 0..=u8::MAX {
         assert_eq!(Reason::of(number).number(), number);
     }
+    let refused = check_pairs(&[1, 0, 0, 0, 7]).expect_err("refused");
+    assert_eq!(
+        refused.to_string(),
+        "refused 11 field=2 at=4: under 4 bytes left where a pair should start"
+    );
 }
 
 #[test]
@@ -163,9 +176,71 @@ fn a_challenge_is_read() {
     };
     assert_eq!(read_server_names(&message), Ok(both));
     let cut = file("messages/challenge-list-runs-out.bin");
-    assert_eq!(refusal(read_challenge(&cut)), (11, 2));
-    assert_eq!(refusal(read_timestamp(&cut)), (11, 2));
-    assert_eq!(refusal(read_server_names(&cut)), (11, 2));
+    assert_eq!(refusal_at(read_challenge(&cut)), (11, 2, 130));
+    assert_eq!(refusal_at(read_timestamp(&cut)), (11, 2, 130));
+    assert_eq!(refusal_at(read_server_names(&cut)), (11, 2, 130));
+}
+
+/// A challenge that is refused has the message's place in every call that reads it,
+/// its list alone the list's.
+#[test]
+fn a_bad_pair_list_says_where() {
+    let cases = [
+        ("list-runs-out", 11, 70, 130),
+        ("value-past-end", 10, 70, 106),
+        ("timestamp-short", 13, 70, 118),
+        ("byte-after-end-pair", 12, 63, 123),
+    ];
+    for (name, number, start, place) in cases {
+        let message = file(&format!("messages/challenge-{name}.bin"));
+        let expected = (number, 2, place);
+        assert_eq!(refusal_at(read_challenge(&message)), expected);
+        let decision = decide(Settings::default(), &message);
+        assert_eq!(refusal_at(decision), expected);
+        let mut room = [0; 300];
+        let answer = respond(&mut room, &message, Settings::default(), CLOCK, &parts());
+        assert_eq!(refusal_at(answer), expected);
+        for call in [respond_for_bench, respond_to_old_server, respond_for_relay] {
+            let answer = call(&mut room, &message, CLOCK, &parts());
+            assert_eq!(refusal_at(answer), expected);
+        }
+        let pairs = write_response_pairs(&mut room, &message, b"", false, &[0; 16]);
+        assert_eq!(refusal_at(pairs), expected);
+        let line = format!("refused {number} field=2 at={place}\n");
+        assert_eq!(challenge_line(&message, &mut room), Ok(line.as_bytes()));
+        assert_eq!(ntlm_program_line(&message, &mut room), Ok(line.as_bytes()));
+
+        let info = u16::from_le_bytes([message[40], message[41]]);
+        let list = &message[start..start + usize::from(info)];
+        let expected = (number, 2, place - start);
+        assert_eq!(refusal_at(check_pairs(list)), expected);
+        assert_eq!(refusal_at(count_pairs(list)), expected);
+        assert_eq!(refusal_at(find_pair(list, 2)), expected);
+        let mut walk = Walk::new(list);
+        while let Ok(Some(_)) = walk.ask() {}
+        for _ in 0..2 {
+            assert_eq!(refusal_at(walk.ask()), expected);
+        }
+    }
+}
+
+/// A place that an answer has no room for is shown as the farthest.
+#[test]
+fn a_place_past_the_farthest_is_shown_as_it() {
+    const FARTHEST: usize = 0x7FFF_FFFF_FFFF;
+    let asked = [
+        (5, 5),
+        (FARTHEST - 1, FARTHEST - 1),
+        (FARTHEST, FARTHEST),
+        (FARTHEST + 1, FARTHEST),
+        (usize::MAX, FARTHEST),
+    ];
+    for (at, shown) in asked {
+        let mut numbers = [7; raw::NEXT_NUMBERS];
+        let answer = raw::next_pair(&[0; 4], at, &mut numbers);
+        assert_eq!(answer, 1 << 63 | (shown as u64) << 16 | 11 << 8 | 2);
+        assert_eq!(numbers, [7; raw::NEXT_NUMBERS]);
+    }
 }
 
 #[test]
@@ -233,12 +308,12 @@ fn pair_lists() {
         (&[6, 0, 2, 0, 0, 0, 0, 0, 0, 0], 13),
     ];
     for (list, number) in lists {
-        assert_eq!(refusal(check_pairs(list)), (number, 2));
-        assert_eq!(refusal(count_pairs(list)), (number, 2));
-        assert_eq!(refusal(find_pair(list, 1)), (number, 2));
+        assert_eq!(refusal_at(check_pairs(list)), (number, 2, 0));
+        assert_eq!(refusal_at(count_pairs(list)), (number, 2, 0));
+        assert_eq!(refusal_at(find_pair(list, 1)), (number, 2, 0));
         let mut walk = Walk::new(list);
-        assert_eq!(refusal(walk.ask()), (number, 2));
-        assert_eq!(refusal(walk.ask()), (number, 2));
+        assert_eq!(refusal_at(walk.ask()), (number, 2, 0));
+        assert_eq!(refusal_at(walk.ask()), (number, 2, 0));
         // As an iterator it gives the refusal once.
         assert_eq!(Walk::new(list).count(), 1);
     }
@@ -279,7 +354,7 @@ fn lines() {
         assert_eq!(line(&negotiate(), &mut room), Ok(&nego[..]));
         assert_eq!(
             line(&negotiate()[..31], &mut room),
-            Ok(&b"refused 2 field=0\n"[..])
+            Ok(&b"refused 2 field=0 at=0\n"[..])
         );
     }
     let nl = b"nl type=0 flags=00000001 a=LINE\n";
@@ -287,7 +362,7 @@ fn lines() {
     assert_eq!(nl_auth_program_line(P12, &mut room), Ok(&nl[..]));
     assert_eq!(
         nl_auth_line(&[], &mut room),
-        Ok(&b"refused 2 field=0\n"[..])
+        Ok(&b"refused 2 field=0 at=0\n"[..])
     );
 }
 
@@ -295,11 +370,11 @@ fn lines() {
 fn a_line_with_no_room_is_refused_and_changes_nothing() {
     let mut room = [0xEE; 80];
     assert_eq!(refusal(authenticate_line(&p1(), &mut room)), (33, 0));
-    assert_eq!(refusal(ntlm_program_line(&p1(), &mut room[..18])), (33, 0));
+    assert_eq!(refusal(ntlm_program_line(&p1(), &mut room[..23])), (33, 0));
     assert_eq!(refusal(nl_auth_line(P12, &mut [])), (33, 0));
     assert_eq!(room, [0xEE; 80]);
     let shown = ntlm_program_line(&p1(), &mut room);
-    assert_eq!(shown, Ok(&b"refused 33 field=0\n"[..]));
+    assert_eq!(shown, Ok(&b"refused 33 field=0 at=0\n"[..]));
 }
 
 #[test]

@@ -33,9 +33,15 @@ static void equal(uint64_t got, uint64_t expected, int line, const char *what)
                (unsigned long)(expected & 0xFFFFFFFFu));
 }
 
+static int refused_at(uint64_t answer, unsigned number, unsigned field, uint64_t place)
+{
+    return DIALTABLE_IS_REFUSED(answer) && DIALTABLE_NUMBER(answer) == number && DIALTABLE_FIELD(answer) == field &&
+           DIALTABLE_PLACE(answer) == place;
+}
+
 static int refused(uint64_t answer, unsigned number, unsigned field)
 {
-    return DIALTABLE_IS_REFUSED(answer) && DIALTABLE_NUMBER(answer) == number && DIALTABLE_FIELD(answer) == field;
+    return refused_at(answer, number, field, 0);
 }
 
 /* Whether all of these bytes are the byte that every output is filled with first. */
@@ -299,7 +305,78 @@ static void reads_pairs(const message_t *challenge)
     EQUAL(numbers[DIALTABLE_NEXT_PLACE], 0);
     EQUAL(numbers[DIALTABLE_NEXT_LEN], 0);
     EQUAL(numbers[DIALTABLE_NEXT_AT], 60);
-    CHECK(refused(dialtable_next_pair(list, 64, 61, numbers, DIALTABLE_NEXT_NUMBERS), 11, 2));
+    CHECK(refused_at(dialtable_next_pair(list, 64, 61, numbers, DIALTABLE_NEXT_NUMBERS), 11, 2, 61));
+}
+
+/* TargetInfo's pairs begin at 70, 88, 106, 110 and 118 of the challenge, its end pair at 130. */
+static void says_where(const message_t *challenge)
+{
+    static const struct {
+        unsigned at, number, place; /* the byte that is changed, and the refusal that follows */
+        uint8_t byte;
+    } faults[] = {{72, 13, 70, 13}, {72, 10, 70, 100}, {90, 13, 88, 15}, {108, 10, 106, 100}, {120, 13, 118, 4},
+                  {118, 12, 118, 0}, {130, 13, 130, 7}, {132, 12, 130, 1}, {40, 11, 130, 60}, {40, 11, 130, 63},
+                  {40, 11, 118, 49}, {40, 10, 118, 52}};
+    uint64_t numbers[DIALTABLE_NEXT_NUMBERS];
+    uint8_t out[300], bytes[16];
+    unsigned i;
+
+    memset(out, FILL, sizeof out);
+    memset(bytes, 0, sizeof bytes);
+    for (i = 0; i < sizeof faults / sizeof *faults; i++) {
+        message_t bad = *challenge;
+        unsigned number = faults[i].number, place = faults[i].place;
+        const uint8_t *list = bad.bytes + 70;
+        char line[64];
+        unsigned at = 0;
+
+        bad.bytes[faults[i].at] = faults[i].byte;
+        /* From the start of the message, whatever reads it. */
+#define WHERE(call) CHECK(refused_at(call, number, 2, place))
+        WHERE(dialtable_read_challenge(bad.bytes, bad.len, numbers, DIALTABLE_CHALLENGE_NUMBERS, bytes, 8));
+        WHERE(dialtable_read_timestamp(bad.bytes, bad.len, numbers, DIALTABLE_TIMESTAMP_NUMBERS));
+        WHERE(dialtable_read_server_names(bad.bytes, bad.len, numbers, DIALTABLE_SERVER_NAMES_NUMBERS));
+        WHERE(dialtable_decide(DIALTABLE_DEFAULTS, bad.bytes, bad.len, numbers, DIALTABLE_DECISION_NUMBERS));
+        WHERE(dialtable_write_response_pairs(out, sizeof out, bad.bytes, bad.len, NULL, 0, 0, bytes));
+        WHERE(dialtable_respond(out, sizeof out, bad.bytes, bad.len, DIALTABLE_DEFAULTS, CLOCK, bytes, bytes, NULL, 0,
+                                NULL, 0, NULL, 0, NULL, 0, NULL, 0, NULL, 0, numbers, DIALTABLE_RESPONSE_NUMBERS));
+        CHECK(untouched(out, sizeof out));
+        sprintf(line, "refused %u field=2 at=%u\n", number, place);
+        EQUAL(dialtable_ntlm_line(bad.bytes, bad.len, out, sizeof out), strlen(line));
+        CHECK(memcmp(out, line, strlen(line)) == 0);
+        memset(out, FILL, sizeof out);
+        /* From the start of the list, where it is lent alone. */
+        place -= 70;
+        WHERE(dialtable_check_pairs(list, bad.bytes[40]));
+        WHERE(dialtable_count_pairs(list, bad.bytes[40], numbers, 1));
+        WHERE(dialtable_find_pair(list, bad.bytes[40], 2, numbers, DIALTABLE_FOUND_NUMBERS));
+        while (at < place && !DIALTABLE_IS_REFUSED(dialtable_next_pair(list, bad.bytes[40], at, numbers, 5)))
+            at = (unsigned)numbers[DIALTABLE_NEXT_AT];
+        WHERE(dialtable_next_pair(list, bad.bytes[40], at, numbers, DIALTABLE_NEXT_NUMBERS));
+    }
+}
+
+/* A place has 47 bits; what lies farther is shown as the farthest, and number and field stay. */
+static void shows_far_places(const message_t *challenge)
+{
+    static const uint64_t farthest = 0x7FFFFFFFFFFFu;
+    const uint8_t *list = challenge->bytes + 70;
+    uint64_t numbers[DIALTABLE_NEXT_NUMBERS];
+    uint64_t asked[6], shown[6];
+    unsigned i;
+
+    asked[0] = shown[0] = 64;
+    asked[1] = shown[1] = 0x123456789ABCu;
+    asked[2] = shown[2] = farthest - 1;
+    asked[3] = shown[3] = farthest;
+    asked[4] = farthest + 1;
+    asked[5] = UINT64_MAX;
+    shown[4] = shown[5] = farthest;
+    for (i = 0; i < 6; i++) {
+        uint64_t answer = dialtable_next_pair(list, 64, asked[i], numbers, DIALTABLE_NEXT_NUMBERS);
+        CHECK(refused_at(answer, 11, 2, shown[i]));
+        EQUAL(answer, ((uint64_t)1 << 63) + (shown[i] * 65536 + 11 * 256 + 2));
+    }
 }
 
 typedef uint64_t line_call(const uint8_t *msg, dialtable_len msg_len, uint8_t *out, dialtable_len out_len);
@@ -315,7 +392,7 @@ static void has_line(line_call *call, const uint8_t *msg, dialtable_len msg_len,
     CHECK(memcmp(out, expected, len) == 0);
     CHECK(untouched(out + len, sizeof out - len));
     memset(out, FILL, sizeof out);
-    CHECK(refused(call(msg, msg_len, out, len - 1), 33, 0) || memcmp(out, "refused 33 field=0\n", 19) == 0);
+    CHECK(refused(call(msg, msg_len, out, len - 1), 33, 0) || memcmp(out, "refused 33 field=0 at=0\n", 24) == 0);
     CHECK(untouched(out + len - 1, sizeof out - len + 1));
 }
 
@@ -336,13 +413,13 @@ static void prints_lines(const message_t *p1, const message_t *challenge)
     has_line(dialtable_ntlm_program_line, nego, NEGO_LEN, opening);
     has_line(dialtable_nl_auth_line, p12, sizeof p12, nl);
     has_line(dialtable_nl_auth_program_line, p12, sizeof p12, nl);
-    has_line(dialtable_authenticate_line, NULL, 0, "refused 2 field=0\n");
-    has_line(dialtable_challenge_line, p1->bytes, p1->len, "refused 4 field=0\n");
-    has_line(dialtable_negotiate_line, p1->bytes, p1->len, "refused 4 field=0\n");
-    has_line(dialtable_ntlm_line, nego, NEGO_LEN - 1, "refused 6 field=2\n");
-    EQUAL(dialtable_ntlm_program_line(p1->bytes, p1->len, out, 19), 19);
-    CHECK(memcmp(out, "refused 33 field=0\n", 19) == 0);
-    CHECK(refused(dialtable_ntlm_program_line(p1->bytes, p1->len, out, 18), 33, 0));
+    has_line(dialtable_authenticate_line, NULL, 0, "refused 2 field=0 at=0\n");
+    has_line(dialtable_challenge_line, p1->bytes, p1->len, "refused 4 field=0 at=0\n");
+    has_line(dialtable_negotiate_line, p1->bytes, p1->len, "refused 4 field=0 at=0\n");
+    has_line(dialtable_ntlm_line, nego, NEGO_LEN - 1, "refused 6 field=2 at=0\n");
+    EQUAL(dialtable_ntlm_program_line(p1->bytes, p1->len, out, 24), 24);
+    CHECK(memcmp(out, "refused 33 field=0 at=0\n", 24) == 0);
+    CHECK(refused(dialtable_ntlm_program_line(p1->bytes, p1->len, out, 23), 33, 0));
 
     /* The main job: what a log would have. */
     EQUAL(dialtable_ntlm_line(p1->bytes, p1->len, out, sizeof out), strlen(p1_line));
@@ -723,6 +800,8 @@ int main(int argc, char **argv)
     reads_negotiate();
     reads_nl_auth();
     reads_pairs(&challenge);
+    says_where(&challenge);
+    shows_far_places(&challenge);
     prints_lines(&p1, &challenge);
     writes_and_reads_back();
     writes_negotiate();

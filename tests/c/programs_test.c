@@ -234,8 +234,8 @@ static void cannot_write(const struct program *program, const char *what, const 
 
 static void from_files(const struct program *program)
 {
-    static const char refused_2[] = "refused 2 field=0\n";
-    static const char refused_1[] = "refused 1 field=0\n";
+    static const char refused_2[] = "refused 2 field=0 at=0\n";
+    static const char refused_1[] = "refused 1 field=0 at=0\n";
     static const char zeros[200000];
     static const size_t too_long[] = {65536, 65537, sizeof zeros};
     size_t i;

@@ -6,7 +6,7 @@ ghost use Rattle.wire.specs.declared.refusal.Refusal.{Refusal};
 ghost use Rattle.wire.specs.declared.refusal.Refusal.the-variants.{NoRoom};
 ghost use Rattle.place.specs.declared.written.Written.the-variants.{Refused};
 ghost use Rattle.place.specs.Written.{atFront, bytesAnswer, bytesAfter};
-ghost use Rattle.c_number.specs.Number.{refusalNumber, verdictNumber, writtenNumber, bit};
+ghost use Rattle.c_number.specs.Number.{placeShown, refusalNumber, verdictNumber, writtenNumber, bit};
 ghost use Rattle.c_number.specs.Outcome.{roomsHold};
 use field::Field;
 use place::Place;
@@ -23,10 +23,20 @@ fn wide(x: u8) -> u64
     x as u64
 }
 
+fn place_shown(at: usize) -> u64
+    ensures { λ r. ⌜ (r ≡ placeShown at) × (r < 0x800000000000) ⌝ }
+{
+    if at <= 0x7FFFFFFFFFFF {
+        return at as u64;
+    }
+    0x7FFFFFFFFFFF
+}
+
 pub fn refusal_number(e: Refusal) -> u64
     ensures { λ r. ⌜ r ≡ refusalNumber e ⌝ }
 {
-    0x8000000000000000 + (256 * wide(e.number()) + wide(e.field()))
+    0x8000000000000000
+        + (65536 * place_shown(e.place()) + (256 * wide(e.number()) + wide(e.field())))
 }
 
 pub fn verdict_number(verdict: Verdict) -> u64

@@ -2,7 +2,7 @@
 pub mod Deciding
 pub mod DomainSent
 pub mod Sending
-use Prim.Native.Nat.{ℕ}
+use Prim.Native.Nat.{ℕ, _≤_}
 use mathlib.Core.Path.{_≡_, refl, sym, ap, _∙_, subst}
 use mathlib.Core.Logic.{inl, inr, ⊎-elim, _↔_}
 use mathlib.Core.Bool.{Bool, true, false}
@@ -10,7 +10,9 @@ use mathlib.Core.List.{List}
 use native.Mathlib.Omega.{arith}
 use lib.ListN.{length, take}
 use Rattle.wire.specs.declared.refusal.Refusal.{Refusal}
-use Rattle.wire.specs.Refusal.{numberOf, fieldOf}
+use Rattle.wire.specs.Refusal.{numberOf, fieldOf, placeOf}
+use Rattle.wire.proofs.Places.{placeless-number}
+use Rattle.demands.proofs.Order.{on-row}
 use Rattle.place.specs.declared.written.Written.{Written}
 use Rattle.place.specs.declared.written.Written.the-variants.{Length, Refused as Unwritten}
 use Rattle.head.specs.Head.{flagsAt}
@@ -35,7 +37,7 @@ use Rattle.demands.proofs.Kept.AnswerKept.{mic-long}
 use Rattle.demands.proofs.Secret.Answered.{sent-written}
 use Rattle.demands.proofs.ReadBack.WriteBack.{authenticate-reads-back}
 use Rattle.demands.proofs.WrittenExactly.MessagesWritten.{authenticate-written}
-use Rattle.demands.proofs.Answering.Deciding.{Judged, judged, agreed-or-declined, one-decline}
+use Rattle.demands.proofs.Answering.Deciding.{Judged, judged, agreed-or-declined, one-decline, decline-is}
 use Rattle.demands.proofs.Answering.Sending.{due-is, mic-is, lm-is, key-is, time-is, domain-is}
 
 same-bool : {P : Type 0} (x y : Bool) → (x ≡ true) ↔ P → (y ≡ true) ↔ P → x ≡ y
@@ -44,13 +46,23 @@ same-bool true false p q = sym (q .1 (p .0 refl))
 same-bool false true p q = p .1 (q .0 refl)
 same-bool false false p q = refl
 
+-- none of the writing's numbers has a place
+no-place : (room bits : ℕ) (lm nt domain user workstation key : List ℕ) (n i : ℕ) →
+    AuthenticateWritingFails room bits lm nt domain user workstation key n i → (10 ≤ n) × (n ≤ 13) → ⊥
+no-place room bits lm nt domain user workstation key n i h z =
+    on-row 5 n _ _ ⊥ (λ e x. omega (arith, z .0, e)) (
+    on-row 31 n _ _ ⊥ (λ e x. omega (arith, z .1, e)) (
+    on-row 32 n _ _ ⊥ (λ e x. omega (arith, z .1, e)) (
+    on-row 30 n _ _ ⊥ (λ e x. omega (arith, z .1, e)) (
+    on-row 33 n _ _ ⊥ (λ e x. omega (arith, z .1, e)) (λ x. x))))) h
+
 module _ (settings : Settings) (s b : List ℕ) (F : ℕ → ℕ → Type 0) (size time : ℕ) where
-  -- an exact writing, with its time and whether a MIC is due, is an exact answer
-  as-answer : (r : Written) (due : Bool) → Agreed settings s b → (due ≡ true) ↔ PairThere b 7 → WrittenExactly r authenticateOrder F size →
-      AnsweredExactly (answerWith r time due) settings s b F size time
-  as-answer (Length m) due agreed there w =
+  -- an exact writing whose refusals have no place, with its time and whether a MIC is due, is an exact answer
+  as-answer : (r : Written) (due : Bool) → Agreed settings s b → (due ≡ true) ↔ PairThere b 7 → ((n i : ℕ) → F n i → (10 ≤ n) × (n ≤ 13) → ⊥) →
+      WrittenExactly r authenticateOrder F size → AnsweredExactly (answerWith r time due) settings s b F size time
+  as-answer (Length m) due agreed there none w =
       record {
-        refused = λ n i. (λ t. absurd t, λ f. ⊎-elim (λ d. agreed-or-declined settings s b n i agreed d) (λ g. w .refused n i .1 (g .1)) f);
+        refused = λ n i p. (λ t. absurd t, λ f. ⊎-elim (λ d. agreed-or-declined settings s b n i p agreed d) (λ g. w .refused n i .1 (g .1)) f);
         sent = λ x. (λ h. told x h, λ h. made x (w .written (x .len) .1 (h .1, h .2)) (h .3) (h .4));
       }
     where
@@ -72,11 +84,11 @@ module _ (settings : Settings) (s b : List ℕ) (F : ℕ → ℕ → Type 0) (si
       made x l t d = ap Sent (λ k. record { len = same l k; time = sym t k; «mic_due» = same-bool due (x .«mic_due») there d k }) where
         same : Length m ≡ Length (x .len) → m ≡ x .len
         same p = cc
-  as-answer (Unwritten e) due agreed there w =
+  as-answer (Unwritten e) due agreed there none w =
       record {
-        refused = λ n i. (
-          λ t. inr (agreed, w .refused n i .0 t),
-          λ f. ⊎-elim (λ d. absurd (agreed-or-declined settings s b n i agreed d)) (λ g. w .refused n i .1 (g .1)) f,
+        refused = λ n i p. (
+          λ t. inr (agreed, w .refused n i .0 (t .0, t .1), sym (t .2) ∙ no-place),
+          λ f. ⊎-elim (λ d. absurd (agreed-or-declined settings s b n i p agreed d)) (λ g. let k = w .refused n i .1 (g .1) in (k .0, k .1, no-place ∙ sym (g .2))) f,
         );
         sent = λ x. (
           λ h. absurd (let z : _≡_ {A = ℕ} 0 1 = cc in omega arith),
@@ -84,20 +96,23 @@ module _ (settings : Settings) (s b : List ℕ) (F : ℕ → ℕ → Type 0) (si
         );
       }
     where
+      no-place : placeOf e ≡ 0
+      no-place = placeless-number e (none (numberOf e) (fieldOf e) (w .refused (numberOf e) (fieldOf e) .0 (refl, refl) .fails))
+
       never : (n : ℕ) → Unwritten e ≡ Length n → ⊥
       never n h = let z : _≡_ {A = ℕ} 0 1 = cc in omega arith
 
   -- so is a refusal of the decision
-  as-refusal : (e : Refusal) → Declined settings s b (numberOf e) (fieldOf e) → AnsweredExactly (Unanswered e) settings s b F size time
+  as-refusal : (e : Refusal) → Declined settings s b (numberOf e) (fieldOf e) (placeOf e) → AnsweredExactly (Unanswered e) settings s b F size time
   as-refusal e j =
       record {
-        refused = λ n i. (
-          λ t. inl (subst (λ (x : ℕ). Declined settings s b n x) (t .1) (subst (λ (x : ℕ). Declined settings s b x (fieldOf e)) (t .0) j)),
-          λ f. ⊎-elim (λ d. one-decline settings s b (numberOf e) (fieldOf e) n i j d) (λ g. absurd (agreed-or-declined settings s b (numberOf e) (fieldOf e) (g .0) j)) f,
+        refused = λ n i p. (
+          λ t. inl (decline-is settings s b t j),
+          λ f. ⊎-elim (λ d. one-decline settings s b (numberOf e) (fieldOf e) (placeOf e) n i p j d) (λ g. absurd (agreed-or-declined settings s b (numberOf e) (fieldOf e) (placeOf e) (g .0) j)) f,
         );
         sent = λ x. (
           λ h. absurd (let z : _≡_ {A = ℕ} 0 1 = cc in omega arith),
-          λ h. absurd (agreed-or-declined settings s b (numberOf e) (fieldOf e) (h .0) j),
+          λ h. absurd (agreed-or-declined settings s b (numberOf e) (fieldOf e) (placeOf e) (h .0) j),
         );
       }
 
@@ -135,6 +150,7 @@ respond-answered room s b v mic lm nt dom usr wks key settings clock v8 m16 info
       (as-answer settings s b (AuthenticateWritingFails room (flagsAt s 20 .bits) (x .lm-sent) nt (x .domain-sent) usr wks (x .key-sent))
       (authenticateSize (x .lm-sent) nt (x .domain-sent) usr wks (x .key-sent)) (x .time)
       (writeAnswer room (flagsAt s 20) v (x .mic-sent) (x .lm-sent) nt (x .domain-sent) usr wks (x .key-sent)) (micDue (timestampIn b)) agreed (due-is b)
+      (no-place room (flagsAt s 20 .bits) (x .lm-sent) nt (x .domain-sent) usr wks (x .key-sent))
       (authenticate-written room (flagsAt s 20) v (x .mic-sent) (x .lm-sent) nt (x .domain-sent) usr wks (x .key-sent) v8 (mic-sent-long s b v mic lm nt dom usr wks key settings clock m16 info x)))
 
   go : (d : Decided) → Judged settings s b info d → Right (onDecided Unanswered d (λ y. sendAnswer room settings y clock v mic lm nt (domainToSend dom s) usr wks key))

@@ -5,7 +5,7 @@ use mathlib.Core.Logic.{_⊎_, inl, inr, ⊎-elim, _↔_}
 use mathlib.Core.List.{List}
 use native.Mathlib.Omega.{arith}
 use lib.ListN.{length}
-use Rattle.wire.specs.Refusal.{numberOf, fieldOf}
+use Rattle.wire.specs.Refusal.{numberOf, fieldOf, placeOf}
 use Rattle.av_pairs.specs.declared.AvPair.{AvPair}
 use Rattle.av_pairs.specs.declared.Step.{Step}
 use Rattle.av_pairs.specs.declared.Step.the-variants.{Pair, End, Refused}
@@ -20,14 +20,14 @@ use Rattle.demands.proofs.PairList.{JudgedS, step-judged, empty-step, p
 abbrev At : List ℕ → ℕ → Step → Type 0
 At s at (Pair p) = PairIs s at p
 At s at End = (length s ≡ 0) ⊎ EndAt s at
-At s at (Refused e) = (0 < length s) × (fieldOf e ≡ 2) × FaultAt s at (numberOf e)
+At s at (Refused e) = (0 < length s) × (fieldOf e ≡ 2) × FaultAt s at (numberOf e) × (placeOf e ≡ at)
 
 step-is : (s : List ℕ) (at : ℕ) → At s at (stepAt s at)
 step-is s at = go (length s) refl where
   full : (x : Step) → 0 < length s → JudgedS s at x → At s at x
   full (Pair p) h j = rw (j .1) (own s at (j .0))
   full End h j = inr j
-  full (Refused e) h j = (h, j .1, j .0)
+  full (Refused e) h j = (h, j .1, j .0, j .2)
 
   go : (n : ℕ) → length s ≡ n → At s at (stepAt s at)
   go zero e = rw (empty-step s at e) (inl e)
@@ -44,7 +44,7 @@ asked s at (Pair p) j =
     record {
       pair = λ q. (λ e. subst (PairIs s at) (same e) j, λ w. ap Pair (one-pair s at p q j w));
       end = (λ e. other e, λ h. absurd (pair-or-stop s at (j .there) h));
-      refused = λ n i. (λ t. absurd t, λ h. pair-or-fault s at n (j .there) (h .2));
+      refused = λ n i p. (λ t. absurd t, λ h. pair-or-fault s at n (j .there) (h .2));
       onward = λ w. omega (arith, j .size, j .value);
       stays = λ no. absurd (no (j .there));
     }
@@ -58,7 +58,7 @@ asked s at End j =
     record {
       pair = λ q. (λ e. other e, λ w. absurd (pair-or-stop s at (w .there) j));
       end = (λ e. j, λ h. refl);
-      refused = λ n i. (λ t. absurd t, λ h. stop-or-fault s at n j (h .0) (h .2));
+      refused = λ n i p. (λ t. absurd t, λ h. stop-or-fault s at n j (h .0) (h .2));
       onward = λ w. absurd (pair-or-stop s at w j);
       stays = λ no. refl;
     }
@@ -69,9 +69,9 @@ asked s at (Refused x) j =
     record {
       pair = λ q. (λ e. other e, λ w. absurd (pair-or-fault s at (numberOf x) (w .there) (j .2)));
       end = (λ e. ended e, λ h. absurd (stop-or-fault s at (numberOf x) h (j .0) (j .2)));
-      refused = λ n i. (
-        λ t. (j .0, sym (t .1) ∙ j .1, subst (λ (m : ℕ). FaultAt s at m) (t .0) (j .2)),
-        λ h. (one-first s (here (j .2)) (here (h .2)), j .1 ∙ sym (h .1)),
+      refused = λ n i p. (
+        λ t. (j .0, sym (t .1) ∙ j .1, subst (λ (m : ℕ). FaultAt s at m) (t .0) (j .2), sym (t .2) ∙ j .3),
+        λ h. (one-first s (here refl (j .2)) (here refl (h .2)) .0, j .1 ∙ sym (h .1), j .3 ∙ sym (h .3)),
       );
       onward = λ w. absurd (pair-or-fault s at (numberOf x) w (j .2));
       stays = λ no. refl;

@@ -8,7 +8,7 @@ use Rattle.word.specs.Digits.{hexDigit, hex, decimalSize, decimal}
 use Rattle.word.specs.Name.{escape, unitText, textOf, nameText}
 use Rattle.word.specs.Words.{numberWord, nameWord, flagsWord, setWord, startText, micWord, kindWord}
 use Rattle.av_pairs.specs.AvPairs.{countPairs, checkPairs, pairsOf, valuesOf, stepAt, pairOf, left}
-use Rattle.challenge.specs.Challenge.{fieldsAt as challengeFieldsAt, checkEnds as challengeEnds, checkBegins as challengeBegins, checkNames as challengeNames, checkFields as challengeChecks, fieldsOf, readingOf as challengeReadingOf, readChallenge, timestampOf, serverNamesOf}
+use Rattle.challenge.specs.Challenge.{fieldsAt as challengeFieldsAt, checkEnds as challengeEnds, checkBegins as challengeBegins, checkNames as challengeNames, checkFields as challengeChecks, fieldsOf, checkInfo, readingOf as challengeReadingOf, readChallenge, timestampOf, serverNamesOf}
 use Rattle.negotiate.specs.Negotiate.{fieldsAt as negotiateFieldsAt, checkEnds as negotiateEnds, checkBegins as negotiateBegins, checkFields as negotiateChecks, readNegotiate}
 use Rattle.negotiate_writing.specs.Writing.{flagsToWrite, fieldsTo as negotiateFieldsTo, afterType, fixedBytes as negotiateFixed, negotiateBytes, checkToWrite as negotiateCheck, writeAnswer as negotiateAnswer, writeOut as negotiateOut}
 use Rattle.authenticate.specs.Authenticate.{fieldsAt, checkEnds, checkBegins, checkNames, checkShared, checkFields, micPresent, readingOf, readAuthenticate}
@@ -26,7 +26,7 @@ use Rattle.target_info.specs.TargetInfo.{timestampIn, serverNamesIn}
 use Rattle.demands.specs.Examples.{ChallengeExample, NegotiateExample, AuthenticateExample, AnswerExample, PairListExample, NlAuthExample, ExamplesHold}
 
 challenge-example : ChallengeExample
-unfolding readChallenge challengeReadingOf fieldsOf challengeFieldsAt challengeEnds challengeBegins challengeNames challengeChecks readHead signatureHolds fieldAt fieldBytes countPairs checkPairs pairsOf stepAt pairOf left timestampIn timestampOf serverNamesIn serverNamesOf hexDigit hex decimalSize decimal escape unitText textOf nameText numberWord nameWord flagsWord setWord startText timeText timeWord chalEnd chalWords chalText challengeLine kindOf ntlmLine
+unfolding readChallenge challengeReadingOf checkInfo fieldsOf challengeFieldsAt challengeEnds challengeBegins challengeNames challengeChecks readHead signatureHolds fieldAt fieldBytes countPairs checkPairs pairsOf stepAt pairOf left timestampIn timestampOf serverNamesIn serverNamesOf hexDigit hex decimalSize decimal escape unitText textOf nameText numberWord nameWord flagsWord setWord startText timeText timeWord chalEnd chalWords chalText challengeLine kindOf ntlmLine
 challenge-example = record { reading = refl; server-challenge = refl; pairs = refl; timestamp = refl; server-names = refl; line = refl }
 
 negotiate-example : NegotiateExample
@@ -38,11 +38,11 @@ unfolding readAuthenticate readingOf fieldsAt checkEnds checkBegins checkNames c
 authenticate-example = record { length-written = refl; bytes-written = refl; line = refl; no-room = refl; kept = refl }
 
 answer-example : AnswerExample
-unfolding challengeReadingOf fieldsOf challengeFieldsAt challengeEnds challengeBegins challengeNames challengeChecks checkPairs pairsOf stepAt pairOf left timestampIn serverNamesIn domainPart fieldStart decisionOn lmToSend micToSend keyToSend sendAnswer sendOut respondAnswer respondOut readAuthenticate readingOf fieldsAt checkEnds checkBegins checkNames checkShared checkFields micPresent readHead signatureHolds fieldAt fieldBytes hexDigit hex decimalSize decimal escape unitText textOf nameText numberWord nameWord flagsWord setWord startText micWord kindWord authNames authLengths authEnd authText authenticateLine kindOf ntlmLine fieldsTo headsBytes afterHeads fixedBytes payloadBytes authenticateBytes checkNamesToWrite checkToWrite writeAnswer writeOut headBytes versionBytes le16 le32
+unfolding challengeReadingOf checkInfo fieldsOf challengeFieldsAt challengeEnds challengeBegins challengeNames challengeChecks checkPairs pairsOf stepAt pairOf left timestampIn serverNamesIn domainPart fieldStart decisionOn lmToSend micToSend keyToSend sendAnswer sendOut respondAnswer respondOut readAuthenticate readingOf fieldsAt checkEnds checkBegins checkNames checkShared checkFields micPresent readHead signatureHolds fieldAt fieldBytes hexDigit hex decimalSize decimal escape unitText textOf nameText numberWord nameWord flagsWord setWord startText micWord kindWord authNames authLengths authEnd authText authenticateLine kindOf ntlmLine fieldsTo headsBytes afterHeads fixedBytes payloadBytes authenticateBytes checkNamesToWrite checkToWrite writeAnswer writeOut headBytes versionBytes le16 le32
 answer-example = record { answer = refl; bytes-written = refl; line = refl; no-room = refl; kept = refl }
 
 pair-list-example : PairListExample
-unfolding challengeReadingOf fieldsOf challengeFieldsAt challengeEnds challengeBegins challengeNames challengeChecks readHead signatureHolds fieldAt fieldBytes countPairs checkPairs pairsOf valuesOf stepAt pairOf left dueBits bitsDue addedPairs pairsBack pairsFor pairBytes listBytes listWith listFor checkList listAnswer listOut pairsAnswer pairsOut le16 le32
+unfolding challengeReadingOf checkInfo fieldsOf challengeFieldsAt challengeEnds challengeBegins challengeNames challengeChecks readHead signatureHolds fieldAt fieldBytes countPairs checkPairs pairsOf valuesOf stepAt pairOf left dueBits bitsDue addedPairs pairsBack pairsFor pairBytes listBytes listWith listFor checkList listAnswer listOut pairsAnswer pairsOut le16 le32
 pair-list-example =
     record { length-written = refl; bytes-written = refl; pairs = refl; no-room = refl; kept = refl; odd-name = refl; with-all = refl }
 

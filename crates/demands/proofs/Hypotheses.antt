@@ -71,9 +71,9 @@ three-pairs : Holds info 3
 unfolding countPairs checkPairs pairsOf stepAt pairOf left
 three-pairs = pairs-taken info 3 .0 refl
 
-no-end-pair : FirstFault (take 32 info) 11 0
+no-end-pair : FirstFault (take 32 info) 11 32 0
 unfolding countPairs checkPairs pairsOf stepAt pairOf left
-no-end-pair = pairs-refused (take 32 info) 11 2 .0 (refl, refl) .2
+no-end-pair = pairs-refused (take 32 info) 11 2 32 .0 (refl, refl, refl) .2
 
 first-timestamp-at : FirstWith info 7 20 0
 first-timestamp-at = next pair-0 (λ e. omega arith) (next pair-12 (λ e. omega arith) (this refl pair-20 refl))

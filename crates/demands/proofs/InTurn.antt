@@ -6,7 +6,7 @@ use mathlib.Core.List.{List, [], _∷_}
 use native.Mathlib.Omega.{arith}
 use lib.ListN.{length}
 use denote.Ref.{RefT, now}
-use Rattle.wire.specs.Refusal.{numberOf, fieldOf}
+use Rattle.wire.specs.Refusal.{numberOf, fieldOf, placeOf}
 use Rattle.av_pairs.specs.declared.AvPair.{AvPair}
 use Rattle.av_pairs.specs.declared.Step.{Step}
 use Rattle.av_pairs.specs.declared.Step.the-variants.{Pair, End, Refused}
@@ -14,7 +14,7 @@ use Rattle.av_pairs.specs.AvPairs.{stepAt, endOf, onStep, pairsFrom, stopFrom, 
 use Rattle.av_pairs.specs.Walk.{walkOver, asking, walkAfter, pairOr, answerAt}
 use Rattle.demands.specs.PairList.{idOf, sizeOf, nextOf, PairAt, WellFormed, end, pair, Holds, empty, listed, FirstFault, here, later}
 use Rattle.demands.specs.InTurn.{PairIs, InTurn, PairsInTurn, KthPair, StepRefused, WalkGives, WalkEnds, WalkRefuses}
-use Rattle.demands.proofs.PairList.{JudgedS, step-judged, empty-step, pair-or-end, pair-or-fault, one-first, holds-or-fault}
+use Rattle.demands.proofs.PairList.{JudgedS, step-judged, empty-step, pair-or-end, pair-or-fault, one-first, fault-is, holds-or-fault}
 use Rattle.demands.proofs.Walk.{walk-answers}
 
 -- ---- the pairs
@@ -53,7 +53,7 @@ pairs-in-turn s = (λ e. simp (empty-step s 0 e), λ h. from-place (suc (length 
 abbrev JudgedA : List ℕ → ℕ → ℕ → Step → Type 0
 JudgedA s at k (Pair p) = (found : ℕ) × KthPair s found k at × PairIs s found p
 JudgedA s at k End = (n : ℕ) × WellFormed s at n × (n ≤ k)
-JudgedA s at k (Refused e) = FirstFault s (numberOf e) at × (fieldOf e ≡ 2) × ((found : ℕ) → KthPair s found k at → ⊥)
+JudgedA s at k (Refused e) = FirstFault s (numberOf e) (placeOf e) at × (fieldOf e ≡ 2) × ((found : ℕ) → KthPair s found k at → ⊥)
 
 module _ (s : List ℕ) where
   -- a pair is needed for a k-th one
@@ -87,13 +87,13 @@ module _ (s : List ℕ) where
         rw (j .1)
         (past at m (pairOr (pairsFrom fuel s (nextOf s at)) m (stopFrom fuel s (nextOf s at))) (j .0) (rest m (omega (arith, j .0 .whole))))
     go End j k rest = (0, end j refl, omega arith)
-    go (Refused e) j k rest = (here (j .0), j .1, λ found w. pair-or-fault s at (numberOf e) (starts k found at w) (j .0))
+    go (Refused e) j k rest = (here (j .2) (j .0), j .1, λ found w. pair-or-fault s at (numberOf e) (starts k found at w) (j .0))
 
   -- of the whole list
   abbrev JudgedK : ℕ → Step → Type 0
   JudgedK k (Pair p) = (found : ℕ) × KthPair s found k 0 × PairIs s found p
   JudgedK k End = (n : ℕ) × Holds s n × (n ≤ k)
-  JudgedK k (Refused e) = (0 < length s) × (fieldOf e ≡ 2) × FirstFault s (numberOf e) 0 × ((found : ℕ) → KthPair s found k 0 → ⊥)
+  JudgedK k (Refused e) = (0 < length s) × (fieldOf e ≡ 2) × FirstFault s (numberOf e) (placeOf e) 0 × ((found : ℕ) → KthPair s found k 0 → ⊥)
 
   whole : (k : ℕ) (x : Step) → 0 < length s → JudgedA s 0 k x → JudgedK k x
   whole k (Pair p) h j = j
@@ -131,15 +131,15 @@ walk-ends list k = (λ e. subst (JudgedK (now list) k) e (asked list k), λ h. g
   go : (x : Step) → JudgedK (now list) k x → ((n : ℕ) × Holds (now list) n × (n ≤ k)) → x ≡ End
   go (Pair q) j h = absurd (none-left (now list) (h .0) k (j .0) (h .1) (h .2) (j .1))
   go End j h = refl
-  go (Refused e) j h = absurd (holds-or-fault (now list) (h .0) (numberOf e) (h .1) (j .0) (j .2))
+  go (Refused e) j h = absurd (holds-or-fault (now list) (h .0) (numberOf e) (placeOf e) (h .1) (j .0) (j .2))
 
 pub walk-refuses : WalkRefuses
-walk-refuses list k n i = go (asking (walkAfter k (walkOver list))) (asked list k) where
+walk-refuses list k n i place = go (asking (walkAfter k (walkOver list))) (asked list k) where
   go : (x : Step) → JudgedK (now list) k x →
-      StepRefused x n i ↔ ((0 < length (now list)) × (i ≡ 2) × FirstFault (now list) n 0 × ((found : ℕ) → KthPair (now list) found k 0 → ⊥))
+      StepRefused x n i place ↔ ((0 < length (now list)) × (i ≡ 2) × FirstFault (now list) n place 0 × ((found : ℕ) → KthPair (now list) found k 0 → ⊥))
   go (Pair q) j = (λ t. absurd t, λ h. h .3 (j .0) (j .1))
-  go End j = (λ t. absurd t, λ h. holds-or-fault (now list) (j .0) n (j .1) (h .0) (h .2))
+  go End j = (λ t. absurd t, λ h. holds-or-fault (now list) (j .0) n place (j .1) (h .0) (h .2))
   go (Refused e) j = (
-    λ t. (j .0, sym (t .1) ∙ j .1, subst (λ (x : ℕ). FirstFault (now list) x 0) (t .0) (j .2), j .3),
-    λ h. (one-first (now list) (j .2) (h .2), j .1 ∙ sym (h .1)),
+    λ t. (j .0, sym (t .1) ∙ j .1, fault-is (now list) (t .0) (t .2) (j .2), j .3),
+    λ h. let one = one-first (now list) (j .2) (h .2) in (one .0, j .1 ∙ sym (h .1), one .1),
   )

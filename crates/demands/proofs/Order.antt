@@ -1,8 +1,11 @@
 -- The first failure of a table of checks that go by number, for any table.
 pub mod Rank
 use Prim.Native.Nat.{ℕ, _+_, _≤_, _<_}
-use mathlib.Core.Path.{_≡_}
-use Rattle.demands.specs.Order.{First}
+use mathlib.Core.Path.{_≡_, refl}
+use mathlib.Core.Bool.{Bool, true, false}
+use lib.Dec.{eqb}
+use borrow.Author.Tests.{eqb-true}
+use Rattle.demands.specs.Order.{First, row, check}
 use Rattle.demands.proofs.Order.Rank.{FreeBy, only-first-by, first-by, next-field-by, next-check-by, skip-by}
 
 module _ (F : ℕ → ℕ → Type 0) where
@@ -23,3 +26,10 @@ module _ (F : ℕ → ℕ → Type 0) where
 
   pub skip : (n i : ℕ) → Free n 0 → ((j : ℕ) → j < i → F n j → ⊥) → Free n i
   skip = skip-by (λ x. x) F
+
+-- a table by its first row: the number is that of the row, or the rest of the table holds
+pub on-row : (k n : ℕ) (P rest Q : Type 0) → (n ≡ k → P → Q) → (rest → Q) → check k n P rest → Q
+on-row k n P rest Q f g h = go (eqb n k) refl h where
+  go : (t : Bool) → eqb n k ≡ t → row t P rest → Q
+  go true p x = f (eqb-true n k p) x
+  go false p x = g x

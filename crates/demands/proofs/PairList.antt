@@ -14,7 +14,7 @@ use Rattle.wire.specs.declared.check.Verdict.the-variants.{Clear, Refused as No
 use Rattle.wire.proofs.Laws.{held-true}
 use Rattle.av_id.specs.AvId.{isEnd, isText, sizeAllowed, implies}
 use Rattle.wire.specs.Check.{onClear}
-use Rattle.wire.specs.Refusal.{numberOf, fieldOf}
+use Rattle.wire.specs.Refusal.{numberOf, fieldOf, placeOf}
 use Rattle.av_pairs.specs.declared.Step.{Step}
 use Rattle.av_pairs.specs.declared.Step.the-variants.{Pair, End, Refused}
 use Rattle.av_pairs.specs.declared.Count.{Count}
@@ -102,7 +102,7 @@ module _ (a : AvId) (n : ℕ) where
 abbrev pub JudgedS : List ℕ → ℕ → Step → Type 0
 JudgedS s at (Pair p) = PairAt s at × (p ≡ record { id = idAt s at; at = at + 4; len = sizeOf s at })
 JudgedS s at End = EndAt s at
-JudgedS s at (Refused e) = FaultAt s at (numberOf e) × (fieldOf e ≡ 2)
+JudgedS s at (Refused e) = FaultAt s at (numberOf e) × (fieldOf e ≡ 2) × (placeOf e ≡ at)
 
 module _ (s : List ℕ) (at : ℕ) where
   not-both : (a b : Bool) → (a && b) ≡ false → (a ≡ false) ⊎ (b ≡ false)
@@ -143,18 +143,18 @@ module _ (s : List ℕ) (at : ℕ) where
   step-judged nonempty =
       rw (ne-eqb (length s) 0 (λ e. omega arith))
       (chained (JudgedS s at) _ _ _
-      (λ f. (fault11 refl (short (leb-false 4 (length s - at) (failed-false _ f))), refl))
+      (λ f. (fault11 refl (short (leb-false 4 (length s - at) (failed-false _ f))), refl, refl))
       (λ h11. let there = room (leb-true 4 (length s - at) (held-true _ h11)) in
       let no11 : Fails11 s at → ⊥ = λ l. omega (arith, there, l) in
       chained (JudgedS s at) _ _ _
-      (λ f. (fault12 refl no11 (end-failed there (failed-false _ f)), refl))
+      (λ f. (fault12 refl no11 (end-failed there (failed-false _ f)), refl, refl))
       (λ h12. let no12 = no-fault12 (held-true _ h12) in
       chained (JudgedS s at) _ _ _
-      (λ f. (fault10 refl no11 no12 (past (leb-false (4 + sizeOf s at) (length s - at) (failed-false _ f))), refl))
+      (λ f. (fault10 refl no11 no12 (past (leb-false (4 + sizeOf s at) (length s - at) (failed-false _ f))), refl, refl))
       (λ h10. let whole = inside (leb-true (4 + sizeOf s at) (length s - at) (held-true _ h10)) there in
       let no10 : Fails10 s at → ⊥ = λ l. omega (arith, whole, l) in
       chained (JudgedS s at) _ _ _
-      (λ f. (fault13 refl no11 no12 no10 (λ w. both-ways (sizeAllowed (idAt s at) (sizeOf s at)) (is-size (idAt s at) (sizeOf s at) w) (failed-false _ f)), refl))
+      (λ f. (fault13 refl no11 no12 no10 (λ w. both-ways (sizeAllowed (idAt s at) (sizeOf s at)) (is-size (idAt s at) (sizeOf s at) w) (failed-false _ f)), refl, refl))
       (λ h13. last (eqb (idOf s at) 0) refl (held-true _ h12) whole (size-is (idAt s at) (sizeOf s at) (held-true _ h13)))))))
     where
       short : length s - at < 4 → length s < at + 4
@@ -178,7 +178,7 @@ module _ (s : List ℕ) (at : ℕ) where
 -- a list from a place on, in steps
 abbrev JudgedL : List ℕ → ℕ → ℕ → Verdict → Type 0
 JudgedL s at n Clear = WellFormed s at n
-JudgedL s at n (Not e) = FirstFault s (numberOf e) at × (fieldOf e ≡ 2)
+JudgedL s at n (Not e) = FirstFault s (numberOf e) (placeOf e) at × (fieldOf e ≡ 2)
 
 one-more : (s : List ℕ) (at n : ℕ) (v : Verdict) → PairAt s at → JudgedL s (nextOf s at) n v → JudgedL s at (suc n) v
 one-more s at n Clear w j = let e : suc n ≡ n + 1 = omega arith in pair {n = suc n} {m = n} w e j
@@ -194,7 +194,7 @@ list-judged (suc k) s at h l = go (stepAt s at) (step-judged s at h) (λ f. list
       rw (j .1)
       (one-more s at (length (pairsFrom k s (nextOf s at))) (stopFrom k s (nextOf s at)) (j .0) (rest (omega (arith, j .0 .whole))))
   go End j rest = end j refl
-  go (Refused e) j rest = (here (j .0), j .1)
+  go (Refused e) j rest = (here (j .2) (j .0), j .1)
 
 -- an empty list is at its end
 pub empty-step : (s : List ℕ) (at : ℕ) → length s ≡ 0 → stepAt s at ≡ End
@@ -204,7 +204,7 @@ empty-step s at e = simp (eq-eqb (length s) 0 e)
 -- the whole list
 abbrev pub JudgedC : List ℕ → Count → Type 0
 JudgedC s (Pairs n) = Holds s n
-JudgedC s (Uncounted e) = (0 < length s) × (fieldOf e ≡ 2) × FirstFault s (numberOf e) 0
+JudgedC s (Uncounted e) = (0 < length s) × (fieldOf e ≡ 2) × FirstFault s (numberOf e) (placeOf e) 0
 
 pub count-judged : (s : List ℕ) → JudgedC s (countPairs s)
 unfolding countPairs checkPairs pairsOf
@@ -261,16 +261,16 @@ module _ (s : List ℕ) where
   one-count (pair e p v) (end f q) = absurd (pair-or-end _ e f)
   one-count (pair e p v) (pair f q w) = p ∙ ap (λ (x : ℕ). x + 1) (one-count v w) ∙ sym q
 
-  no-fault : {at n m : ℕ} → WellFormed s at n → FirstFault s m at → ⊥
-  no-fault (end e p) (here f) = end-or-fault _ _ e f
+  no-fault : {at n m q : ℕ} → WellFormed s at n → FirstFault s m q at → ⊥
+  no-fault (end e p) (here x f) = end-or-fault _ _ e f
   no-fault (end e p) (later w f) = pair-or-end _ w e
-  no-fault (pair e p v) (here f) = pair-or-fault _ _ e f
+  no-fault (pair e p v) (here x f) = pair-or-fault _ _ e f
   no-fault (pair e p v) (later w f) = no-fault v f
 
-  pub one-first : {at n m : ℕ} → FirstFault s n at → FirstFault s m at → n ≡ m
-  one-first (here f) (here g) = one-fault _ _ _ f g
-  one-first (here f) (later w g) = absurd (pair-or-fault _ _ w f)
-  one-first (later v f) (here g) = absurd (pair-or-fault _ _ v g)
+  pub one-first : {at n m p q : ℕ} → FirstFault s n p at → FirstFault s m q at → (n ≡ m) × (p ≡ q)
+  one-first (here x f) (here y g) = (one-fault _ _ _ f g, x ∙ sym y)
+  one-first (here x f) (later w g) = absurd (pair-or-fault _ _ w f)
+  one-first (later v f) (here y g) = absurd (pair-or-fault _ _ v g)
   one-first (later v f) (later w g) = one-first f g
 
   one-holds : (n m : ℕ) → Holds s n → Holds s m → n ≡ m
@@ -279,9 +279,24 @@ module _ (s : List ℕ) where
   one-holds n m (listed l w) (empty e p) = absurd (omega arith)
   one-holds n m (listed l w) (listed r v) = one-count w v
 
-  pub holds-or-fault : (n m : ℕ) → Holds s n → 0 < length s → FirstFault s m 0 → ⊥
-  holds-or-fault n m (empty e p) h f = omega arith
-  holds-or-fault n m (listed l w) h f = no-fault w f
+  pub holds-or-fault : (n m q : ℕ) → Holds s n → 0 < length s → FirstFault s m q 0 → ⊥
+  holds-or-fault n m q (empty e p) h f = omega arith
+  holds-or-fault n m q (listed l w) h f = no-fault w f
+
+  -- the fault of a number and a place that are known to be others
+  pub fault-is : {n m p q : ℕ} → n ≡ m → p ≡ q → FirstFault s n p 0 → FirstFault s m q 0
+  fault-is {n} {m} {p} {q} a b f = subst (λ (x : ℕ). FirstFault s x q 0) a (subst (λ (x : ℕ). FirstFault s n x 0) b f)
+
+  -- it is one of 10 to 13
+  fault-number : {n at : ℕ} → FaultAt s at n → (10 ≤ n) × (n ≤ 13)
+  fault-number (fault11 e f) = (omega (arith, e), omega (arith, e))
+  fault-number (fault12 e a f) = (omega (arith, e), omega (arith, e))
+  fault-number (fault10 e a b f) = (omega (arith, e), omega (arith, e))
+  fault-number (fault13 e a b c f) = (omega (arith, e), omega (arith, e))
+
+  pub first-number : {n p at : ℕ} → FirstFault s n p at → (10 ≤ n) × (n ≤ 13)
+  first-number (here x f) = fault-number f
+  first-number (later w f) = first-number f
 
 -- and an id one first pair
 pub one-place : (s : List ℕ) (id p q at : ℕ) → FirstWith s id p at → FirstWith s id q at → p ≡ q
@@ -294,13 +309,13 @@ pub pairs-taken : PairsTaken
 pairs-taken s n = (λ e. subst (JudgedC s) e (count-judged s), λ h. go (countPairs s) (count-judged s) h) where
   go : (c : Count) → JudgedC s c → Holds s n → c ≡ Pairs n
   go (Pairs m) j h = ap Pairs (one-holds s m n j h)
-  go (Uncounted e) j h = absurd (holds-or-fault s n (numberOf e) h (j .0) (j .2))
+  go (Uncounted e) j h = absurd (holds-or-fault s n (numberOf e) (placeOf e) h (j .0) (j .2))
 
 pub pairs-refused : PairsRefused
-pairs-refused s n i = go (countPairs s) (count-judged s) where
-  go : (c : Count) → JudgedC s c → CountRefused c n i ↔ ListFails s n i
-  go (Pairs m) j = (λ t. absurd t, λ f. holds-or-fault s m n j (f .0) (f .2))
+pairs-refused s n i p = go (countPairs s) (count-judged s) where
+  go : (c : Count) → JudgedC s c → CountRefused c n i p ↔ ListFails s n i p
+  go (Pairs m) j = (λ t. absurd t, λ f. holds-or-fault s m n p j (f .0) (f .2))
   go (Uncounted e) j = (
-    λ t. (j .0, sym (t .1) ∙ j .1, subst (λ (x : ℕ). FirstFault s x 0) (t .0) (j .2)),
-    λ f. (one-first s (j .2) (f .2), j .1 ∙ sym (f .1)),
+    λ t. (j .0, sym (t .1) ∙ j .1, fault-is s (t .0) (t .2) (j .2)),
+    λ f. let one = one-first s (j .2) (f .2) in (one .0, j .1 ∙ sym (f .1), one .1),
   )

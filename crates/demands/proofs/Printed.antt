@@ -13,13 +13,13 @@ use Rattle.place.specs.declared.written.Written.the-variants.{Length}
 use Rattle.place.specs.Written.{bytesAnswer}
 use Rattle.word.specs.Digits.{hexDigit, decimalSize, decimal}
 use Rattle.word.specs.Words.{numberWord}
-use Rattle.line_refused.specs.Refused.{refusedText, refusedLine}
+use Rattle.line_refused.specs.Refused.{refusedEnd, refusedText, refusedLine}
 use Rattle.line.specs.Line.{shownLine}
 use Rattle.demands.specs.Printed.{Printed, PrintedExactly}
 
 -- the line of 33, by computation
-refused-33 : refusedLine NoRoom ≡ ascii "refused 33 field=0" ++ (0x0A ∷ [])
-unfolding refusedLine refusedText numberWord decimal decimalSize hexDigit
+refused-33 : refusedLine NoRoom ≡ ascii "refused 33 field=0 at=0" ++ (0x0A ∷ [])
+unfolding refusedLine refusedText refusedEnd numberWord decimal decimalSize hexDigit
 refused-33 = refl
 
 -- a line that has room is answered with its length
@@ -32,11 +32,11 @@ module _ (line out : List ℕ) where
   unfolding shownLine
   shows-whole h = simp (le-leb (length line) (length out) h)
 
-  shows-33 : length out < length line → shownLine line out ≡ ascii "refused 33 field=0" ++ (0x0A ∷ [])
+  shows-33 : length out < length line → shownLine line out ≡ ascii "refused 33 field=0 at=0" ++ (0x0A ∷ [])
   unfolding shownLine
   shows-33 h = simp (lt-leb (length line) (length out) h) refused-33
 
-  shows-some : 19 ≤ length out → bytesAnswer (shownLine line out) out ≡ Length (length (shownLine line out))
+  shows-some : 24 ≤ length out → bytesAnswer (shownLine line out) out ≡ Length (length (shownLine line out))
   shows-some h = go (leb (length line) (length out)) refl where
     go : (b : Bool) → leb (length line) (length out) ≡ b → bytesAnswer (shownLine line out) out ≡ Length (length (shownLine line out))
     go true e =

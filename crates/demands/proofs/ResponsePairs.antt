@@ -29,24 +29,26 @@ use Rattle.wire.specs.declared.check.Verdict.{Verdict}
 use Rattle.wire.specs.declared.check.Verdict.the-variants.{Clear, Refused as Not}
 use Rattle.wire.specs.declared.refusal.Refusal.{Refusal}
 use Rattle.wire.specs.declared.refusal.Refusal.the-variants.{OddNameToWrite, TooLongToWrite, NoRoom}
-use Rattle.wire.specs.Refusal.{numberOf, fieldOf}
+use Rattle.wire.specs.Refusal.{numberOf, fieldOf, placeOf}
+use Rattle.wire.proofs.Places.{placeless-number}
 use Rattle.wire.proofs.Laws.{held-true}
 use Rattle.demands.specs.Order.{FirstIn, placeIn}
 use Rattle.demands.specs.PairList.{idOf, sizeOf, nextOf, PairAt, EndAt, WellFormed, end, pair, Holds, empty, listed, FirstWith}
 use Rattle.demands.specs.InTurn.{KthPair}
 use Rattle.demands.specs.Kept.{Kept}
-use Rattle.demands.specs.TakenExactly.{InfoBytes, ChallengeHolds, ChallengeFails}
-use Rattle.demands.specs.WrittenExactly.{WrittenExactly, WritingRefusedWith}
-use Rattle.demands.specs.ResponsePairs.{TakenOut, FlagsAdded, ValueAt, LastTwo, Added, with-flags, without-flags, GoesBack, taken-out, first-flags, same, at-end, ListBack, end-alone, from-start, PairsGoBack, CountBack, three-added, two-added, none-back, one-back, ResultHolds, OnlyPair, OneTenOneNine, EndPairAlone, KeptSize, no-more, passed-over, counted, ListSize, of-end, of-flags, of-two, SizeIsThere, ResponsePairsFail, WrittenFrom, ResponsePairsAreWritten, ResponsePairsKept, ResponsePairsIgnored}
+use Rattle.demands.specs.TakenExactly.{RefusalIs, InfoBytes, ChallengeHolds, ChallengeFails}
+use Rattle.demands.specs.WrittenExactly.{WrittenExactly}
+use Rattle.demands.specs.ResponsePairs.{TakenOut, FlagsAdded, ValueAt, LastTwo, Added, with-flags, without-flags, GoesBack, taken-out, first-flags, same, at-end, ListBack, end-alone, from-start, PairsGoBack, CountBack, three-added, two-added, none-back, one-back, ResultHolds, OnlyPair, OneTenOneNine, EndPairAlone, KeptSize, no-more, passed-over, counted, ListSize, of-end, of-flags, of-two, SizeIsThere, ResponsePairsFail, ListRefusedAt, WrittenFrom, ResponsePairsAreWritten, ResponsePairsKept, ResponsePairsIgnored}
 use Rattle.demands.proofs.Bools.{true-not-false, both-ways, failed-false, chained, after-held}
 use Rattle.demands.proofs.TakenExactly.Challenge as reading
-use Rattle.demands.proofs.TakenExactly.Challenge.{holds-or-fails, one-reason}
+use Rattle.demands.proofs.TakenExactly.Challenge.{holds-or-fails, one-reason, reason-is}
 use Rattle.demands.proofs.Ignored.ChallengeIgnored.{made-same}
 use Rattle.demands.proofs.OwnBytes.ChallengeOwn.{info-of}
 use Rattle.demands.proofs.OwnBytes.Found.{id-of}
 use Rattle.demands.proofs.Kept as kept-laws
 use Rattle.demands.proofs.PairList.{pair-or-end}
 use Rattle.demands.proofs.ResponsePairs.PairsBack.{adds-is, came, values-pair, values-end, value-long, out-is, in-is, goes-back}
+use Rattle.demands.proofs.Order.{on-row}
 use Rattle.demands.proofs.Order.Rank.{JudgedBy, first-by, skip-by}
 use Rattle.demands.proofs.WrittenExactly.{Rows, rows, free-at-first, next, room-judged, size-judged, by-verdict}
 
@@ -349,6 +351,13 @@ module _ (room : ℕ) (name : List ℕ) (size : ℕ) where
       (next order F 31 30 refl (omega arith) none (λ j x. omega (arith, x .1, eqb-true (length name % 2) 0 (held-true _ h))))
       (room-judged order F room size m e (λ l. (refl, l)) (λ j x. x .1) refl (omega arith)))
 
+  -- none of its own numbers has a place
+  pub no-place : (n i : ℕ) → ResponsePairsFail room name size n i → (10 ≤ n) × (n ≤ 13) → ⊥
+  no-place n i h z =
+      on-row 31 n _ _ ⊥ (λ e x. omega (arith, z .1, e)) (
+      on-row 30 n _ _ ⊥ (λ e x. omega (arith, z .1, e)) (
+      on-row 33 n _ _ ⊥ (λ e x. omega (arith, z .1, e)) (λ x. x))) h
+
 pub response-pairs-written : ResponsePairsAreWritten
 unfolding writeAnswer listAnswer readChallenge
 response-pairs-written room s b name bind mark size sixteen info sized = go (readingOf s) refl (reading.judged s b info) where
@@ -358,14 +367,27 @@ response-pairs-written room s b name bind mark size sixteen info sized = go (rea
       by-verdict (31 ∷ 30 ∷ 33 ∷ []) (ResponsePairsFail room name size) (list-rows room name size) 0 refl
       (checkList room name (length (listFor b name mark bind))) (listFor b name mark bind) size e (list-judged room name size _ e)
 
+  refused-after : ChallengeHolds s b → (e : Refusal) → WrittenExactly (Refused e) (31 ∷ 30 ∷ 33 ∷ []) (ResponsePairsFail room name size) size → (n i p : ℕ) →
+      RefusalIs e n i p ↔ (ChallengeFails s b n i p ⊎ (ChallengeHolds s b × FirstIn (31 ∷ 30 ∷ 33 ∷ []) (ResponsePairsFail room name size) n i × (p ≡ 0)))
+  refused-after j e x n i p =
+      let none = placeless-number e (no-place room name size (numberOf e) (fieldOf e) (x .refused (numberOf e) (fieldOf e) .0 (refl, refl) .fails)) in (
+        λ t. inr (j, x .refused n i .0 (t .0, t .1), sym (t .2) ∙ none),
+        λ z. ⊎-elim (λ f. absurd (holds-or-fails s b n i p j f)) (λ w. let k = x .refused n i .1 (w .1) in (k .0, k .1, none ∙ sym (w .2))) z,
+      )
+
+  refused-as : ChallengeHolds s b → (a : Written) → WrittenExactly a (31 ∷ 30 ∷ 33 ∷ []) (ResponsePairsFail room name size) size → (n i p : ℕ) →
+      ListRefusedAt a n i p ↔ (ChallengeFails s b n i p ⊎ (ChallengeHolds s b × FirstIn (31 ∷ 30 ∷ 33 ∷ []) (ResponsePairsFail room name size) n i × (p ≡ 0)))
+  refused-as j (Length m) x n i p = (
+    λ t. absurd t,
+    λ z. ⊎-elim (λ f. holds-or-fails s b n i p j f) (λ w. x .refused n i .1 (w .1)) z,
+  )
+  refused-as j (Refused e) x n i p = refused-after j e x n i p
+
   after-reading : ChallengeHolds s b → (a : Written) → WrittenExactly a (31 ∷ 30 ∷ 33 ∷ []) (ResponsePairsFail room name size) size →
       WrittenFrom a s b (31 ∷ 30 ∷ 33 ∷ []) (ResponsePairsFail room name size) size
   after-reading j a x =
       record {
-        refused = λ n i. (
-          λ t. inr (j, x .refused n i .0 t),
-          λ z. x .refused n i .1 (⊎-elim (λ f. absurd (holds-or-fails s b n i j f)) (λ p. p .1) z),
-        );
+        refused = λ n i p. refused-as j a x n i p;
         written = λ n. (λ h. let y = x .written n .0 h in (j, y .0, y .1), λ h. x .written n .1 (h .1, h .2));
       }
 
@@ -378,11 +400,11 @@ response-pairs-written room s b name bind mark size sixteen info sized = go (rea
   go (Taken c) e j = rw (info-of s b c info e) (after-reading j _ (of-list j))
   go (Unread f) e j =
       record {
-        refused = λ n i. (
-          λ t. inl (subst (λ (x : ℕ). ChallengeFails s b n x) (t .1) (subst (λ (x : ℕ). ChallengeFails s b x (fieldOf f)) (t .0) j)),
-          λ z. ⊎-elim (λ w. one-reason s b (numberOf f) (fieldOf f) n i j w) (λ p. absurd (holds-or-fails s b (numberOf f) (fieldOf f) (p .0) j)) z,
+        refused = λ n i p. (
+          λ t. inl (reason-is s b t j),
+          λ z. ⊎-elim (λ w. one-reason s b (numberOf f) (fieldOf f) (placeOf f) n i p j w) (λ w. absurd (holds-or-fails s b (numberOf f) (fieldOf f) (placeOf f) (w .0) j)) z,
         );
-        written = λ n. (λ h. absurd (never f n h), λ h. absurd (holds-or-fails s b (numberOf f) (fieldOf f) (h .0) j));
+        written = λ n. (λ h. absurd (never f n h), λ h. absurd (holds-or-fails s b (numberOf f) (fieldOf f) (placeOf f) (h .0) j));
       }
 
 -- ---- what it keeps, and what changes nothing

@@ -7,7 +7,7 @@ use lib.ListN.{length}
 use Rattle.wire.specs.declared.check.Verdict.{Verdict}
 use Rattle.wire.specs.declared.check.Verdict.the-variants.{Clear, Refused as Not}
 use Rattle.wire.specs.Check.{onClear}
-use Rattle.wire.specs.Refusal.{numberOf}
+use Rattle.wire.specs.Refusal.{numberOf, placeOf}
 use Rattle.av_pairs.specs.declared.Count.the-variants.{Pairs, Refused as Uncounted}
 use Rattle.target_info.specs.declared.Search.the-variants.{Done, Refused as Unsearched}
 use Rattle.av_pairs.specs.AvPairs.{checkPairs, pairsOf, countPairs}
@@ -27,12 +27,12 @@ pub list-clear : ListIsClear
 list-clear s = go (checkPairs s) (pairs-judged s) where
   go : (v : Verdict) → JudgedP s v → (v ≡ Clear) ↔ ((n : ℕ) × Holds s n)
   go Clear j = (λ e. j, λ h. refl)
-  go (Not e) j = (λ h. absurd (let z : _≡_ {A = ℕ} 0 1 = cc in omega arith), λ h. absurd (holds-or-fault s (h .0) (numberOf e) (h .1) (j .0) (j .2)))
+  go (Not e) j = (λ h. absurd (let z : _≡_ {A = ℕ} 0 1 = cc in omega arith), λ h. absurd (holds-or-fault s (h .0) (numberOf e) (placeOf e) (h .1) (j .0) (j .2)))
 
 pub list-refused : ListIsRefused
 unfolding countPairs
-list-refused s n i = go (checkPairs s) (pairs-refused s n i) where
-  go : (v : Verdict) → CountRefused (onClear Uncounted v (Pairs (length (pairsOf s)))) n i ↔ ListFails s n i → ListRefusedWith v n i ↔ ListFails s n i
+list-refused s n i p = go (checkPairs s) (pairs-refused s n i p) where
+  go : (v : Verdict) → CountRefused (onClear Uncounted v (Pairs (length (pairsOf s)))) n i p ↔ ListFails s n i p → ListRefusedWith v n i p ↔ ListFails s n i p
   go Clear j = j
   go (Not e) j = j
 
@@ -45,8 +45,8 @@ search-done a s = go (checkPairs s) (list-clear s) where
 
 pub search-refused : SearchIsRefused
 unfolding findPair
-search-refused a s n i = go (checkPairs s) (list-refused s n i) where
-  go : (v : Verdict) → ListRefusedWith v n i ↔ ListFails s n i → SearchRefusedWith (onClear Unsearched v (Done (firstPair a s))) n i ↔ ListFails s n i
+search-refused a s n i p = go (checkPairs s) (list-refused s n i p) where
+  go : (v : Verdict) → ListRefusedWith v n i p ↔ ListFails s n i p → SearchRefusedWith (onClear Unsearched v (Done (firstPair a s))) n i p ↔ ListFails s n i p
   go Clear j = j
   go (Not e) j = j
 
@@ -59,8 +59,8 @@ timestamp-taken s b info = go (readingOf s) (challenge-taken s b info) where
 
 pub timestamp-refused : TimestampIsRefused
 unfolding timestampOf readChallenge
-timestamp-refused s b info n i = go (readingOf s) (challenge-refused s b info n i) where
-  go : {X : Type 0} (r : Reading) → ChallengeRefusedWith r n i ↔ X → TimestampRefusedWith (onTaken TimeRefused r (λ c. TimeTaken (timestampIn (infoOf s c)))) n i ↔ X
+timestamp-refused s b info n i p = go (readingOf s) (challenge-refused s b info n i p) where
+  go : {X : Type 0} (r : Reading) → ChallengeRefusedWith r n i p ↔ X → TimestampRefusedWith (onTaken TimeRefused r (λ c. TimeTaken (timestampIn (infoOf s c)))) n i p ↔ X
   go (Taken c) j = j
   go (Refused e) j = j
 
@@ -73,7 +73,7 @@ server-names-taken s b info = go (readingOf s) (challenge-taken s b info) where
 
 pub server-names-refused : ServerNamesIsRefused
 unfolding serverNamesOf readChallenge
-server-names-refused s b info n i = go (readingOf s) (challenge-refused s b info n i) where
-  go : {X : Type 0} (r : Reading) → ChallengeRefusedWith r n i ↔ X → ServerNamesRefusedWith (onTaken NamesRefused r (λ c. NamesTaken (serverNamesIn (infoOf s c)))) n i ↔ X
+server-names-refused s b info n i p = go (readingOf s) (challenge-refused s b info n i p) where
+  go : {X : Type 0} (r : Reading) → ChallengeRefusedWith r n i p ↔ X → ServerNamesRefusedWith (onTaken NamesRefused r (λ c. NamesTaken (serverNamesIn (infoOf s c)))) n i p ↔ X
   go (Taken c) j = j
   go (Refused e) j = j

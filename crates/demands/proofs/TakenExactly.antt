@@ -1,6 +1,7 @@
 -- AUTHENTICATE is taken exactly when every check holds, and refused by the first that fails.
 pub mod Challenge
 pub mod Negotiate
+pub mod Places
 use Prim.Native.Nat.{ℕ, _≤_}
 use mathlib.Core.Path.{_≡_, refl, sym, subst}
 use mathlib.Core.Logic.{inl, inr, ⊎-elim, _↔_}

@@ -8,7 +8,6 @@ use mathlib.Core.Logic.{_⊎_, _↔_}
 use mathlib.Core.List.{List, []}
 use lib.ListN.{length, take, drop, replicate}
 use Rattle.wire.specs.Number.{u32At, u64At}
-use Rattle.wire.specs.Refusal.{numberOf, fieldOf}
 use Rattle.target_info.specs.declared.Timestamp.{Timestamp}
 use Rattle.target_info.specs.declared.Timestamp.the-variants.{Time, Nothing}
 use Rattle.respond.specs.declared.answer.Answer.{Answer}
@@ -25,7 +24,7 @@ use Rattle.demands.specs.Order.{FirstIn}
 use Rattle.demands.specs.Message.{challenge, Set, offsetOf}
 use Rattle.demands.specs.PairList.{sizeOf, FirstWith, PairThere}
 use Rattle.demands.specs.ReadBack.{AuthenticateBack}
-use Rattle.demands.specs.TakenExactly.{InfoBytes, ChallengeHolds, ChallengeFails}
+use Rattle.demands.specs.TakenExactly.{RefusalIs, InfoBytes, ChallengeHolds, ChallengeFails}
 use Rattle.demands.specs.WrittenExactly.{authenticateSize, AuthenticateWritingFails, authenticateOrder}
 
 -- ---- the decision
@@ -45,25 +44,25 @@ pub record Agreed (settings : Settings) (s b : List ℕ) : Type 0 where
   pub holds20 : Fails20 settings s → ⊥
   pub holds21 : Fails21 settings b → ⊥
 
--- the first of these that fails has number n and field i
-pub data Declined (settings : Settings) (s b : List ℕ) (n i : ℕ) : Type 0 where
-  by-reading : ChallengeFails s b n i → Declined settings s b n i
-  by-20 : n ≡ 20 → i ≡ 0 → ChallengeHolds s b → Fails20 settings s → Declined settings s b n i
-  by-21 : n ≡ 21 → i ≡ 0 → ChallengeHolds s b → (Fails20 settings s → ⊥) → Fails21 settings b → Declined settings s b n i
+-- the first of these that fails has number n, field i and place p
+pub data Declined (settings : Settings) (s b : List ℕ) (n i p : ℕ) : Type 0 where
+  by-reading : ChallengeFails s b n i p → Declined settings s b n i p
+  by-20 : n ≡ 20 → i ≡ 0 → p ≡ 0 → ChallengeHolds s b → Fails20 settings s → Declined settings s b n i p
+  by-21 : n ≡ 21 → i ≡ 0 → p ≡ 0 → ChallengeHolds s b → (Fails20 settings s → ⊥) → Fails21 settings b → Declined settings s b n i p
 
 -- the value of the first pair 7, as a number
 abbrev pub TimestampIs : List ℕ → Timestamp → Type 0
 TimestampIs b (Time t) = (place : ℕ) × FirstWith b 7 place 0 × (t ≡ u64At b (place + 4))
 TimestampIs b Nothing = PairThere b 7 → ⊥
 
-abbrev pub DecisionRefusedWith : Decided → ℕ → ℕ → Type 0
-DecisionRefusedWith (Taken d) n i = ⊥
-DecisionRefusedWith (Refused e) n i = (numberOf e ≡ n) × (fieldOf e ≡ i)
+abbrev pub DecisionRefusedWith : Decided → ℕ → ℕ → ℕ → Type 0
+DecisionRefusedWith (Taken d) n i p = ⊥
+DecisionRefusedWith (Refused e) n i p = RefusalIs e n i p
 
 abbrev pub DecisionIsRefused : Type 0
 DecisionIsRefused =
-    (settings : Settings) (s b : List ℕ) → InfoBytes s b → (n i : ℕ) →
-    DecisionRefusedWith (decisionOn settings s) n i ↔ Declined settings s b n i
+    (settings : Settings) (s b : List ℕ) → InfoBytes s b → (n i p : ℕ) →
+    DecisionRefusedWith (decisionOn settings s) n i p ↔ Declined settings s b n i p
 
 abbrev pub DecisionIsTaken : Type 0
 DecisionIsTaken =
@@ -126,14 +125,15 @@ SomethingToSend =
 
 -- ---- the answer
 
-abbrev pub AnswerRefusedWith : Answered → ℕ → ℕ → Type 0
-AnswerRefusedWith (Sent x) n i = ⊥
-AnswerRefusedWith (Unanswered e) n i = (numberOf e ≡ n) × (fieldOf e ≡ i)
+abbrev pub AnswerRefusedWith : Answered → ℕ → ℕ → ℕ → Type 0
+AnswerRefusedWith (Sent x) n i p = ⊥
+AnswerRefusedWith (Unanswered e) n i p = RefusalIs e n i p
 
 -- an answer is refused by the decision, and else by the first check of the writing that fails, with what is sent; it is sent if and
 -- only if nothing fails, with its length, Time, and whether a MIC is due
 pub record AnsweredExactly (answer : Answered) (settings : Settings) (s b : List ℕ) (F : ℕ → ℕ → Type 0) (size time : ℕ) : Type 0 where
-  pub refused : (n i : ℕ) → AnswerRefusedWith answer n i ↔ (Declined settings s b n i ⊎ (Agreed settings s b × FirstIn authenticateOrder F n i))
+  pub refused : (n i p : ℕ) → AnswerRefusedWith answer n i p ↔
+      (Declined settings s b n i p ⊎ (Agreed settings s b × FirstIn authenticateOrder F n i × (p ≡ 0)))
   pub sent : (x : Answer) → (answer ≡ Sent x) ↔
       (Agreed settings s b × ((m j : ℕ) → F m j → ⊥) × (x .len ≡ size) × (x .time ≡ time) × ((x .«mic_due» ≡ true) ↔ PairThere b 7))
 

@@ -1,5 +1,5 @@
--- Demand 1: "A refusal gives its number and field". From C it gives them by the macros of include/dialtable.h, whose `>>` and
--- `&` are `/` and `%` here, and no length is taken for a refusal.
+-- Demand 1: "A refusal gives its number and field". From C it gives them, and the place of a pair, by the macros of
+-- include/dialtable.h, whose `>>` and `&` are `/` and `%` here, and no length is taken for a refusal.
 use Prim.Native.Nat.{ℕ, _/_, _%_, _≤_, _<_}
 use mathlib.Core.Path.{_≡_}
 use mathlib.Core.Bool.{Bool}
@@ -10,7 +10,7 @@ use Rattle.wire.specs.declared.check.Verdict.{Verdict}
 use Rattle.wire.specs.declared.check.Verdict.the-variants.{Clear, Refused as Not}
 use Rattle.wire.specs.declared.refusal.Refusal.{Refusal}
 use Rattle.wire.specs.declared.refusal.Refusal.the-variants.{NoRoom}
-use Rattle.wire.specs.Refusal.{numberOf, fieldOf}
+use Rattle.wire.specs.Refusal.{numberOf, fieldOf, placeOf}
 use Rattle.place.specs.declared.written.Written.{Written}
 use Rattle.place.specs.declared.written.Written.the-variants.{Length, Refused}
 use Rattle.place.specs.Written.{bytesAnswer}
@@ -33,7 +33,7 @@ use Rattle.c_number.specs.Outcome.{Outcome, numbers, refused, callNumber, twoAr
 use Rattle.c_respond.specs.Respond.{respondedNumber}
 use Rattle.demands.specs.FromC.{Call, count, outcome, TwoArrayCall, numberCount, byteCount, twoArrayOutcome}
 
--- DIALTABLE_IS_REFUSED, DIALTABLE_NUMBER and DIALTABLE_FIELD
+-- DIALTABLE_IS_REFUSED, DIALTABLE_NUMBER, DIALTABLE_FIELD and DIALTABLE_PLACE
 abbrev pub isRefused : ℕ → ℕ
 isRefused answer = answer / 0x8000000000000000
 
@@ -43,16 +43,22 @@ numberIn answer = answer / 0x100 % 0x100
 abbrev pub fieldIn : ℕ → ℕ
 fieldIn answer = answer % 0x100
 
+abbrev pub placeIn : ℕ → ℕ
+placeIn answer = answer / 0x10000 % 0x800000000000
+
 -- a success: the top bit is clear, and the answer is the length of what was written, or 0
 pub record TellsLength (answer n : ℕ) : Type 0 where
   pub top-bit : isRefused answer ≡ 0
   pub is-length : answer ≡ n
 
--- a refusal: the top bit is set, and the macros give document 01's number and field
+-- a refusal: the top bit is set, and the macros give document 01's number and field, and the place; a place that has no room there is
+-- told as the largest that has
 pub record TellsRefusal (answer : ℕ) (e : Refusal) : Type 0 where
   pub top-bit : isRefused answer ≡ 1
   pub number : numberIn answer ≡ numberOf e
   pub field : fieldIn answer ≡ fieldOf e
+  pub place : placeOf e ≤ 0x7FFFFFFFFFFF → placeIn answer ≡ placeOf e
+  pub far-place : 0x7FFFFFFFFFFF < placeOf e → placeIn answer ≡ 0x7FFFFFFFFFFF
 
 -- ---- the calls that hand out numbers: 33 where an array is too short, and else what the outcome is
 

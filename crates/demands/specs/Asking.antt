@@ -16,7 +16,7 @@ use Rattle.demands.specs.PairList.{nextOf, PairAt, EndAt, FaultAt}
 pub record AskedAt (s : List ℕ) (at : ℕ) (a : Asked) : Type 0 where
   pub pair : (p : AvPair) → (a .step ≡ Pair p) ↔ PairIs s at p
   pub end : (a .step ≡ End) ↔ ((length s ≡ 0) ⊎ EndAt s at)
-  pub refused : (n i : ℕ) → StepRefused (a .step) n i ↔ ((0 < length s) × (i ≡ 2) × FaultAt s at n)
+  pub refused : (n i p : ℕ) → StepRefused (a .step) n i p ↔ ((0 < length s) × (i ≡ 2) × FaultAt s at n × (p ≡ at))
   pub onward : PairAt s at → a .next ≡ nextOf s at
   pub stays : (PairAt s at → ⊥) → a .next ≡ at
 

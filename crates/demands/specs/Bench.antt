@@ -9,7 +9,7 @@ use lib.ListN.{length, take}
 use lib.Seq.{sets}
 use Rattle.text.specs.Text.{ascii}
 use Rattle.wire.specs.Number.{standsAt}
-use Rattle.wire.specs.Refusal.{numberOf, fieldOf}
+use Rattle.wire.specs.Refusal.{numberOf, fieldOf, placeOf}
 use Rattle.line.specs.Line.{nlAuthLine, ntlmLine}
 use Rattle.av_pairs.specs.declared.Count.{Count}
 use Rattle.av_pairs.specs.declared.Count.the-variants.{Pairs, Refused as Uncounted}
@@ -26,9 +26,9 @@ pub data Expected : Type 0 where
 pub data Case : Type 0 where
   -- these bytes, read as AUTHENTICATE
   authenticate : List ℕ → Expected → Case
-  -- these bytes as a TargetInfo list: so many pairs, or refused with a number
+  -- these bytes as a TargetInfo list: so many pairs, or refused with a number and a place
   pairs : List ℕ → ℕ → Case
-  pairsRefused : List ℕ → ℕ → Case
+  pairsRefused : List ℕ → ℕ → ℕ → Case
   -- these bytes to the NTLM program, and to the NL_AUTH program: the whole line
   ntlm : List ℕ → String → Case
   nl : List ℕ → String → Case
@@ -48,9 +48,9 @@ abbrev counts : Count → ℕ → Bool
 counts (Pairs m) n = eqb m n
 counts (Uncounted e) n = false
 
-abbrev refuses : Count → ℕ → Bool
-refuses (Pairs m) n = false
-refuses (Uncounted e) n = eqb (numberOf e) n && eqb (fieldOf e) 2
+abbrev refuses : Count → ℕ → ℕ → Bool
+refuses (Pairs m) n p = false
+refuses (Uncounted e) n p = (eqb (numberOf e) n && eqb (fieldOf e) 2) && eqb (placeOf e) p
 
 -- the line is this text and 0A
 abbrev prints : List ℕ → String → Bool
@@ -59,7 +59,7 @@ prints line text = eqb (length line) (length (ascii text) + 1) && standsAt line 
 abbrev pub holds : Case → Bool
 holds (authenticate s expected) = gives (readAuthenticate s .reading) expected
 holds (pairs s n) = counts (countPairs s) n
-holds (pairsRefused s n) = refuses (countPairs s) n
+holds (pairsRefused s n p) = refuses (countPairs s) n p
 holds (ntlm s text) = prints (ntlmLine s) text
 holds (nl s text) = prints (nlAuthLine s) text
 
@@ -93,6 +93,10 @@ abbrev pub p12 : ℕ → List ℕ
 p12 flags =
     0x00 ∷ 0x00 ∷ 0x00 ∷ 0x00 ∷ flags ∷ 0x00 ∷ 0x00 ∷ 0x00 ∷ 0x4C ∷ 0x49 ∷ 0x4E ∷ 0x45 ∷ 0x00 ∷ []
 
+-- P11's 10 bytes: a flags pair of two bytes, and the end pair
+abbrev p11 : List ℕ
+p11 = 0x06 ∷ 0x00 ∷ 0x02 ∷ 0x00 ∷ 0x00 ∷ 0x00 ∷ 0x00 ∷ 0x00 ∷ 0x00 ∷ 0x00 ∷ []
+
 abbrev pub cases : List Case
 cases =
     -- P1: the whole line
@@ -114,12 +118,13 @@ cases =
     authenticate (take 63 p1) (refused 2 0) ∷
     authenticate (sets p1 8 (2 ∷ [])) (refused 4 0) ∷
     authenticate (sets p1 60 (0x00 ∷ [])) (refused 5 0) ∷
-    -- P7 to P11: TargetInfo lists
+    -- P7 to P11: TargetInfo lists, and P11's after a well-formed pair
     pairs (0x00 ∷ 0x00 ∷ 0x00 ∷ 0x00 ∷ []) 0 ∷
-    pairsRefused (0x00 ∷ 0x00 ∷ 0x00 ∷ []) 11 ∷
-    pairsRefused (0x01 ∷ 0x00 ∷ 0x06 ∷ 0x00 ∷ 0x41 ∷ 0x00 ∷ []) 10 ∷
-    pairsRefused (0x00 ∷ 0x00 ∷ 0x00 ∷ 0x00 ∷ 0x00 ∷ []) 12 ∷
-    pairsRefused (0x06 ∷ 0x00 ∷ 0x02 ∷ 0x00 ∷ 0x00 ∷ 0x00 ∷ 0x00 ∷ 0x00 ∷ 0x00 ∷ 0x00 ∷ []) 13 ∷
+    pairsRefused (0x00 ∷ 0x00 ∷ 0x00 ∷ []) 11 0 ∷
+    pairsRefused (0x01 ∷ 0x00 ∷ 0x06 ∷ 0x00 ∷ 0x41 ∷ 0x00 ∷ []) 10 0 ∷
+    pairsRefused (0x00 ∷ 0x00 ∷ 0x00 ∷ 0x00 ∷ 0x00 ∷ []) 12 0 ∷
+    pairsRefused p11 13 0 ∷
+    pairsRefused (0x01 ∷ 0x00 ∷ 0x02 ∷ 0x00 ∷ 0x41 ∷ 0x00 ∷ p11) 13 6 ∷
     -- P12: the whole line, and the same with flags 0x21
     nl (p12 0x01) "nl type=0 flags=00000001 a=LINE" ∷
     nl (p12 0x21) "nl type=0 flags=00000001 a=LINE" ∷

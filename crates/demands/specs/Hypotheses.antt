@@ -39,7 +39,7 @@ pub record HypothesesMet : Type 0 where
   pub well-formed : Holds info 3
   pub first-timestamp : FirstWith info 7 20 0
   pub third-pair : KthPair info 20 2 0
-  pub runs-out : FirstFault (take 32 info) 11 0
+  pub runs-out : FirstFault (take 32 info) 11 32 0
   -- of Units.antt
   pub wide : Set challenge challengeMessage 0x1
   -- of Secret.antt; `AnswerExample` has the answer

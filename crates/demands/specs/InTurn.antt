@@ -6,13 +6,13 @@ use mathlib.Core.Logic.{_⊎_, _↔_}
 use mathlib.Core.List.{List, [], _∷_}
 use lib.ListN.{length}
 use denote.Ref.{RefT, now}
-use Rattle.wire.specs.Refusal.{numberOf, fieldOf}
 use Rattle.av_pairs.specs.declared.AvPair.{AvPair}
 use Rattle.av_pairs.specs.declared.Step.{Step}
 use Rattle.av_pairs.specs.declared.Step.the-variants.{Pair, End, Refused}
 use Rattle.av_pairs.specs.AvPairs.{pairsOf}
 use Rattle.av_pairs.specs.Walk.{walkOver, asking, walkAfter}
 use Rattle.demands.specs.PairList.{idOf, sizeOf, nextOf, PairAt, EndAt, FaultAt, Holds, FirstFault}
+use Rattle.demands.specs.TakenExactly.{RefusalIs}
 
 -- p is the pair at a place: its own id and length, and its value four bytes on
 pub record PairIs (s : List ℕ) (at : ℕ) (p : AvPair) : Type 0 where
@@ -35,10 +35,10 @@ abbrev pub KthPair : List ℕ → ℕ → ℕ → ℕ → Type 0
 KthPair s found zero at = (at ≡ found) × PairAt s at
 KthPair s found (suc k) at = PairAt s at × KthPair s found k (nextOf s at)
 
-abbrev pub StepRefused : Step → ℕ → ℕ → Type 0
-StepRefused (Pair p) n i = ⊥
-StepRefused End n i = ⊥
-StepRefused (Refused e) n i = (numberOf e ≡ n) × (fieldOf e ≡ i)
+abbrev pub StepRefused : Step → ℕ → ℕ → ℕ → Type 0
+StepRefused (Pair p) n i place = ⊥
+StepRefused End n i place = ⊥
+StepRefused (Refused e) n i place = RefusalIs e n i place
 
 -- the k-th asking of a walk, for every k: the list's k-th pair if and only if there is one before the end and the first fault
 abbrev pub WalkGives : Type 0
@@ -52,9 +52,9 @@ WalkEnds =
     (list : RefT (List ℕ)) (k : ℕ) →
     (asking (walkAfter k (walkOver list)) ≡ End) ↔ ((n : ℕ) × Holds (now list) n × (n ≤ k))
 
--- and a refusal if and only if the list has that fault first and the pairs before it have all been asked for
+-- and a refusal if and only if the list has that fault first, at that place, and the pairs before it have all been asked for
 abbrev pub WalkRefuses : Type 0
 WalkRefuses =
-    (list : RefT (List ℕ)) (k n i : ℕ) →
-    StepRefused (asking (walkAfter k (walkOver list))) n i ↔
-    ((0 < length (now list)) × (i ≡ 2) × FirstFault (now list) n 0 × ((found : ℕ) → KthPair (now list) found k 0 → ⊥))
+    (list : RefT (List ℕ)) (k n i place : ℕ) →
+    StepRefused (asking (walkAfter k (walkOver list))) n i place ↔
+    ((0 < length (now list)) × (i ≡ 2) × FirstFault (now list) n place 0 × ((found : ℕ) → KthPair (now list) found k 0 → ⊥))

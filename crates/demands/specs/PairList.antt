@@ -67,14 +67,15 @@ pub data FaultAt (s : List ℕ) (at n : ℕ) : Type 0 where
   fault10 : n ≡ 10 → (Fails11 s at → ⊥) → (Fails12 s at → ⊥) → Fails10 s at → FaultAt s at n
   fault13 : n ≡ 13 → (Fails11 s at → ⊥) → (Fails12 s at → ⊥) → (Fails10 s at → ⊥) → Fails13 s at → FaultAt s at n
 
--- "the earliest faulty pair decides": pairs without fault lead from a place to one with fault n
-pub data FirstFault (s : List ℕ) (n : ℕ) : ℕ → Type 0 where
-  here : {at : ℕ} → FaultAt s at n → FirstFault s n at
-  later : {at : ℕ} → PairAt s at → FirstFault s n (nextOf s at) → FirstFault s n at
+-- "the earliest faulty pair decides": pairs without fault lead from a place to one with fault n, whose first byte is at p; for 11 a
+-- pair should have started there
+pub data FirstFault (s : List ℕ) (n p : ℕ) : ℕ → Type 0 where
+  here : {at : ℕ} → p ≡ at → FaultAt s at n → FirstFault s n p at
+  later : {at : ℕ} → PairAt s at → FirstFault s n p (nextOf s at) → FirstFault s n p at
 
--- a list is refused with its earliest faulty pair's number, and field 2; an empty one has none
-abbrev pub ListFails : List ℕ → ℕ → ℕ → Type 0
-ListFails s n i = (0 < length s) × (i ≡ 2) × FirstFault s n 0
+-- a list is refused with its earliest faulty pair's number and place, and field 2; an empty one has none
+abbrev pub ListFails : List ℕ → ℕ → ℕ → ℕ → Type 0
+ListFails s n i p = (0 < length s) × (i ≡ 2) × FirstFault s n p 0
 
 -- from a place on, the first pair with an id is the one at `found`
 pub data FirstWith (s : List ℕ) (id found : ℕ) : ℕ → Type 0 where

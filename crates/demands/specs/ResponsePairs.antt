@@ -8,7 +8,7 @@ use mathlib.Core.Logic.{_⊎_, _↔_}
 use mathlib.Core.List.{List, [], _∷_}
 use lib.ListN.{length, take, drop}
 use Rattle.place.specs.declared.written.Written.{Written}
-use Rattle.place.specs.declared.written.Written.the-variants.{Length}
+use Rattle.place.specs.declared.written.Written.the-variants.{Length, Refused}
 use Rattle.response_pairs.specs.ResponsePairs.{writeAnswer, writeOut}
 use Rattle.wire.specs.Number.{u32At}
 use Rattle.demands.specs.Order.{FirstIn, check}
@@ -16,8 +16,8 @@ use Rattle.demands.specs.Message.{challenge, FlagSet, Nonempty, DifferIn
 use Rattle.demands.specs.PairList.{idOf, sizeOf, nextOf, PairAt, EndAt, Holds, FirstWith, PairThere}
 use Rattle.demands.specs.InTurn.{KthPair}
 use Rattle.demands.specs.Kept.{Kept}
-use Rattle.demands.specs.TakenExactly.{InfoBytes, ChallengeHolds, ChallengeFails}
-use Rattle.demands.specs.WrittenExactly.{WritingRefusedWith, Fails30, Fails33}
+use Rattle.demands.specs.TakenExactly.{RefusalIs, InfoBytes, ChallengeHolds, ChallengeFails}
+use Rattle.demands.specs.WrittenExactly.{Fails30, Fails33}
 
 -- ---- the list that goes back
 
@@ -149,10 +149,14 @@ ResponsePairsFail room name size n i =
     check 33 n (Fails33 room size i)
     ⊥))
 
+abbrev pub ListRefusedAt : Written → ℕ → ℕ → ℕ → Type 0
+ListRefusedAt (Length m) n i p = ⊥
+ListRefusedAt (Refused e) n i p = RefusalIs e n i p
+
 -- "Refusals: after the reading ones": refused by the reading, and else by the first of these checks that fails; answered with the
 -- list's length if and only if nothing fails
 pub record WrittenFrom (answer : Written) (s b : List ℕ) (order : List ℕ) (F : ℕ → ℕ → Type 0) (size : ℕ) : Type 0 where
-  pub refused : (n i : ℕ) → WritingRefusedWith answer n i ↔ (ChallengeFails s b n i ⊎ (ChallengeHolds s b × FirstIn order F n i))
+  pub refused : (n i p : ℕ) → ListRefusedAt answer n i p ↔ (ChallengeFails s b n i p ⊎ (ChallengeHolds s b × FirstIn order F n i × (p ≡ 0)))
   pub written : (n : ℕ) → (answer ≡ Length n) ↔ (ChallengeHolds s b × ((m j : ℕ) → F m j → ⊥) × (n ≡ size))
 
 abbrev pub ResponsePairsAreWritten : Type 0

@@ -7,7 +7,6 @@ use mathlib.Core.Logic.{_↔_}
 use mathlib.Core.List.{List}
 use Rattle.wire.specs.declared.check.Verdict.{Verdict}
 use Rattle.wire.specs.declared.check.Verdict.the-variants.{Clear, Refused as Not}
-use Rattle.wire.specs.Refusal.{numberOf, fieldOf}
 use Rattle.av_id.specs.declared.AvId.{AvId}
 use Rattle.target_info.specs.declared.Search.{Search}
 use Rattle.target_info.specs.declared.Search.the-variants.{Done, Refused as Unsearched}
@@ -19,19 +18,19 @@ use Rattle.challenge.specs.declared.ServerNamesReading.the-variants.{Taken as N
 use Rattle.challenge.specs.Challenge.{timestampOf, serverNamesOf}
 use Rattle.target_info.specs.TargetInfo.{findPair}
 use Rattle.demands.specs.PairList.{Holds, ListFails}
-use Rattle.demands.specs.TakenExactly.{InfoBytes, ChallengeHolds, ChallengeFails}
+use Rattle.demands.specs.TakenExactly.{RefusalIs, InfoBytes, ChallengeHolds, ChallengeFails}
 
 -- ---- checks 10 to 13 alone
 
-abbrev pub ListRefusedWith : Verdict → ℕ → ℕ → Type 0
-ListRefusedWith Clear n i = ⊥
-ListRefusedWith (Not e) n i = (numberOf e ≡ n) × (fieldOf e ≡ i)
+abbrev pub ListRefusedWith : Verdict → ℕ → ℕ → ℕ → Type 0
+ListRefusedWith Clear n i p = ⊥
+ListRefusedWith (Not e) n i p = RefusalIs e n i p
 
 abbrev pub ListIsClear : Type 0
 ListIsClear = (s : List ℕ) → (checkPairs s ≡ Clear) ↔ ((n : ℕ) × Holds s n)
 
 abbrev pub ListIsRefused : Type 0
-ListIsRefused = (s : List ℕ) (n i : ℕ) → ListRefusedWith (checkPairs s) n i ↔ ListFails s n i
+ListIsRefused = (s : List ℕ) (n i p : ℕ) → ListRefusedWith (checkPairs s) n i p ↔ ListFails s n i p
 
 -- ---- a search
 
@@ -39,15 +38,15 @@ abbrev pub IsDone : Search → Type 0
 IsDone (Done f) = Unit
 IsDone (Unsearched e) = ⊥
 
-abbrev pub SearchRefusedWith : Search → ℕ → ℕ → Type 0
-SearchRefusedWith (Done f) n i = ⊥
-SearchRefusedWith (Unsearched e) n i = (numberOf e ≡ n) × (fieldOf e ≡ i)
+abbrev pub SearchRefusedWith : Search → ℕ → ℕ → ℕ → Type 0
+SearchRefusedWith (Done f) n i p = ⊥
+SearchRefusedWith (Unsearched e) n i p = RefusalIs e n i p
 
 abbrev pub SearchIsDone : Type 0
 SearchIsDone = (a : AvId) (s : List ℕ) → IsDone (findPair a s) ↔ ((n : ℕ) × Holds s n)
 
 abbrev pub SearchIsRefused : Type 0
-SearchIsRefused = (a : AvId) (s : List ℕ) (n i : ℕ) → SearchRefusedWith (findPair a s) n i ↔ ListFails s n i
+SearchIsRefused = (a : AvId) (s : List ℕ) (n i p : ℕ) → SearchRefusedWith (findPair a s) n i p ↔ ListFails s n i p
 
 -- ---- a challenge's timestamp, and its server's names
 
@@ -55,26 +54,26 @@ abbrev pub IsTakenTimestamp : TimestampReading → Type 0
 IsTakenTimestamp (TimeTaken t) = Unit
 IsTakenTimestamp (TimeRefused e) = ⊥
 
-abbrev pub TimestampRefusedWith : TimestampReading → ℕ → ℕ → Type 0
-TimestampRefusedWith (TimeTaken t) n i = ⊥
-TimestampRefusedWith (TimeRefused e) n i = (numberOf e ≡ n) × (fieldOf e ≡ i)
+abbrev pub TimestampRefusedWith : TimestampReading → ℕ → ℕ → ℕ → Type 0
+TimestampRefusedWith (TimeTaken t) n i p = ⊥
+TimestampRefusedWith (TimeRefused e) n i p = RefusalIs e n i p
 
 abbrev pub TimestampIsTaken : Type 0
 TimestampIsTaken = (s b : List ℕ) → InfoBytes s b → IsTakenTimestamp (timestampOf s) ↔ ChallengeHolds s b
 
 abbrev pub TimestampIsRefused : Type 0
-TimestampIsRefused = (s b : List ℕ) → InfoBytes s b → (n i : ℕ) → TimestampRefusedWith (timestampOf s) n i ↔ ChallengeFails s b n i
+TimestampIsRefused = (s b : List ℕ) → InfoBytes s b → (n i p : ℕ) → TimestampRefusedWith (timestampOf s) n i p ↔ ChallengeFails s b n i p
 
 abbrev pub IsTakenServerNames : ServerNamesReading → Type 0
 IsTakenServerNames (NamesTaken names) = Unit
 IsTakenServerNames (NamesRefused e) = ⊥
 
-abbrev pub ServerNamesRefusedWith : ServerNamesReading → ℕ → ℕ → Type 0
-ServerNamesRefusedWith (NamesTaken names) n i = ⊥
-ServerNamesRefusedWith (NamesRefused e) n i = (numberOf e ≡ n) × (fieldOf e ≡ i)
+abbrev pub ServerNamesRefusedWith : ServerNamesReading → ℕ → ℕ → ℕ → Type 0
+ServerNamesRefusedWith (NamesTaken names) n i p = ⊥
+ServerNamesRefusedWith (NamesRefused e) n i p = RefusalIs e n i p
 
 abbrev pub ServerNamesIsTaken : Type 0
 ServerNamesIsTaken = (s b : List ℕ) → InfoBytes s b → IsTakenServerNames (serverNamesOf s) ↔ ChallengeHolds s b
 
 abbrev pub ServerNamesIsRefused : Type 0
-ServerNamesIsRefused = (s b : List ℕ) → InfoBytes s b → (n i : ℕ) → ServerNamesRefusedWith (serverNamesOf s) n i ↔ ChallengeFails s b n i
+ServerNamesIsRefused = (s b : List ℕ) → InfoBytes s b → (n i p : ℕ) → ServerNamesRefusedWith (serverNamesOf s) n i p ↔ ChallengeFails s b n i p

@@ -1,11 +1,12 @@
 -- Demand 2: "A message is taken exactly when every check there holds", and demand 1: "It answers, or refuses by a
 -- number from document 01 in the order given there."
-use Prim.Native.Nat.{ℕ}
+use Prim.Native.Nat.{ℕ, _+_, _≤_}
 use mathlib.Core.Path.{_≡_}
 use mathlib.Core.Logic.{_↔_}
 use mathlib.Core.List.{List, []}
 use lib.ListN.{take, drop}
-use Rattle.wire.specs.Refusal.{numberOf, fieldOf}
+use Rattle.wire.specs.declared.refusal.Refusal.{Refusal}
+use Rattle.wire.specs.Refusal.{numberOf, fieldOf, placeOf}
 use Rattle.authenticate.specs.declared.Reading.{Reading}
 use Rattle.authenticate.specs.declared.Reading.the-variants.{Taken, Refused}
 use Rattle.authenticate.specs.Authenticate.{readAuthenticate}
@@ -57,25 +58,33 @@ NegotiateIsTaken = (s : List ℕ) → IsTakenNegotiate (readNegotiate s) ↔ ((n
 abbrev pub NegotiateIsRefused : Type 0
 NegotiateIsRefused = (s : List ℕ) (n i : ℕ) → NegotiateRefusedWith (readNegotiate s) n i ↔ First (Fails negotiate s) n i
 
-abbrev pub CountRefused : Count → ℕ → ℕ → Type 0
-CountRefused (Pairs n) number field = ⊥
-CountRefused (Uncounted e) number field = (numberOf e ≡ number) × (fieldOf e ≡ field)
+-- a refusal by all that it returns: number, field and place
+abbrev pub RefusalIs : Refusal → ℕ → ℕ → ℕ → Type 0
+RefusalIs e n i p = (numberOf e ≡ n) × (fieldOf e ≡ i) × (placeOf e ≡ p)
+
+-- document 02, 3/12: "with 0 for every other number" than 10 to 13
+abbrev pub PlaceOfPairsOnly : Type 0
+PlaceOfPairsOnly = (e : Refusal) → ((10 ≤ numberOf e) × (numberOf e ≤ 13) → ⊥) → placeOf e ≡ 0
+
+abbrev pub CountRefused : Count → ℕ → ℕ → ℕ → Type 0
+CountRefused (Pairs m) n i p = ⊥
+CountRefused (Uncounted e) n i p = RefusalIs e n i p
 
 -- a pair list is taken, with its count, if and only if it is empty or well-formed
 abbrev pub PairsTaken : Type 0
 PairsTaken = (s : List ℕ) (n : ℕ) → (countPairs s ≡ Pairs n) ↔ Holds s n
 
--- and refused with a number, and field 2, if and only if the earliest faulty pair has that fault
+-- and refused with a number, field 2 and a place if and only if the earliest faulty pair has that fault and starts there
 abbrev pub PairsRefused : Type 0
-PairsRefused = (s : List ℕ) (n i : ℕ) → CountRefused (countPairs s) n i ↔ ListFails s n i
+PairsRefused = (s : List ℕ) (n i p : ℕ) → CountRefused (countPairs s) n i p ↔ ListFails s n i p
 
 abbrev pub IsTakenChallenge : ChallengeReading → Type 0
 IsTakenChallenge (ChallengeTaken c) = Unit
 IsTakenChallenge (ChallengeRefused e) = ⊥
 
-abbrev pub ChallengeRefusedWith : ChallengeReading → ℕ → ℕ → Type 0
-ChallengeRefusedWith (ChallengeTaken c) n i = ⊥
-ChallengeRefusedWith (ChallengeRefused e) n i = (numberOf e ≡ n) × (fieldOf e ≡ i)
+abbrev pub ChallengeRefusedWith : ChallengeReading → ℕ → ℕ → ℕ → Type 0
+ChallengeRefusedWith (ChallengeTaken c) n i p = ⊥
+ChallengeRefusedWith (ChallengeRefused e) n i p = RefusalIs e n i p
 
 -- b are the bytes of TargetInfo, field 2
 pub record InfoBytes (s b : List ℕ) : Type 0 where
@@ -92,18 +101,23 @@ pub record ChallengeHolds (s b : List ℕ) : Type 0 where
   pub count : ℕ
   pub list : Holds b count
 
--- the first of these fails with number n at field i, or none does and TargetInfo's earliest faulty pair has the number
-pub data ChallengeFails (s b : List ℕ) (n i : ℕ) : Type 0 where
-  in-fields : First (Fails challenge s) n i → ChallengeFails s b n i
-  in-list : ((m j : ℕ) → Fails challenge s m j → ⊥) → ListFails b n i → ChallengeFails s b n i
+-- the first of these fails with number n at field i, or none does and TargetInfo's earliest faulty pair has the number; its place
+-- in the message is TargetInfo's offset more than in the list
+pub data ChallengeFails (s b : List ℕ) (n i p : ℕ) : Type 0 where
+  in-fields : p ≡ 0 → First (Fails challenge s) n i → ChallengeFails s b n i p
+  in-list : {q : ℕ} → ((m j : ℕ) → Fails challenge s m j → ⊥) → ListFails b n i q → p ≡ offsetOf challenge s 2 + q → ChallengeFails s b n i p
 
--- CHALLENGE is taken, or refused with a number and field, if and only if so
+-- a place in a message has 16 bits
+abbrev pub PlaceInMessage : Type 0
+PlaceInMessage = (s : List ℕ) (e : Refusal) → readChallenge s .reading ≡ ChallengeRefused e → placeOf e ≤ 65535
+
+-- CHALLENGE is taken, or refused with a number, a field and a place, if and only if so
 abbrev pub ChallengeIsTaken : Type 0
 ChallengeIsTaken = (s b : List ℕ) → InfoBytes s b → IsTakenChallenge (readChallenge s .reading) ↔ ChallengeHolds s b
 
 abbrev pub ChallengeIsRefused : Type 0
 ChallengeIsRefused =
-    (s b : List ℕ) → InfoBytes s b → (n i : ℕ) → ChallengeRefusedWith (readChallenge s .reading) n i ↔ ChallengeFails s b n i
+    (s b : List ℕ) → InfoBytes s b → (n i p : ℕ) → ChallengeRefusedWith (readChallenge s .reading) n i p ↔ ChallengeFails s b n i p
 
 abbrev pub IsTakenNl : NlReading → Type 0
 IsTakenNl (NlTaken m) = Unit

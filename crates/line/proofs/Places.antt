@@ -92,7 +92,7 @@ auth-short s r e p h = short e (go (r .reading) h (rw p (authenticate-placeless 
 
 -- ---- CHALLENGE's fields
 
-abbrev PlacelessC : ChalReading → Type 0
+abbrev pub PlacelessC : ChalReading → Type 0
 PlacelessC (ChalTaken c) = Unit
 PlacelessC (ChalRefused e) = placeOf e ≡ 0
 

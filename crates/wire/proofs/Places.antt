@@ -14,7 +14,7 @@ use Rattle.wire.specs.declared.check.Checked.the-variants.{Held, Failed}
 use Rattle.wire.specs.declared.check.Verdict.{Verdict}
 use Rattle.wire.specs.declared.check.Verdict.the-variants.{Clear, Refused}
 use Rattle.wire.specs.Check.{after, overAll, onClear}
-use Rattle.wire.specs.Refusal.{placeOf, movedBy}
+use Rattle.wire.specs.Refusal.{numberOf, fieldOf, placeOf, movedBy}
 use Rattle.wire.proofs.refusal.Refusal.{the-type}
 
 -- the new place fits
@@ -89,6 +89,87 @@ moved-place n (OddNameToWrite f) = omega arith
 moved-place n WrongKey = omega arith
 moved-place n NoRoom = omega arith
 moved-place n (ZeroInString f) = omega arith
+
+-- its number and field stay
+pub moved-number : (n : ℕ) (e : Refusal) → (numberOf (movedBy n e) ≡ numberOf e) × (fieldOf (movedBy n e) ≡ fieldOf e)
+moved-number n TooLong = (refl, refl)
+moved-number n TooShort = (refl, refl)
+moved-number n WrongSignature = (refl, refl)
+moved-number n WrongType = (refl, refl)
+moved-number n NoCharset = (refl, refl)
+moved-number n (PastEnd f) = (refl, refl)
+moved-number n (InFixedPart f) = (refl, refl)
+moved-number n (OddName f) = (refl, refl)
+moved-number n (NameOverSecret f) = (refl, refl)
+moved-number n (PairPastEnd at) = (refl, refl)
+moved-number n (PairMissing at) = (refl, refl)
+moved-number n (WrongEndPair at) = (refl, refl)
+moved-number n (WrongPairSize at) = (refl, refl)
+moved-number n NoStrings = (refl, refl)
+moved-number n (Unterminated f) = (refl, refl)
+moved-number n BytesLeft = (refl, refl)
+moved-number n WrongResponse = (refl, refl)
+moved-number n No128Bit = (refl, refl)
+moved-number n NoServerNames = (refl, refl)
+moved-number n TooLongToWrite = (refl, refl)
+moved-number n (OddNameToWrite f) = (refl, refl)
+moved-number n WrongKey = (refl, refl)
+moved-number n NoRoom = (refl, refl)
+moved-number n (ZeroInString f) = (refl, refl)
+
+-- and where there is a place, it moves
+pub moved-at : (n : ℕ) (e : Refusal) → (10 ≤ numberOf e) × (numberOf e ≤ 13) → placeOf (movedBy n e) ≡ n + placeOf e
+moved-at n TooLong h = absurd (omega (arith, h .0, h .1))
+moved-at n TooShort h = absurd (omega (arith, h .0, h .1))
+moved-at n WrongSignature h = absurd (omega (arith, h .0, h .1))
+moved-at n WrongType h = absurd (omega (arith, h .0, h .1))
+moved-at n NoCharset h = absurd (omega (arith, h .0, h .1))
+moved-at n (PastEnd f) h = absurd (omega (arith, h .0, h .1))
+moved-at n (InFixedPart f) h = absurd (omega (arith, h .0, h .1))
+moved-at n (OddName f) h = absurd (omega (arith, h .0, h .1))
+moved-at n (NameOverSecret f) h = absurd (omega (arith, h .0, h .1))
+moved-at n (PairPastEnd at) h = refl
+moved-at n (PairMissing at) h = refl
+moved-at n (WrongEndPair at) h = refl
+moved-at n (WrongPairSize at) h = refl
+moved-at n NoStrings h = absurd (omega (arith, h .0, h .1))
+moved-at n (Unterminated f) h = absurd (omega (arith, h .0, h .1))
+moved-at n BytesLeft h = absurd (omega (arith, h .0, h .1))
+moved-at n WrongResponse h = absurd (omega (arith, h .0, h .1))
+moved-at n No128Bit h = absurd (omega (arith, h .0, h .1))
+moved-at n NoServerNames h = absurd (omega (arith, h .0, h .1))
+moved-at n TooLongToWrite h = absurd (omega (arith, h .0, h .1))
+moved-at n (OddNameToWrite f) h = absurd (omega (arith, h .0, h .1))
+moved-at n WrongKey h = absurd (omega (arith, h .0, h .1))
+moved-at n NoRoom h = absurd (omega (arith, h .0, h .1))
+moved-at n (ZeroInString f) h = absurd (omega (arith, h .0, h .1))
+
+-- only 10 to 13 have one
+pub placeless-number : (e : Refusal) → ((10 ≤ numberOf e) × (numberOf e ≤ 13) → ⊥) → placeOf e ≡ 0
+placeless-number TooLong h = refl
+placeless-number TooShort h = refl
+placeless-number WrongSignature h = refl
+placeless-number WrongType h = refl
+placeless-number NoCharset h = refl
+placeless-number (PastEnd f) h = refl
+placeless-number (InFixedPart f) h = refl
+placeless-number (OddName f) h = refl
+placeless-number (NameOverSecret f) h = refl
+placeless-number (PairPastEnd at) h = absurd (h (omega arith, omega arith))
+placeless-number (PairMissing at) h = absurd (h (omega arith, omega arith))
+placeless-number (WrongEndPair at) h = absurd (h (omega arith, omega arith))
+placeless-number (WrongPairSize at) h = absurd (h (omega arith, omega arith))
+placeless-number NoStrings h = refl
+placeless-number (Unterminated f) h = refl
+placeless-number BytesLeft h = refl
+placeless-number WrongResponse h = refl
+placeless-number No128Bit h = refl
+placeless-number NoServerNames h = refl
+placeless-number TooLongToWrite h = refl
+placeless-number (OddNameToWrite f) h = refl
+placeless-number WrongKey h = refl
+placeless-number NoRoom h = refl
+placeless-number (ZeroInString f) h = refl
 
 -- ---- refusals without a place
 

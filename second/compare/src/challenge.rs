@@ -44,6 +44,7 @@ pub static KIND: Kind<2> = Kind {
         orders,
         faulty_lists,
         faulty_lists_elsewhere,
+        places,
         units,
         long_messages,
         long_lines,
@@ -238,6 +239,45 @@ fn faulty_lists_elsewhere(random: &mut Random, messages: &mut Vec<Vec<u8>>) {
         message.rest.extend(b"NAME");
         messages.push(message.bytes());
     }
+}
+
+/// A fault of each number at the first pair, the second, and after many, with
+/// pairs behind it where it leaves room for them; and each in a list that begins
+/// at an odd, an even and a far place, or ends with the longest message.
+fn places(random: &mut Random, messages: &mut Vec<Vec<u8>>) {
+    let faults = [
+        Fault::Cut(0),
+        Fault::Cut(1),
+        Fault::Cut(2),
+        Fault::Cut(3),
+        Fault::EndLength(4, 4),
+        Fault::AfterEnd(1),
+        Fault::AfterEnd(12),
+        Fault::PastEnd(8, 1),
+        Fault::SizePastEnd(6, 5),
+        Fault::Size(1, 3),
+        Fault::Size(6, 2),
+    ];
+    for before in [0, 1, 60] {
+        for fault in faults {
+            let mut list = List::default();
+            for _ in 0..before {
+                let id = random.pick(&IDS);
+                list.put_sound(random, id);
+            }
+            list.put_fault(random, fault);
+            let list = list.bytes();
+            for start in [FIXED, 49, 255, 256, 4_097, MAX_MESSAGE - list.len()] {
+                messages.push(list_at(random, start, &list));
+            }
+        }
+    }
+}
+
+/// A message whose list begins at `start`, and whose name is empty.
+fn list_at(random: &mut Random, start: usize, list: &[u8]) -> Vec<u8> {
+    let flags = random.pick(&[UNICODE, OEM]) | BOTH_FIELDS;
+    KIND.of(random, flags, start, [&[], list]).bytes()
 }
 
 /// Every byte and every unit at an edge.

@@ -192,11 +192,11 @@ mod tests {
             message: message.to_vec(),
         };
         let cases = [case(b"\x02\0\0\0\0\0\0\0\x5C"), case(b"\xAB")];
-        let (failed, out) = printed(&cases, b"refused 2 field=0\n");
+        let (failed, out) = printed(&cases, b"refused 2 field=0 at=0\n");
         assert!(out.starts_with("2 messages from seed 3:\n"));
         assert!(out.contains(
             "\nDIFFERENT: message 0, NlAuth, 9 bytes\n    message: 02000000000000005C\n    \
-             proved: refused 2 field=0\n    second: refused 4 field=0\n"
+             proved: refused 2 field=0 at=0\n    second: refused 4 field=0 at=0\n"
         ));
         assert!(!out.contains("DIFFERENT: message 1"));
         // Two kinds of answer were reached, and one message differs.

@@ -288,22 +288,26 @@ mod tests {
     use crate::{authenticate, challenge, negotiate};
 
     /// What the messages of a type get: the first word of a line, and of a
-    /// refusal the whole line.
+    /// refusal the line up to its place.
     fn answers(messages: &[Vec<u8>], number: u32) -> BTreeSet<String> {
+        let line = |line: String| match line.split_once(" at=") {
+            Some((refused, _)) if line.starts_with("refused") => refused.to_owned(),
+            _ => line[..4].to_owned(),
+        };
+        lines(messages, number).into_iter().map(line).collect()
+    }
+
+    /// The lines of the messages of a type, without their 0A.
+    fn lines(messages: &[Vec<u8>], number: u32) -> Vec<String> {
         let mut room = Box::new([0; LINE_LIMIT]);
         let of_type =
             |message: &&Vec<u8>| message.get(8..12) == Some(number.to_le_bytes().as_slice());
-        let mut answer = |message| {
+        let mut line = |message| {
             let line = Program::Ntlm.line(message, &mut room).trim_ascii_end();
-            let words = if line.starts_with(b"refused") {
-                line
-            } else {
-                &line[..4]
-            };
-            words.escape_ascii().to_string()
+            line.escape_ascii().to_string()
         };
         let messages = messages.iter().filter(of_type);
-        messages.map(|message| answer(message)).collect()
+        messages.map(|message| line(message)).collect()
     }
 
     /// What a message of any type can be refused by, but for check 4, which the
@@ -344,6 +348,24 @@ mod tests {
             assert_eq!(answers(&messages, 2), expected("chal", &OF_CHALLENGE));
             let messages = negotiate::KIND.boundaries(random);
             assert_eq!(answers(&messages, 1), expected("nego", &OF_NEGOTIATE));
+        }
+    }
+
+    #[test]
+    fn faulty_pairs_stand_at_every_kind_of_place() {
+        let messages = challenge::KIND.boundaries(&mut Random::new(5));
+        let lines = lines(&messages, 2);
+        for number in 10..=13 {
+            let start = format!("refused {number} field=2 at=");
+            let places = lines.iter().filter_map(|line| line.strip_prefix(&start));
+            let places: Vec<usize> = places.map(|at| at.parse().expect("a place")).collect();
+            let has = |wanted: fn(usize) -> bool| places.iter().any(|&place| wanted(place));
+            assert!(has(|place| place % 2 == 1) && has(|place| place % 2 == 0));
+            assert!(has(|place| place == 48) || number == 11);
+            assert!(has(|place| place == 49) && has(|place| place == 256));
+            assert!(has(|place| (257..4_000).contains(&place)));
+            assert!(has(|place| place > 65_000));
+            assert!(places.iter().all(|place| (48..=65_535).contains(place)));
         }
     }
 

@@ -2,6 +2,7 @@
 
 use std::collections::BTreeMap;
 use std::fmt;
+use std::str::FromStr;
 
 /// A kind of answer.
 #[derive(Clone, Copy, Debug, PartialEq, Eq, PartialOrd, Ord)]
@@ -70,18 +71,29 @@ impl Kind {
             [b"nego", ..] => Self::Negotiate,
             [b"nl", b"type=0", ..] => Self::NlAuthRequest,
             [b"nl", b"type=1", ..] => Self::NlAuthResponse,
-            [b"refused", number, field] => Self::refused(number, field).unwrap_or(Self::Other),
+            [b"refused", number, field, place] => {
+                Self::refused(number, field, place).unwrap_or(Self::Other)
+            }
             _ => Self::Other,
         }
     }
 
-    fn refused(number: &[u8], field: &[u8]) -> Option<Self> {
-        let parse = |digits: &[u8]| std::str::from_utf8(digits).ok()?.parse().ok();
-        Some(Self::Refused {
-            number: parse(number)?,
-            field: parse(field.strip_prefix(b"field=")?)?,
-        })
+    fn refused(number: &[u8], field: &[u8], place: &[u8]) -> Option<Self> {
+        let number = parse(number)?;
+        let field = parse(field.strip_prefix(b"field=")?)?;
+        let place: usize = parse(place.strip_prefix(b"at=")?)?;
+        // Only a pair has a place, and in a message it stands after the fixed part.
+        let right = if matches!(number, 10..=13) {
+            place >= 48
+        } else {
+            place == 0
+        };
+        right.then_some(Self::Refused { number, field })
     }
+}
+
+fn parse<N: FromStr>(digits: &[u8]) -> Option<N> {
+    std::str::from_utf8(digits).ok()?.parse().ok()
 }
 
 impl fmt::Display for Kind {
@@ -204,7 +216,7 @@ mod tests {
 
     #[test]
     fn each_line_has_its_kind() {
-        let cases: [(&[u8], Kind); 13] = [
+        let cases: [(&[u8], Kind); 17] = [
             (b"auth flags=00000201 set=U domain=\n", Kind::Authenticate),
             (
                 b"chal flags=1 set=U target= pairs=0\n",
@@ -222,15 +234,25 @@ mod tests {
             (b"nl type=0 flags=00000001 a=LINE\n", Kind::NlAuthRequest),
             (b"nl type=1 flags=00000000\n", Kind::NlAuthResponse),
             (
-                b"refused 15 field=4\n",
+                b"refused 15 field=4 at=0\n",
                 Kind::Refused {
                     number: 15,
                     field: 4,
                 },
             ),
-            (b"refused 15 field=4", Kind::Other),
+            (
+                b"refused 12 field=2 at=93\n",
+                Kind::Refused {
+                    number: 12,
+                    field: 2,
+                },
+            ),
+            (b"refused 15 field=4 at=0", Kind::Other),
             (b"refused 15\n", Kind::Other),
-            (b"refused x field=4\n", Kind::Other),
+            (b"refused x field=4 at=0\n", Kind::Other),
+            (b"refused 15 field=4\n", Kind::Other),
+            (b"refused 15 field=4 at=93\n", Kind::Other),
+            (b"refused 12 field=2 at=0\n", Kind::Other),
             (b"nl type=2 flags=00000000\n", Kind::Other),
             (b"\n", Kind::Other),
         ];
@@ -243,7 +265,7 @@ mod tests {
     fn what_was_not_reached_is_named() {
         let mut tally = Tally::default();
         assert_eq!(tally.not_reached().len(), 6 + 37);
-        tally.add(b"refused 8 field=5\n");
+        tally.add(b"refused 8 field=5 at=0\n");
         tally.add(b"auth\n");
         let missing = tally.not_reached();
         assert_eq!(missing.len(), 6 + 37 - 2);
@@ -258,7 +280,11 @@ mod tests {
     #[test]
     fn answers_that_no_reading_has_are_named() {
         let mut tally = Tally::default();
-        for line in ["refused 8 field=2\n", "refused 18 field=0\n", "what\n"] {
+        for line in [
+            "refused 8 field=2 at=0\n",
+            "refused 18 field=0 at=0\n",
+            "what\n",
+        ] {
             tally.add(line.as_bytes());
         }
         assert_eq!(tally.not_expected().len(), 3);

@@ -15,17 +15,17 @@ fn program(name: &str) -> PathBuf {
     let folder = FOLDER.get_or_init(|| {
         let folder = fresh_folder("programs");
         let scripts = [
-            ("refuses", "echo 'refused 2 field=0'"),
-            ("refuses_otherwise", "echo 'refused 3 field=0'"),
+            ("refuses", "echo 'refused 2 field=0 at=0'"),
+            ("refuses_otherwise", "echo 'refused 3 field=0 at=0'"),
             ("takes", "echo 'nl type=0 flags=00000001 a=LINE'"),
             ("says_its_word", "echo \"read as ${1:-proved}\""),
             ("counts", "wc -c | tr -d ' '; exit"),
-            ("fails", "echo 'refused 2 field=0'; exit 3"),
+            ("fails", "echo 'refused 2 field=0 at=0'; exit 3"),
             ("prints_nothing", ":"),
             ("says_why", "echo 'the input could not be read' >&2"),
             (
                 "prints_and_says_why",
-                "echo 'refused 2 field=0'; echo 'the line could not be written' >&2",
+                "echo 'refused 2 field=0 at=0'; echo 'the line could not be written' >&2",
             ),
         ];
         for (name, script) in scripts {
@@ -114,8 +114,8 @@ fn a_difference_shows_both_lines() {
     assert_eq!(
         out,
         "a.bin: raw, 8 bytes, NTLM\n    DIFFERENT: the lines part at character 9\n    \
-         proved: refused 3 field=0\n    second: refused 2 field=0\n\
-         b.bin: raw, 13 bytes, NL_AUTH\n    refused 2 field=0\n\
+         proved: refused 3 field=0 at=0\n    second: refused 2 field=0 at=0\n\
+         b.bin: raw, 13 bytes, NL_AUTH\n    refused 2 field=0 at=0\n\
          2 messages: 1 the same in both programs (0 taken, 1 refused), 1 different, 0 not read\n"
     );
     assert_eq!(status, Some(1));
@@ -224,7 +224,7 @@ fn a_file_that_gives_no_message_is_told_and_the_others_are_run() {
     assert!(not_read[1].starts_with("c.txt: NOT READ: it begins with a byte order mark"));
     assert!(not_read[2].starts_with("d.bin: NOT READ: No such file"));
     assert!(not_read[3].starts_with("e: NOT READ: it is a folder"));
-    assert!(out.contains("b.bin: raw, 13 bytes, NL_AUTH\n    refused 2 field=0\n"));
+    assert!(out.contains("b.bin: raw, 13 bytes, NL_AUTH\n    refused 2 field=0 at=0\n"));
     assert!(out.ends_with(
         "5 messages: 1 the same in both programs (0 taken, 1 refused), 0 different, 4 not read\n"
     ));

@@ -44,7 +44,10 @@ impl<'a> Challenge<'a> {
         if set == CharacterSet::Unicode {
             target_name.check_even(Self::TARGET_NAME)?;
         }
-        let pairs = TargetInfo(target_info.bytes).summary()?;
+        // The list's own places become the message's here, and nowhere else.
+        let pairs = TargetInfo(target_info.bytes)
+            .summary()
+            .map_err(|refusal| refusal.in_message(target_info.place))?;
 
         Ok(Self {
             flags,

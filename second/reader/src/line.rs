@@ -183,7 +183,7 @@ impl Line for NlAuth<'_> {
     }
 }
 
-/// `refused D field=D`
+/// `refused D field=D at=D`
 impl Line for Refusal {
     fn length_limit(&self) -> usize {
         WORDS_LIMIT
@@ -194,6 +194,8 @@ impl Line for Refusal {
         put_decimal(sink, usize::from(self.number()));
         sink.put(b" field=");
         put_decimal(sink, usize::from(self.field));
+        sink.put(b" at=");
+        put_decimal(sink, self.place);
         sink.put(b"\n");
     }
 }

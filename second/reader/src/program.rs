@@ -3,8 +3,8 @@
 use crate::line::{nl_auth_line, ntlm_line, write_line};
 use crate::refusal::Refusal;
 
-/// "A program whose line doesn't fit 65,536 bytes prints `refused 33 field=0`."
-/// The line's 0A is one of these bytes.
+/// "A program whose line doesn't fit 65,536 bytes prints" the line of 33. The
+/// line's 0A is one of these bytes.
 pub const LINE_LIMIT: usize = 65_536;
 
 /// The two programs.

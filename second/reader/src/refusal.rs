@@ -1,4 +1,5 @@
-//! Refusals: the table of document 01, "What comes back".
+//! Refusals: the table of document 01, "What comes back", with the place of
+//! document 02's request 3/12.
 
 use std::fmt;
 
@@ -68,20 +69,38 @@ impl Reason {
         Refusal {
             reason: self,
             field,
+            place: 0,
         }
     }
 }
 
-/// "A refusal gives its number and field."
+/// A refusal gives its number, its field and its place.
 #[derive(Clone, Copy, Debug, PartialEq, Eq)]
 pub struct Refusal {
     /// What was wrong.
     pub reason: Reason,
     /// The field, string or 0 that the table returns with the number.
     pub field: u8,
+    /// For 10 to 13 "the byte place, from the start of the message (of the list,
+    /// where a list alone is walked), of the first byte of the pair that failed.
+    /// For 11 it's the place where a pair should have started"; 0 for every other
+    /// number.
+    pub place: usize,
 }
 
 impl Refusal {
+    /// This refusal of a pair at `place`.
+    pub(crate) const fn at(self, place: usize) -> Self {
+        Self { place, ..self }
+    }
+
+    /// This refusal of a list's pair, with the place counted from the start of
+    /// the message in which the list begins at `list`. The sum lies inside the
+    /// message.
+    pub(crate) const fn in_message(self, list: usize) -> Self {
+        self.at(self.place.saturating_add(list))
+    }
+
     /// The number in document 01's table.
     pub const fn number(self) -> u8 {
         self.reason as u8
@@ -90,7 +109,8 @@ impl Refusal {
 
 impl fmt::Display for Refusal {
     fn fmt(&self, f: &mut fmt::Formatter<'_>) -> fmt::Result {
-        write!(f, "refused {} field={}", self.number(), self.field)
+        let Self { field, place, .. } = self;
+        write!(f, "refused {} field={field} at={place}", self.number())
     }
 }
 

@@ -188,7 +188,7 @@ impl<'a> Walk<'a> {
         let rest = self.list.get(self.at..).unwrap_or_default();
         let (head, after) = rest
             .split_first_chunk::<4>()
-            .ok_or(refusal(Reason::PairCutOff))?;
+            .ok_or(self.refusal(Reason::PairCutOff))?;
         let [id_low, id_high, len_low, len_high] = *head;
         let id = AvId(u16::from_le_bytes([id_low, id_high]));
         let len = usize::from(u16::from_le_bytes([len_low, len_high]));
@@ -196,21 +196,22 @@ impl<'a> Walk<'a> {
             return if len == 0 && after.is_empty() {
                 Ok(None)
             } else {
-                Err(refusal(Reason::EndPair))
+                Err(self.refusal(Reason::EndPair))
             };
         }
-        let value = after.get(..len).ok_or(refusal(Reason::PairPastEnd))?;
+        let value = after.get(..len).ok_or(self.refusal(Reason::PairPastEnd))?;
         if !id.allows(len) {
-            return Err(refusal(Reason::PairSize));
+            return Err(self.refusal(Reason::PairSize));
         }
         // Head and value are inside the list, so neither sum can wrap.
         let place = self.at.saturating_add(4);
         self.at = place.saturating_add(len);
         Ok(Some(AvPair { id, place, value }))
     }
-}
 
-/// The refusal of a faulty pair.
-const fn refusal(reason: Reason) -> Refusal {
-    reason.of_field(TargetInfo::FIELD)
+    /// The refusal of a faulty pair: its place is the first byte of the pair, or
+    /// where one should have started.
+    const fn refusal(&self, reason: Reason) -> Refusal {
+        reason.of_field(TargetInfo::FIELD).at(self.at)
+    }
 }

@@ -78,7 +78,7 @@ fn p6_check_6_over_all_fields_before_check_7() {
 #[test]
 fn first_63_bytes_only() {
     assert_eq!(refused(Authenticate::read(&p1()[..63])), (2, 0));
-    assert_eq!(line(ntlm_line, &p1()[..63]), "refused 2 field=0\n");
+    assert_eq!(line(ntlm_line, &p1()[..63]), "refused 2 field=0 at=0\n");
 }
 
 #[test]
@@ -105,8 +105,11 @@ fn p7_to_p11_target_info_lists() {
     for ((list, reason), number) in cases.into_iter().zip([11, 10, 12, 13]) {
         let answer = TargetInfo(list).count();
         assert_eq!(answer, Err(reason.of_field(2)));
-        assert_eq!(refused(answer), (number, 2));
+        assert_eq!(refused_at(answer), (number, 2, 0));
     }
+    // P11's list after a well-formed pair.
+    let list = [&[1, 0, 2, 0, 0x41, 0][..], &[6, 0, 2, 0, 0, 0, 0, 0, 0, 0]].concat();
+    assert_eq!(refused_at(TargetInfo(&list).count()), (13, 2, 6));
 }
 
 #[test]

@@ -93,11 +93,11 @@ fn every_word_of_a_nego_line() {
         );
         assert_eq!(
             line(call, &negotiate(both, b"DOM", b"BOX")),
-            "refused 5 field=0\n"
+            "refused 5 field=0 at=0\n"
         );
         let cut = negotiate(OEM | both, b"DOM", b"BOX");
-        assert_eq!(line(call, &cut[..45]), "refused 6 field=2\n");
-        assert_eq!(line(call, &cut[..31]), "refused 2 field=0\n");
+        assert_eq!(line(call, &cut[..45]), "refused 6 field=2 at=0\n");
+        assert_eq!(line(call, &cut[..31]), "refused 2 field=0 at=0\n");
     }
 }
 
@@ -162,17 +162,17 @@ fn every_unit_in_a_name() {
 
 #[test]
 fn refused_lines() {
-    assert_eq!(line(ntlm_line, b""), "refused 2 field=0\n");
-    assert_eq!(line(nl_auth_line, b""), "refused 2 field=0\n");
+    assert_eq!(line(ntlm_line, b""), "refused 2 field=0 at=0\n");
+    assert_eq!(line(nl_auth_line, b""), "refused 2 field=0 at=0\n");
     assert_eq!(
         line(ntlm_line, &p1_with(USER, 8, 113)),
-        "refused 6 field=4\n"
+        "refused 6 field=4 at=0\n"
     );
     let message = challenge(UNICODE | TARGET_INFO, b"", &[0; 3]);
-    assert_eq!(line(ntlm_line, &message), "refused 11 field=2\n");
+    assert_eq!(line(ntlm_line, &message), "refused 11 field=2 at=56\n");
     assert_eq!(
         line(nl_auth_line, &nl(0, 0x10, b"x")),
-        "refused 15 field=5\n"
+        "refused 15 field=5 at=0\n"
     );
 }
 
@@ -180,10 +180,10 @@ fn refused_lines() {
 fn the_ntlm_program_chooses_by_the_type() {
     // Refused as CHALLENGE, whatever the signature.
     let start = b"????????\x02\0\0\0";
-    assert_eq!(line(ntlm_line, start), "refused 2 field=0\n");
+    assert_eq!(line(ntlm_line, start), "refused 2 field=0 at=0\n");
     let mut message = start.to_vec();
     message.resize(48, 0);
-    assert_eq!(line(ntlm_line, &message), "refused 3 field=0\n");
+    assert_eq!(line(ntlm_line, &message), "refused 3 field=0 at=0\n");
     // 48 bytes suffice for a CHALLENGE only.
     let message = challenge(OEM, b"", b"");
     assert_eq!(
@@ -198,18 +198,18 @@ fn the_ntlm_program_chooses_by_the_type() {
     );
     let mut unsigned = nego.clone();
     unsigned[0] = b'?';
-    assert_eq!(line(ntlm_line, &unsigned), "refused 3 field=0\n");
-    assert_eq!(line(ntlm_line, &unsigned[..12]), "refused 2 field=0\n");
+    assert_eq!(line(ntlm_line, &unsigned), "refused 3 field=0 at=0\n");
+    assert_eq!(line(ntlm_line, &unsigned[..12]), "refused 2 field=0 at=0\n");
     // Any other type goes to the AUTHENTICATE reader.
     for start in [&message, &nego] {
         for at in 9..12 {
             let mut message = start.clone();
             message[at] = 1;
             message.resize(64, 0);
-            assert_eq!(line(ntlm_line, &message), "refused 4 field=0\n");
-            assert_eq!(line(ntlm_line, &message[..63]), "refused 2 field=0\n");
+            assert_eq!(line(ntlm_line, &message), "refused 4 field=0 at=0\n");
+            assert_eq!(line(ntlm_line, &message[..63]), "refused 2 field=0 at=0\n");
         }
-        assert_eq!(line(ntlm_line, &start[..11]), "refused 2 field=0\n");
+        assert_eq!(line(ntlm_line, &start[..11]), "refused 2 field=0 at=0\n");
     }
 }
 
@@ -269,13 +269,13 @@ fn a_program_prints_lines_up_to_65536_bytes() {
     assert_eq!(line(ntlm_line, &passes).len(), 65_537);
     assert_eq!(
         Program::Ntlm.line(&passes, &mut room),
-        b"refused 33 field=0\n"
+        b"refused 33 field=0 at=0\n"
     );
 
     let passes = nl(0, 1, &[vec![7; 20_000], vec![0]].concat());
     assert_eq!(
         Program::NlAuth.line(&passes, &mut room),
-        b"refused 33 field=0\n"
+        b"refused 33 field=0 at=0\n"
     );
 }
 
@@ -307,7 +307,10 @@ fn programs_refuse_over_65535_bytes() {
         ] {
             let mut message = start;
             message.resize(MAX_MESSAGE + 1, 0);
-            assert_eq!(program.line(&message, &mut room), b"refused 1 field=0\n");
+            assert_eq!(
+                program.line(&message, &mut room),
+                b"refused 1 field=0 at=0\n"
+            );
         }
     }
 }
@@ -316,11 +319,11 @@ fn programs_refuse_over_65535_bytes() {
 fn a_program_line_in_any_room_is_the_line_or_that_of_33() {
     let message = p1();
     let whole = line(ntlm_line, &message);
-    let no_room = "refused 33 field=0\n";
+    let no_room = "refused 33 field=0 at=0\n";
     let lines = [
         (whole.len(), &whole[..]),
         (whole.len() - 1, no_room),
-        (19, no_room),
+        (24, no_room),
     ];
     for (room, expected) in lines {
         let mut out = vec![0xEE; room];
@@ -328,13 +331,13 @@ fn a_program_line_in_any_room_is_the_line_or_that_of_33() {
         assert_eq!(&out[..len], expected.as_bytes());
         assert!(out[len..].iter().all(|&byte| byte == 0xEE));
     }
-    for room in [0, 1, 18] {
+    for room in [0, 1, 23] {
         let mut out = vec![0xEE; room];
         for program in [Program::Ntlm, Program::NlAuth] {
             let answer = program.write_line(&message, &mut out);
             // NL_AUTH has a line for it that is shorter than that of 33.
-            if program == Program::NlAuth && room == 18 {
-                assert_eq!(answer, Ok(18));
+            if program == Program::NlAuth && room == 23 {
+                assert_eq!(answer, Ok(23));
             } else {
                 assert_eq!(refused(answer), (33, 0));
                 assert!(out.iter().all(|&byte| byte == 0xEE));

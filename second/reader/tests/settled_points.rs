@@ -336,11 +336,14 @@ fn point_21_the_limits_of_a_program() {
     let message = nl(0, 1, &[&string[..], b"x\0"].concat());
     assert_eq!(
         Program::NlAuth.line(&message, &mut room),
-        b"refused 33 field=0\n"
+        b"refused 33 field=0 at=0\n"
     );
     let message = vec![0; MAX_MESSAGE + 1];
     for program in [Program::Ntlm, Program::NlAuth] {
-        assert_eq!(program.line(&message, &mut room), b"refused 1 field=0\n");
+        assert_eq!(
+            program.line(&message, &mut room),
+            b"refused 1 field=0 at=0\n"
+        );
     }
 }
 

@@ -81,11 +81,11 @@ fn nl_prints_p12() {
 
 #[test]
 fn refused_messages_print_and_succeed() {
-    assert_eq!(printed(&["ntlm"], b""), "refused 2 field=0\n");
-    assert_eq!(printed(&["nl"], b""), "refused 2 field=0\n");
+    assert_eq!(printed(&["ntlm"], b""), "refused 2 field=0 at=0\n");
+    assert_eq!(printed(&["nl"], b""), "refused 2 field=0 at=0\n");
     assert_eq!(
         printed(&["nl"], b"\0\0\0\0\0\0\0\0"),
-        "refused 14 field=0\n"
+        "refused 14 field=0 at=0\n"
     );
 }
 
@@ -95,10 +95,10 @@ fn over_65535_bytes() {
     message.resize(65_535, 0);
     assert_eq!(printed(&["ntlm"], &message), P1_LINE);
     message.push(0);
-    assert_eq!(printed(&["ntlm"], &message), "refused 1 field=0\n");
+    assert_eq!(printed(&["ntlm"], &message), "refused 1 field=0 at=0\n");
     let vast = vec![0; 5_000_000];
     for program in ["ntlm", "nl"] {
-        assert_eq!(printed(&[program], &vast), "refused 1 field=0\n");
+        assert_eq!(printed(&[program], &vast), "refused 1 field=0 at=0\n");
     }
 }
 
@@ -107,7 +107,7 @@ fn a_line_over_65536_bytes() {
     let mut request = b"\0\0\0\0\x01\0\0\0".to_vec();
     request.resize(30_000, 0xFF);
     request.push(0);
-    assert_eq!(printed(&["nl"], &request), "refused 33 field=0\n");
+    assert_eq!(printed(&["nl"], &request), "refused 33 field=0 at=0\n");
 }
 
 #[test]
@@ -115,7 +115,7 @@ fn batch_prints_a_line_for_each() {
     let long = "00".repeat(65_536);
     let input = format!("{P1_HEX}\n\n{}\r\n{long}\n4E54", P1_HEX.to_lowercase());
     let expected =
-        format!("{P1_LINE}refused 2 field=0\n{P1_LINE}refused 1 field=0\nrefused 2 field=0\n");
+        format!("{P1_LINE}refused 2 field=0 at=0\n{P1_LINE}refused 1 field=0 at=0\nrefused 2 field=0 at=0\n");
     assert_eq!(printed(&["batch", "ntlm"], input.as_bytes()), expected);
     assert_eq!(
         printed(&["batch", "nl"], b"010000000000000000"),
@@ -137,7 +137,7 @@ fn a_line_that_is_not_hex_ends_the_batch() {
     for bad in ["4E5", "4E5G", "4E 54", "secret"] {
         let output = run(&["batch", "nl"], format!("00\n{bad}\n00\n").as_bytes());
         assert_eq!(output.status.code(), Some(1));
-        assert_eq!(output.stdout, b"refused 2 field=0\n");
+        assert_eq!(output.stdout, b"refused 2 field=0 at=0\n");
         assert_eq!(output.stderr, b"second: line 2 is not a message in hex\n");
     }
 }

@@ -10,7 +10,7 @@ use Rattle.wire.specs.declared.check.Checked.the-variants.{Held, Failed}
 use Rattle.wire.specs.declared.refusal.Refusal.the-variants.{No128Bit, NoServerNames}
 use Rattle.wire.specs.Check.{after}
 use Rattle.wire.specs.Number.{u64At}
-use Rattle.wire.specs.Refusal.{numberOf, fieldOf}
+use Rattle.wire.specs.Refusal.{numberOf, fieldOf, placeOf}
 use Rattle.wire.proofs.Laws.{held-true}
 use Rattle.av_id.specs.AvId.{isNbComputerName, isNbDomainName}
 use Rattle.av_pairs.specs.AvPairs.{pairsOf, isThere}
@@ -121,7 +121,7 @@ module _ (settings : Settings) (b : List ℕ) where
 module _ (settings : Settings) (s b : List ℕ) (info : InfoBytes s b) where
   abbrev pub Judged : Decided → Type 0
   Judged (Taken d) = Agreed settings s b × (d ≡ record { flags = flagsAt s 20; timestamp = timestampIn b })
-  Judged (Refused e) = Declined settings s b (numberOf e) (fieldOf e)
+  Judged (Refused e) = Declined settings s b (numberOf e) (fieldOf e) (placeOf e)
 
   pub judged : Judged (decisionOn settings s)
   unfolding decisionOn readChallenge
@@ -138,9 +138,9 @@ module _ (settings : Settings) (s b : List ℕ) (info : InfoBytes s b) where
         (Taken (record { flags = flagsAt s 20; timestamp = timestampIn b }))))
     on holds =
         chained Judged _ _ _
-        (λ f. by-20 refl refl holds (failed-20 settings s f))
+        (λ f. by-20 refl refl refl holds (failed-20 settings s f))
         (λ h. chained Judged _ _ _
-        (λ f. by-21 refl refl holds (held-20 settings s h) (failed-21 settings b f))
+        (λ f. by-21 refl refl refl holds (held-20 settings s h) (failed-21 settings b f))
         (λ g. (record { reading = holds; holds20 = held-20 settings s h; holds21 = held-21 settings b g }, refl)))
 
     go : (r : Reading) → readingOf s ≡ r → reading.Judged s b info r → Judged (onTaken Refused r decide)
@@ -151,29 +151,37 @@ module _ (settings : Settings) (s b : List ℕ) (info : InfoBytes s b) where
     go (Unread f) e fails = by-reading fails
 
 -- not both; and there is one reason only
-pub agreed-or-declined : (settings : Settings) (s b : List ℕ) (n i : ℕ) → Agreed settings s b → Declined settings s b n i → ⊥
-agreed-or-declined settings s b n i a (by-reading f) = holds-or-fails s b n i (a .reading) f
-agreed-or-declined settings s b n i a (by-20 p q h f) = a .holds20 f
-agreed-or-declined settings s b n i a (by-21 p q h k f) = a .holds21 f
+pub agreed-or-declined : (settings : Settings) (s b : List ℕ) (n i p : ℕ) → Agreed settings s b → Declined settings s b n i p → ⊥
+agreed-or-declined settings s b n i p a (by-reading f) = holds-or-fails s b n i p (a .reading) f
+agreed-or-declined settings s b n i p a (by-20 x y z h f) = a .holds20 f
+agreed-or-declined settings s b n i p a (by-21 x y z h k f) = a .holds21 f
 
-pub one-decline : (settings : Settings) (s b : List ℕ) (m j n i : ℕ) → Declined settings s b m j → Declined settings s b n i → (m ≡ n) × (j ≡ i)
-one-decline settings s b m j n i (by-reading f) (by-reading g) = one-reason s b m j n i f g
-one-decline settings s b m j n i (by-reading f) (by-20 p q h g) = absurd (holds-or-fails s b m j h f)
-one-decline settings s b m j n i (by-reading f) (by-21 p q h k g) = absurd (holds-or-fails s b m j h f)
-one-decline settings s b m j n i (by-20 x y u f) (by-reading g) = absurd (holds-or-fails s b n i u g)
-one-decline settings s b m j n i (by-20 x y u f) (by-20 p q h g) = (x ∙ sym p, y ∙ sym q)
-one-decline settings s b m j n i (by-20 x y u f) (by-21 p q h k g) = absurd (k f)
-one-decline settings s b m j n i (by-21 x y u v f) (by-reading g) = absurd (holds-or-fails s b n i u g)
-one-decline settings s b m j n i (by-21 x y u v f) (by-20 p q h g) = absurd (v g)
-one-decline settings s b m j n i (by-21 x y u v f) (by-21 p q h k g) = (x ∙ sym p, y ∙ sym q)
+pub one-decline : (settings : Settings) (s b : List ℕ) (m j o n i p : ℕ) → Declined settings s b m j o → Declined settings s b n i p →
+    (m ≡ n) × (j ≡ i) × (o ≡ p)
+one-decline settings s b m j o n i p (by-reading f) (by-reading g) = one-reason s b m j o n i p f g
+one-decline settings s b m j o n i p (by-reading f) (by-20 q r t h g) = absurd (holds-or-fails s b m j o h f)
+one-decline settings s b m j o n i p (by-reading f) (by-21 q r t h k g) = absurd (holds-or-fails s b m j o h f)
+one-decline settings s b m j o n i p (by-20 x y z u f) (by-reading g) = absurd (holds-or-fails s b n i p u g)
+one-decline settings s b m j o n i p (by-20 x y z u f) (by-20 q r t h g) = (x ∙ sym q, y ∙ sym r, z ∙ sym t)
+one-decline settings s b m j o n i p (by-20 x y z u f) (by-21 q r t h k g) = absurd (k f)
+one-decline settings s b m j o n i p (by-21 x y z u v f) (by-reading g) = absurd (holds-or-fails s b n i p u g)
+one-decline settings s b m j o n i p (by-21 x y z u v f) (by-20 q r t h g) = absurd (v g)
+one-decline settings s b m j o n i p (by-21 x y z u v f) (by-21 q r t h k g) = (x ∙ sym q, y ∙ sym r, z ∙ sym t)
+
+-- a reason that is known to be another
+pub decline-is : (settings : Settings) (s b : List ℕ) {m j o n i p : ℕ} → (m ≡ n) × (j ≡ i) × (o ≡ p) → Declined settings s b m j o →
+    Declined settings s b n i p
+decline-is settings s b {m} {j} {o} {n} {i} {p} e f =
+    subst (λ (x : ℕ). Declined settings s b x i p) (e .0)
+    (subst (λ (x : ℕ). Declined settings s b m x p) (e .1) (subst (λ (x : ℕ). Declined settings s b m j x) (e .2) f))
 
 pub decision-refused : DecisionIsRefused
-decision-refused settings s b info n i = go (decisionOn settings s) (judged settings s b info) where
-  go : (d : Decided) → Judged settings s b info d → DecisionRefusedWith d n i ↔ Declined settings s b n i
-  go (Taken d) j = (λ t. absurd t, λ f. agreed-or-declined settings s b n i (j .0) f)
+decision-refused settings s b info n i p = go (decisionOn settings s) (judged settings s b info) where
+  go : (d : Decided) → Judged settings s b info d → DecisionRefusedWith d n i p ↔ Declined settings s b n i p
+  go (Taken d) j = (λ t. absurd t, λ f. agreed-or-declined settings s b n i p (j .0) f)
   go (Refused e) j = (
-    λ t. subst (λ (x : ℕ). Declined settings s b n x) (t .1) (subst (λ (x : ℕ). Declined settings s b x (fieldOf e)) (t .0) j),
-    λ f. one-decline settings s b (numberOf e) (fieldOf e) n i j f,
+    λ t. decline-is settings s b t j,
+    λ f. one-decline settings s b (numberOf e) (fieldOf e) (placeOf e) n i p j f,
   )
 
 pub decision-taken : DecisionIsTaken
@@ -193,5 +201,5 @@ decision-taken settings s b info d = go (decisionOn settings s) (judged settings
     made h = λ k. record { flags = record { bits = sym (h .1) k }; timestamp = one-timestamp b (timestampIn b) (d .timestamp) (timestamp-is b) (h .2) k }
   go (Refused e) j = (
     λ h. absurd (let z : _≡_ {A = ℕ} 0 1 = cc in omega arith),
-    λ h. absurd (agreed-or-declined settings s b (numberOf e) (fieldOf e) (h .0) j),
+    λ h. absurd (agreed-or-declined settings s b (numberOf e) (fieldOf e) (placeOf e) (h .0) j),
   )

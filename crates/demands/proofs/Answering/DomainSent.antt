@@ -133,7 +133,7 @@ module _ (s b : List ℕ) (info : InfoBytes s b) where
         let l = info-of s b c info e in
         subst (λ (x : List ℕ). Judged own (made c x)) (sym l)
         (subst (λ (x : Challenge). Judged own (made x b)) (sym (t .answer)) (wide (unicode (flagsAt s 20)) refl holds (t .none)))
-    go (Refused d) e fails = inr (λ h u p. holds-or-fails s b _ _ h fails, refl)
+    go (Refused d) e fails = inr (λ h u p. holds-or-fails s b _ _ _ h fails, refl)
 
   pub domain-judged : (own : List ℕ) → length own ≡ 0 → Judged own (domainPart own s)
   unfolding domainPart

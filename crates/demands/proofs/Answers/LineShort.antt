@@ -1,5 +1,5 @@
 -- A line has under 2^20 bytes.
-use Prim.Native.Nat.{ℕ, _+_, _≤_, _<_}
+use Prim.Native.Nat.{ℕ, _+_, _^_, _≤_, _<_}
 use mathlib.Core.Path.{_≡_, refl, sym, subst}
 use mathlib.Core.Bool.{Bool, true, false, cond}
 use mathlib.Core.List.{List}
@@ -13,7 +13,7 @@ use Rattle.wire.specs.declared.check.Checked.the-variants.{Held, Failed}
 use Rattle.wire.specs.declared.refusal.Refusal.{Refusal}
 use Rattle.wire.specs.declared.refusal.Refusal.the-variants.{TooLong, TooShort, WrongType, NoStrings, Unterminated, BytesLeft, WrongResponse, NoRoom}
 use Rattle.wire.specs.Check.{checked, after, onClear}
-use Rattle.wire.specs.Refusal.{numberOf, fieldOf}
+use Rattle.wire.specs.Refusal.{numberOf, fieldOf, placeOf}
 use Rattle.place.specs.Written.{roomHolds}
 use Rattle.field.specs.declared.Field.{Field}
 use Rattle.field.specs.Field.{noField}
@@ -22,12 +22,13 @@ use Rattle.authenticate.specs.declared.Authenticate.{Authenticate}
 use Rattle.authenticate.specs.declared.Reading.{Reading}
 use Rattle.authenticate.specs.declared.Reading.the-variants.{Taken, Refused}
 use Rattle.authenticate.specs.Authenticate.{readAuthenticate}
-use Rattle.av_pairs.specs.AvPairs.{pairsOf, checkPairs}
+use Rattle.av_pairs.specs.AvPairs.{pairsOf}
 use Rattle.av_pairs.proofs.Walks.{few-pairs}
 use Rattle.challenge.specs.declared.Challenge.{Challenge}
 use Rattle.challenge.specs.declared.Reading.{Reading as ChallengeReading}
 use Rattle.challenge.specs.declared.Reading.the-variants.{Taken as ChallengeTaken, Refused as ChallengeRefused}
-use Rattle.challenge.specs.Challenge.{infoOf, readChallenge}
+use Rattle.challenge.specs.Challenge.{infoOf, checkInfo, readChallenge}
+use Rattle.challenge.proofs.Laws.{info-clear}
 use Rattle.head.specs.declared.Kind.{Kind}
 use Rattle.head.specs.declared.Kind.the-variants.{Negotiate as AsNegotiate, Challenge as AsChallenge, Authenticate as AsAuthenticate}
 use Rattle.head.specs.Head.{lengthHolds, fixedPartHolds, kindOf}
@@ -47,13 +48,12 @@ use Rattle.word.specs.Words.{numberWord}
 use Rattle.word.proofs.Names.{field-small}
 use Rattle.word.proofs.Numbers.{decimal-small}
 use Rattle.line_auth.specs.Auth.{authLengths}
-use Rattle.line_refused.specs.Refused.{refusedText, refusedLine}
+use Rattle.line_refused.specs.Refused.{refusedEnd, refusedText, refusedLine}
+use Rattle.line.proofs.Places as place
 use Rattle.line.specs.Line.{negoLine, negotiateLine, authLine, authenticateLine, chalLine, challengeLine, nlLine, nlAuthLine, lineAs, ntlmLine, shownLine}
 use Rattle.target_info.specs.TargetInfo.{timestampIn}
 use Rattle.line_chal.specs.Chal.{chalWords, chalText}
-use Rattle.wire.specs.declared.check.Verdict.{Verdict}
-use Rattle.wire.specs.declared.check.Verdict.the-variants.{Clear, Refused as Not}
-use Rattle.demands.proofs.TakenExactly.Challenge.{JudgedP, pairs-judged}
+use Rattle.demands.proofs.TakenExactly.Places.{place-in-message}
 use Rattle.demands.specs.Answers.{negotiate-line, authenticate-line, challenge-line, nl-auth-line, ntlm-line, ntlm-program-line, nl-auth-program-line, LineShort}
 use Rattle.demands.specs.Message.{Format, negotiate, authenticate, challenge}
 use Rattle.demands.specs.OwnBytes.{OwnField}
@@ -87,11 +87,11 @@ number-bound : (label : List ℕ) (n : ℕ) → n < 0x10000000000000000 → leng
 unfolding numberWord
 number-bound label n l = omega (arith, length-append label (decimal n), decimal-small n (length (decimal n)) refl (omega arith))
 
-refused-short : (e : Refusal) → Small e → length (refusedLine e) < 0x100000
-unfolding refusedLine refusedText
-refused-short e small =
+refused-short : (e : Refusal) → Small e → placeOf e < 2 ^ 32 → length (refusedLine e) < 0x100000
+unfolding refusedLine refusedText refusedEnd
+refused-short e small near =
     simp length-append
-    (omega (arith, number-bound (ascii "refused ") (numberOf e) (omega (arith, number-small e)), number-bound (ascii " field=") (fieldOf e) (omega (arith, small))))
+    (omega (arith, number-bound (ascii "refused ") (numberOf e) (omega (arith, number-small e)), number-bound (ascii " field=") (fieldOf e) (omega (arith, small)), number-bound (ascii " at=") (placeOf e) (omega (arith, near))))
 
 -- ---- AUTHENTICATE
 
@@ -115,7 +115,7 @@ unfolding authenticateLine
 authenticate-short s = go (readAuthenticate s .reading) refl where
   go : (r : Reading) → readAuthenticate s .reading ≡ r → length (authLine s r) < 0x100000
   go (Taken a) p = auth-short s a p
-  go (Refused e) p = refused-short e (authenticate-small s e p)
+  go (Refused e) p = refused-short e (authenticate-small s e p) (place.auth-short s (readAuthenticate s) e refl p)
 
 -- ---- NEGOTIATE
 
@@ -132,20 +132,17 @@ unfolding negotiateLine
 negotiate-short s = go (readNegotiate s) refl where
   go : (r : NegotiateReading) → readNegotiate s ≡ r → length (negoLine s r) < 0x100000
   go (NegotiateTaken m) p = nego-short s m p
-  go (NegotiateRefused e) p = refused-short e (negotiate-small s e p)
+  go (NegotiateRefused e) p = refused-short e (negotiate-small s e p) (place.nego-short s (readNegotiate s) e refl p)
 
 -- ---- CHALLENGE
 
 chal-short : (s : List ℕ) (c : Challenge) → readChallenge s .reading ≡ ChallengeTaken c → length (chalLine s (ChallengeTaken c)) < 0x100000
-unfolding chalText
-chal-short s c h = go (checkPairs (infoOf s c)) (pairs-judged (infoOf s c)) where
+unfolding chalText readChallenge checkInfo
+chal-short s c h = rw (info-clear s (infoOf s c) c h refl) words-short where
   n : length s ≤ 65535
   n = not-long (length s) (λ l. taken-as s c h .none 1 0 (refl, l))
 
-  words : List ℕ
-  words = chalWords (unicode (c .flags)) s c (length (pairsOf (infoOf s c))) (timestampIn (infoOf s c))
-
-  words-short : length words < 0x100000
+  words-short : length (chalWords (unicode (c .flags)) s c (length (pairsOf (infoOf s c))) (timestampIn (infoOf s c))) < 0x100000
   words-short =
       let o = challenge-own s c h in
       let name = own-len challenge s 1 (c .fields .«target_name») (o .target-name) in
@@ -155,16 +152,12 @@ chal-short s c h = go (checkPairs (infoOf s c)) (pairs-judged (infoOf s c)) wher
       let word = number-bound (ascii " pairs=") (length (pairsOf (infoOf s c))) (omega (arith, n, info, bytes, pairs)) in
       omega (arith, n, name, word, chal-bound (unicode (c .flags)) s c (length (pairsOf (infoOf s c))) (timestampIn (infoOf s c)))
 
-  go : (v : Verdict) → JudgedP (infoOf s c) v → length (onClear refusedLine v words) < 0x100000
-  go Clear j = words-short
-  go (Not e) j = refused-short e (omega (arith, j .1))
-
 challenge-short : (s : List ℕ) → length (challengeLine s) < 0x100000
 unfolding challengeLine readChallenge
 challenge-short s = go (readChallenge s .reading) refl (challenge-small s) where
   go : (r : ChallengeReading) → readChallenge s .reading ≡ r → SmallC r → length (chalLine s r) < 0x100000
   go (ChallengeTaken c) p w = chal-short s c p
-  go (ChallengeRefused e) p w = refused-short e w
+  go (ChallengeRefused e) p w = refused-short e w (omega (arith, place-in-message s e p))
 
 -- ---- NL_AUTH: the strings stand one after the other
 
@@ -232,7 +225,7 @@ unfolding nlAuthLine
 nl-auth-short s = go (readNlAuth s) refl where
   go : (r : NlReading) → readNlAuth s ≡ r → length (nlLine s r) < 0x100000
   go (NlTaken m) p = nl-short s m p
-  go (NlRefused e) p = refused-short e (nl-auth-small s e p)
+  go (NlRefused e) p = refused-short e (nl-auth-small s e p) (place.nl-short s (readNlAuth s) e refl p)
 
 -- ---- all of them
 
@@ -249,7 +242,7 @@ unfolding shownLine
 shown-short line out l = go (roomHolds (length line) (length out)) where
   go : (c : Checked) → length (after c (refusedLine NoRoom) line) < 0x100000
   go Held = l
-  go Failed = refused-short NoRoom (omega arith)
+  go Failed = refused-short NoRoom (omega arith) (omega arith)
 
 pub line-short : LineShort
 line-short (negotiate-line s) = negotiate-short s

@@ -15,6 +15,8 @@ use Rattle.wire.specs.declared.refusal.Refusal.{Refusal}
 use Rattle.wire.specs.declared.refusal.Refusal.the-variants.{PairMissing, No128Bit, NoServerNames, OddNameToWrite, NoRoom, ZeroInString}
 use Rattle.wire.specs.Check.{after, onClear}
 use Rattle.wire.specs.Number.{u16At}
+use Rattle.wire.proofs.Places.{moved-number}
+use Rattle.challenge.specs.declared.Challenge.{Challenge}
 use Rattle.wire.specs.Refusal.{numberOf, fieldOf}
 use Rattle.place.specs.declared.written.Written.{Written}
 use Rattle.place.specs.declared.written.Written.the-variants.{Length, Refused as Unwritten}
@@ -36,7 +38,7 @@ use Rattle.challenge.specs.declared.Reading.{Reading as ChallengeReading}
 use Rattle.challenge.specs.declared.Reading.the-variants.{Taken as ChallengeTaken, Refused as ChallengeRefused}
 use Rattle.challenge.specs.declared.ServerNamesReading.the-variants.{Taken as NamesTaken, Refused as NamesRefused}
 use Rattle.challenge.specs.declared.TimestampReading.the-variants.{Taken as TimeTaken, Refused as TimeRefused}
-use Rattle.challenge.specs.Challenge.{fieldsOf, onTaken, infoOf, readingOf, readChallenge, timestampOf, serverNamesOf}
+use Rattle.challenge.specs.Challenge.{fieldsOf, onTaken, infoOf, inMessage, checkInfo, readingOf, readChallenge, timestampOf, serverNamesOf}
 use Rattle.negotiate.specs.declared.Reading.{Reading as NegotiateReading}
 use Rattle.negotiate.specs.declared.Reading.the-variants.{Taken as NegotiateTaken, Refused as NegotiateRefused}
 use Rattle.negotiate.specs.Negotiate.{readNegotiate}
@@ -149,13 +151,13 @@ SmallC (ChallengeTaken c) = Unit
 SmallC (ChallengeRefused e) = Small e
 
 pub challenge-small : (s : List ℕ) → SmallC (readingOf s)
-unfolding readingOf
+unfolding readingOf checkInfo
 challenge-small s = go (fieldsOf s) (fields-of-judged s) where
-  by : (c : _) (v : Verdict) → SmallV v → SmallC (onClear ChallengeRefused v (ChallengeTaken c))
+  by : (c : Challenge) (v : Verdict) → SmallV v → SmallC (onClear ChallengeRefused (inMessage (c .fields .«target_info») v) (ChallengeTaken c))
   by c Clear w = tt
-  by c (Not e) w = w
+  by c (Not e) w = rw (moved-number (c .fields .«target_info» .offset) e .1) w
 
-  go : (r : ChallengeReading) → JudgedF s r → SmallC (onTaken ChallengeRefused r (λ c. onClear ChallengeRefused (checkPairs (infoOf s c)) (ChallengeTaken c)))
+  go : (r : ChallengeReading) → JudgedF s r → SmallC (onTaken ChallengeRefused r (λ c. onClear ChallengeRefused (checkInfo s c) (ChallengeTaken c)))
   go (ChallengeTaken c) j = by c (checkPairs (infoOf s c)) (pairs-small (infoOf s c))
   go (ChallengeRefused e) j = omega (arith, fails-field challenge s (numberOf e) (fieldOf e) (j .fails))
 
@@ -173,7 +175,7 @@ pub step-small : (s : List ℕ) (at : ℕ) → SmallS (stepAt s at)
 unfolding stepAt
 step-small s at =
     small-cond SmallS (eqb (length s) 0) End _ tt
-    (small-after SmallS (pairThere (left s at)) (Faulty PairMissing) _ (omega arith) (small-pair (idAt s at) (u16At s (at + 2)) at (left s at)))
+    (small-after SmallS (pairThere (left s at)) (Faulty (PairMissing at)) _ (omega arith) (small-pair (idAt s at) (u16At s (at + 2)) at (left s at)))
 
 -- ---- the decision
 

@@ -18,10 +18,10 @@ number-small (PastEnd f) = omega arith
 number-small (InFixedPart f) = omega arith
 number-small (OddName f) = omega arith
 number-small (NameOverSecret f) = omega arith
-number-small PairPastEnd = omega arith
-number-small PairMissing = omega arith
-number-small WrongEndPair = omega arith
-number-small WrongPairSize = omega arith
+number-small (PairPastEnd at) = omega arith
+number-small (PairMissing at) = omega arith
+number-small (WrongEndPair at) = omega arith
+number-small (WrongPairSize at) = omega arith
 number-small NoStrings = omega arith
 number-small (Unterminated f) = omega arith
 number-small BytesLeft = omega arith
@@ -44,6 +44,8 @@ tells-refusal e small =
       top-bit = omega (arith, number-small e);
       number = omega (arith, number-small e);
       field = omega (arith, number-small e);
+      place = λ h. omega (arith, number-small e);
+      far-place = λ h. omega (arith, number-small e);
     }
 
 pub tells-length : (n : ℕ) → n < 0x8000000000000000 → TellsLength n n

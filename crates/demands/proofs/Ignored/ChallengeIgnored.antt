@@ -21,7 +21,7 @@ use Rattle.challenge.specs.declared.Reading.{Reading}
 use Rattle.challenge.specs.declared.Reading.the-variants.{Taken, Refused}
 use Rattle.challenge.specs.declared.ServerNamesReading.the-variants.{Taken as NamesTaken, Refused as NamesRefused}
 use Rattle.challenge.specs.declared.TimestampReading.the-variants.{Taken as TimeTaken, Refused as TimeRefused}
-use Rattle.challenge.specs.Challenge.{layout, fieldsAt, checkFields, fieldsOf, onTaken, infoOf, readingOf, serverChallenge, readChallenge, timestampOf, serverNamesOf}
+use Rattle.challenge.specs.Challenge.{layout, fieldsAt, checkFields, fieldsOf, onTaken, infoOf, inMessage, checkInfo, readingOf, serverChallenge, readChallenge, timestampOf, serverNamesOf}
 use Rattle.target_info.specs.TargetInfo.{timestampIn, serverNamesIn}
 use Rattle.demands.specs.Message.{challenge, Fails, Ignored, DifferInIgnored}
 use Rattle.demands.specs.Ignored.{SameBytes, ChallengeIgnored}
@@ -95,11 +95,11 @@ module _ (a b : List ℕ) (d : DifferInIgnored challenge a b) where
       (y .0 (none 6 1) (none 7 1), y .1 (none 6 2) (none 7 2))
 
   reading-same : readingOf a ≡ readingOf b
-  unfolding readingOf
+  unfolding readingOf checkInfo
   reading-same = rw (← head-same) (go (fieldsOf a) (fields-of-judged a)) where
     go : (r : Reading) → JudgedF a r →
-        onTaken Refused r (λ c. onClear Refused (checkPairs (infoOf a c)) (Taken c)) ≡ onTaken Refused r (λ c. onClear Refused (checkPairs (infoOf b c)) (Taken c))
-    go (Taken c) j = rw (j .1) (ap (λ (l : List ℕ). onClear Refused (checkPairs l) (Taken (record { flags = flagsAt a 20; fields = fieldsAt a (flagsAt a 20) }))) (bytes-same (j .0) .1))
+        onTaken Refused r (λ c. onClear Refused (checkInfo a c) (Taken c)) ≡ onTaken Refused r (λ c. onClear Refused (checkInfo b c) (Taken c))
+    go (Taken c) j = rw (j .1) (ap (λ (l : List ℕ). onClear Refused (inMessage (fieldsAt a (flagsAt a 20) .«target_info») (checkPairs l)) (Taken (record { flags = flagsAt a 20; fields = fieldsAt a (flagsAt a 20) }))) (bytes-same (j .0) .1))
     go (Refused e) j = refl
 
   -- what is made of a taken message and its TargetInfo

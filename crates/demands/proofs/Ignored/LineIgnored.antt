@@ -11,7 +11,7 @@ use Rattle.authenticate.specs.Authenticate.{readAuthenticate}
 use Rattle.challenge.specs.declared.Answer.{Answer as ChallengeAnswer}
 use Rattle.challenge.specs.declared.Reading.{Reading as ChallengeReading}
 use Rattle.challenge.specs.declared.Reading.the-variants.{Taken as ChallengeTaken, Refused as ChallengeRefused}
-use Rattle.challenge.specs.Challenge.{readChallenge}
+use Rattle.challenge.specs.Challenge.{checkInfo, readChallenge}
 use Rattle.head.specs.declared.Kind.{Kind as ReadAs}
 use Rattle.head.specs.declared.Kind.the-variants.{Negotiate, Challenge, Authenticate}
 use Rattle.head.specs.Head.{kindOf}
@@ -61,7 +61,7 @@ nl-auth-line-ignored s t d =
     nl-line-same s t (readNlAuth s) w refl ∙ ap (λ (r : NlReading). nlLine t r) (w .answer)
 
 challenge-line-same : (s t : List ℕ) (r : ChallengeReading) → SameChallenge s t → readChallenge s .reading ≡ r → chalLine s r ≡ chalLine t r
-unfolding chalText chalWords
+unfolding chalText checkInfo chalWords
 challenge-line-same s t (ChallengeTaken c) w e = simp (w .target-name c e, w .target-info c e)
 challenge-line-same s t (ChallengeRefused x) w e = refl
 

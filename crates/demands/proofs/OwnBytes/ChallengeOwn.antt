@@ -26,7 +26,7 @@ use Rattle.challenge.specs.declared.ServerNamesReading.the-variants.{Taken as N
 use Rattle.target_info.specs.declared.Timestamp.{Timestamp}
 use Rattle.target_info.specs.declared.Timestamp.the-variants.{Time, Nothing as NoTime}
 use Rattle.challenge.specs.declared.TimestampReading.the-variants.{Taken as TimeTaken, Refused as TimeRefused}
-use Rattle.challenge.specs.Challenge.{fieldsAt, fieldsOf, onTaken, infoOf, readingOf, serverChallenge, readChallenge, timestampOf, serverNamesOf}
+use Rattle.challenge.specs.Challenge.{fieldsAt, fieldsOf, onTaken, infoOf, checkInfo, readingOf, serverChallenge, readChallenge, timestampOf, serverNamesOf}
 use Rattle.target_info.specs.TargetInfo.{firstBy, timeOf, timestampIn, serverNamesIn}
 use Rattle.demands.specs.Message.{challenge, Fails}
 use Rattle.demands.specs.PairList.{FirstWith, PairThere}
@@ -49,8 +49,8 @@ taken-as s c h = go (fieldsOf s) (fields-of-judged s) h where
   same d Clear p = cc
   same d (Not e) p = cc
 
-  go : (r : Reading) → JudgedF s r → onTaken Refused r (λ d. onClear Refused (checkPairs (infoOf s d)) (Taken d)) ≡ Taken c → TakenAs s c
-  go (Taken d) j p = record { none = j .0; answer = same d (checkPairs (infoOf s d)) p ∙ j .1 }
+  go : (r : Reading) → JudgedF s r → onTaken Refused r (λ d. onClear Refused (checkInfo s d) (Taken d)) ≡ Taken c → TakenAs s c
+  go (Taken d) j p = record { none = j .0; answer = same d (checkInfo s d) p ∙ j .1 }
   go (Refused e) j p = absurd (let z : _≡_ {A = ℕ} 0 1 = cc in omega arith)
 
 pub challenge-own : ChallengeOwn

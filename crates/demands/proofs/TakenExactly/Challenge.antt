@@ -1,6 +1,6 @@
 -- CHALLENGE is taken exactly when every check holds, and refused by the first that fails.
-use Prim.Native.Nat.{ℕ}
-use mathlib.Core.Path.{_≡_, refl, sym, _∙_, subst}
+use Prim.Native.Nat.{ℕ, _+_, _<_}
+use mathlib.Core.Path.{_≡_, refl, sym, ap, _∙_, subst}
 use mathlib.Core.Logic.{_↔_}
 use mathlib.Core.Bool.{Bool, true, false}
 use mathlib.Core.List.{List, []}
@@ -18,13 +18,15 @@ use Rattle.wire.specs.Check.{onClear}
 use Rattle.field.specs.Field.{isEmpty, fieldAt, evenName, fieldBytes}
 use Rattle.negotiate_flags.specs.Flags.{unicode, requestTarget, targetInfo}
 use Rattle.head.specs.Head.{flagsAt, readHead, onFlags}
-use Rattle.wire.specs.Refusal.{numberOf, fieldOf}
+use Rattle.wire.specs.Refusal.{numberOf, fieldOf, placeOf}
+use Rattle.wire.proofs.Places.{moved-number, moved-at}
+use Rattle.line.proofs.Places.{PlacelessC, fields-placeless}
 use Rattle.av_pairs.specs.declared.Count.the-variants.{Pairs, Refused as Uncounted}
 use Rattle.av_pairs.specs.AvPairs.{checkPairs, countPairs, pairsOf}
 use Rattle.challenge.specs.declared.Challenge.{Challenge}
 use Rattle.challenge.specs.declared.Reading.{Reading}
 use Rattle.challenge.specs.declared.Reading.the-variants.{Taken, Refused}
-use Rattle.challenge.specs.Challenge.{layout, fieldsAt, allFields, names, checkEnds, checkBegins, checkNames, checkFields, fieldsOf, onTaken, infoOf, readingOf, readChallenge}
+use Rattle.challenge.specs.Challenge.{layout, fieldsAt, allFields, names, checkEnds, checkBegins, checkNames, checkFields, fieldsOf, onTaken, infoOf, inMessage, checkInfo, readingOf, readChallenge}
 use Rattle.demands.specs.Order.{First}
 use Rattle.demands.specs.Message.{challenge, Fails, lenOf, offsetOf}
 use Rattle.demands.specs.PairList.{Holds, ListFails}
@@ -35,7 +37,7 @@ use Rattle.demands.proofs.Message.Fields.{AllStand, Link, ends-judged, 
 use Rattle.demands.proofs.Message as fields
 use Rattle.demands.proofs.Message.Chain.{JudgedV, JudgedH, over-judged, head-judged, then, beyond}
 use Rattle.demands.proofs.OwnBytes.{own-field}
-use Rattle.demands.proofs.PairList.{JudgedC, count-judged, holds-or-fault, one-first}
+use Rattle.demands.proofs.PairList.{JudgedC, count-judged, holds-or-fault, one-first, first-number}
 
 module _ (s : List ℕ) where
   -- each field of the reader is its head's
@@ -118,7 +120,7 @@ info-there s = go (two s (Stands challenge s) (λ i f w. w) .1) where
 -- checks 10 to 13 over a list
 abbrev pub JudgedP : List ℕ → Verdict → Type 0
 JudgedP b Clear = (n : ℕ) × Holds b n
-JudgedP b (Not e) = ListFails b (numberOf e) (fieldOf e)
+JudgedP b (Not e) = ListFails b (numberOf e) (fieldOf e) (placeOf e)
 
 pub pairs-judged : (b : List ℕ) → JudgedP b (checkPairs b)
 unfolding countPairs
@@ -130,42 +132,63 @@ pairs-judged b = go (checkPairs b) (count-judged b) where
 module _ (s b : List ℕ) (info : InfoBytes s b) where
   abbrev pub Judged : Reading → Type 0
   Judged (Taken c) = ChallengeHolds s b
-  Judged (Refused e) = ChallengeFails s b (numberOf e) (fieldOf e)
+  Judged (Refused e) = ChallengeFails s b (numberOf e) (fieldOf e) (placeOf e)
+
+  abbrev field : Field
+  field = fieldsAt s (flagsAt s 20) .«target_info»
+
+  -- a list that isn't empty begins at the offset of its head
+  offset-is : 0 < length b → field .offset ≡ offsetOf challenge s 2
+  offset-is l = go (isEmpty field) refl (two s (Stands challenge s) (λ i f w. w) .1) where
+    go : (e : Bool) → isEmpty field ≡ e → Stands challenge s 2 field → field .offset ≡ offsetOf challenge s 2
+    go true p w = absurd (let z = ap length (info .absent (w .empty p)) in omega (arith, z))
+    go false p w = w .offset p
 
   pub judged : Judged (readChallenge s .reading)
-  unfolding readChallenge readingOf
-  judged = go (fieldsOf s) (fields-of-judged s) where
-    last : (c : Challenge) (v : Verdict) → ((n i : ℕ) → Fails challenge s n i → ⊥) → JudgedP b v → Judged (onClear Refused v (Taken c))
+  unfolding readChallenge readingOf checkInfo
+  judged = go (fieldsOf s) (fields-of-judged s) (fields-placeless s) where
+    last : (c : Challenge) (v : Verdict) → ((n i : ℕ) → Fails challenge s n i → ⊥) → JudgedP b v → Judged (onClear Refused (inMessage field v) (Taken c))
     last c Clear none j = record { fields = none; count = j .0; list = j .1 }
-    last c (Not e) none j = in-list none j
+    last c (Not e) none j =
+        let same = moved-number (field .offset) e in
+        let moved = moved-at (field .offset) e (first-number b (j .2)) in
+        rw (same .0, same .1) (in-list none j (moved ∙ ap (λ (x : ℕ). x + placeOf e) (offset-is (j .0))))
 
-    go : (r : Reading) → JudgedF s r → Judged (onTaken Refused r (λ c. onClear Refused (checkPairs (infoOf s c)) (Taken c)))
-    go (Taken c) j =
+    go : (r : Reading) → JudgedF s r → PlacelessC r →
+        Judged (onTaken Refused r (λ c. onClear Refused (inMessage (c .fields .«target_info») (checkPairs (infoOf s c))) (Taken c)))
+    go (Taken c) j z =
         rw (j .1, info-is s b info (j .0)) (last (record { flags = flagsAt s 20; fields = fieldsAt s (flagsAt s 20) }) (checkPairs b) (j .0) (pairs-judged b))
-    go (Refused e) j = in-fields j
+    go (Refused e) j z = in-fields z j
 
 -- not both; and there is one reason only
-pub holds-or-fails : (s b : List ℕ) (n i : ℕ) → ChallengeHolds s b → ChallengeFails s b n i → ⊥
-holds-or-fails s b n i h (in-fields f) = h .fields n i (f .fails)
-holds-or-fails s b n i h (in-list none f) = holds-or-fault b (h .count) n (h .list) (f .0) (f .2)
+pub holds-or-fails : (s b : List ℕ) (n i p : ℕ) → ChallengeHolds s b → ChallengeFails s b n i p → ⊥
+holds-or-fails s b n i p h (in-fields z f) = h .fields n i (f .fails)
+holds-or-fails s b n i p h (in-list {q = q} none f z) = holds-or-fault b (h .count) n q (h .list) (f .0) (f .2)
 
-pub one-reason : (s b : List ℕ) (m j n i : ℕ) → ChallengeFails s b m j → ChallengeFails s b n i → (m ≡ n) × (j ≡ i)
-one-reason s b m j n i (in-fields f) (in-fields g) = only-first (Fails challenge s) m j n i f g
-one-reason s b m j n i (in-fields f) (in-list none g) = absurd (none m j (f .fails))
-one-reason s b m j n i (in-list none f) (in-fields g) = absurd (none n i (g .fails))
-one-reason s b m j n i (in-list x f) (in-list y g) = (one-first b (f .2) (g .2), f .1 ∙ sym (g .1))
+pub one-reason : (s b : List ℕ) (m j o n i p : ℕ) → ChallengeFails s b m j o → ChallengeFails s b n i p → (m ≡ n) × (j ≡ i) × (o ≡ p)
+one-reason s b m j o n i p (in-fields x f) (in-fields y g) = let one = only-first (Fails challenge s) m j n i f g in (one .0, one .1, x ∙ sym y)
+one-reason s b m j o n i p (in-fields x f) (in-list none g y) = absurd (none m j (f .fails))
+one-reason s b m j o n i p (in-list none f x) (in-fields y g) = absurd (none n i (g .fails))
+one-reason s b m j o n i p (in-list u f x) (in-list v g y) =
+    let one = one-first b (f .2) (g .2) in
+    (one .0, f .1 ∙ sym (g .1), x ∙ ap (λ (z : ℕ). offsetOf challenge s 2 + z) (one .1) ∙ sym y)
+
+-- a reason that is known to be another
+pub reason-is : (s b : List ℕ) {m j o n i p : ℕ} → (m ≡ n) × (j ≡ i) × (o ≡ p) → ChallengeFails s b m j o → ChallengeFails s b n i p
+reason-is s b {m} {j} {o} {n} {i} {p} e f =
+    subst (λ (x : ℕ). ChallengeFails s b x i p) (e .0) (subst (λ (x : ℕ). ChallengeFails s b m x p) (e .1) (subst (λ (x : ℕ). ChallengeFails s b m j x) (e .2) f))
 
 pub challenge-taken : ChallengeIsTaken
 challenge-taken s b info = go (readChallenge s .reading) (judged s b info) where
   go : (r : Reading) → Judged s b info r → IsTakenChallenge r ↔ ChallengeHolds s b
   go (Taken c) j = (λ t. j, λ h. tt)
-  go (Refused e) j = (λ t. absurd t, λ h. holds-or-fails s b (numberOf e) (fieldOf e) h j)
+  go (Refused e) j = (λ t. absurd t, λ h. holds-or-fails s b (numberOf e) (fieldOf e) (placeOf e) h j)
 
 pub challenge-refused : ChallengeIsRefused
-challenge-refused s b info n i = go (readChallenge s .reading) (judged s b info) where
-  go : (r : Reading) → Judged s b info r → ChallengeRefusedWith r n i ↔ ChallengeFails s b n i
-  go (Taken c) j = (λ t. absurd t, λ w. holds-or-fails s b n i j w)
+challenge-refused s b info n i p = go (readChallenge s .reading) (judged s b info) where
+  go : (r : Reading) → Judged s b info r → ChallengeRefusedWith r n i p ↔ ChallengeFails s b n i p
+  go (Taken c) j = (λ t. absurd t, λ w. holds-or-fails s b n i p j w)
   go (Refused e) j = (
-    λ t. subst (λ (x : ℕ). ChallengeFails s b n x) (t .1) (subst (λ (x : ℕ). ChallengeFails s b x (fieldOf e)) (t .0) j),
-    λ w. one-reason s b (numberOf e) (fieldOf e) n i j w,
+    λ t. reason-is s b t j,
+    λ w. one-reason s b (numberOf e) (fieldOf e) (placeOf e) n i p j w,
   )

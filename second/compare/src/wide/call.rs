@@ -374,9 +374,29 @@ impl fmt::Display for Call<'_> {
     }
 }
 
-/// The answer of a refusal: the highest bit, the number and the field.
+/// The farthest place that an answer has room for, in bits 16 to 62. What lies
+/// farther is shown as this one.
+pub const FARTHEST: u64 = (1 << 47) - 1;
+
+/// The answer of a refusal with place 0: the highest bit, the number in bits 8 to
+/// 15 and the field in bits 0 to 7.
 pub const fn refused(number: u8, field: u8) -> u64 {
-    1 << 63 | (number as u64) << 8 | field as u64
+    refused_at(number, field, 0)
+}
+
+/// The answer of a refusal with its place.
+pub const fn refused_at(number: u8, field: u8, place: usize) -> u64 {
+    let place = if (place as u64) < FARTHEST {
+        place as u64
+    } else {
+        FARTHEST
+    };
+    1 << 63 | place << 16 | (number as u64) << 8 | field as u64
+}
+
+/// The place of a refusal.
+pub const fn place(answer: u64) -> u64 {
+    answer >> 16 & FARTHEST
 }
 
 /// The number and the field of a refusal.

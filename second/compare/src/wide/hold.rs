@@ -1,7 +1,7 @@
 //! Makes a call of the library and of the second reader on equal memory, and
 //! holds the answers and the whole memory against each other.
 
-use super::call::{refusal, Call};
+use super::call::{place, refusal, Call};
 use super::second::second;
 use super::tally::Tally;
 use crate::hex::Hex;
@@ -224,10 +224,7 @@ fn shown(call: &Call<'_>, answer: u64, memory: &Memory, lent: Lent) -> String {
     let (before, rest) = memory.guarded(lent).split_at(GUARD);
     let (out, after) = rest.split_at(lent.room);
     let answer = match refusal(answer) {
-        Some((number, field)) if answer == super::call::refused(number, field) => {
-            format!("refused {number} field={field}")
-        }
-        Some(_) => format!("a refusal {answer:016X}"),
+        Some((number, field)) => format!("refused {number} field={field} at={}", place(answer)),
         None => format!("{answer}"),
     };
     let numbers = &memory.numbers[..call.numbers() + 1];

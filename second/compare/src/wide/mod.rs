@@ -235,9 +235,9 @@ impl<L: Library> Run<L> {
         for line in Line::ALL {
             self.hold_rooms(&Call::Line { line, message });
         }
-        // Around the line of 33, which has 19 bytes.
+        // Around the line of 33, which has 24 bytes.
         for line in [Line::NtlmProgram, Line::NlAuthProgram] {
-            let room = self.random.between(17, 21);
+            let room = self.random.between(22, 26);
             let lent = Lent { room, numbers: 0 };
             self.holder.hold(&Call::Line { line, message }, lent);
         }

@@ -9,13 +9,13 @@ use reader::{
     ResponsePairs, Settings, TargetInfo,
 };
 
-use super::call::{refused, Call, Line, Parts, Respond};
+use super::call::{refused_at, Call, Line, Parts, Respond};
 
 /// Makes a call: `out` and `numbers` are what is lent for its outputs.
 pub fn second(call: &Call<'_>, out: &mut [u8], numbers: &mut [u64]) -> u64 {
     match call_of(call, out, numbers) {
         Ok(answer) => answer as u64,
-        Err(refusal) => refused(refusal.number(), refusal.field),
+        Err(refusal) => refused_at(refusal.number(), refusal.field, refusal.place),
     }
 }
 

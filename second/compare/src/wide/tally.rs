@@ -2,7 +2,7 @@
 
 use std::fmt;
 
-use super::call::{refusal, Call, NAMES};
+use super::call::{place, refusal, Call, FARTHEST, NAMES};
 use crate::tally::{each_refusal, Columns, Refusals, REFUSALS};
 
 /// Each refusal that only answering and writing can give, with every field that
@@ -51,7 +51,21 @@ const OF_CALLS: [(&[u8], &[u8], &[&str]); 18] = [
     (
         &[10, 11, 12, 13],
         &[2],
-        &["read_challenge", "write_response_pairs"],
+        &[
+            "read_challenge",
+            "read_timestamp",
+            "read_server_names",
+            "check_pairs",
+            "count_pairs",
+            "find_pair",
+            "next_pair",
+            "write_response_pairs",
+            "decide",
+            "respond",
+            "respond_for_bench",
+            "respond_to_old_server",
+            "respond_for_relay",
+        ],
     ),
     (&[14, 16, 17], &[0], &["read_nl_auth"]),
     (&[15], &[1, 2, 3, 4, 5], &["read_nl_auth"]),
@@ -68,6 +82,43 @@ const OF_CALLS: [(&[u8], &[u8], &[&str]); 18] = [
     (&[31], &[2], &["write_response_pairs"]),
     (&[30], &[0], &["write_response_pairs"]),
     (&[6, 33], &[0], &["field_bytes"]),
+];
+
+/// What a kind of place is called, and whether a place is of it.
+type PlaceKind = (&'static str, fn(u64) -> bool);
+
+/// Each kind of place that a refused pair can stand at.
+const PLACES: [PlaceKind; 6] = [
+    ("at 0", |place| place == 0),
+    ("at an odd place", |place| place % 2 == 1),
+    ("at an even place", |place| place > 0 && place % 2 == 0),
+    ("past 255", |place| place > 255),
+    ("past 65,535", |place| place > 65_535),
+    ("too far to be shown", |place| place == FARTHEST),
+];
+
+/// Kinds of place and the calls that must have refused a pair there: 0 and far
+/// places are those of a list alone, the farthest that of a walk asked there.
+const OF_PLACES: [(&[usize], &[&str]); 3] = [
+    (
+        &[0, 1, 2, 3, 4],
+        &["check_pairs", "count_pairs", "find_pair", "next_pair"],
+    ),
+    (&[5], &["next_pair"]),
+    (
+        &[1, 2, 3],
+        &[
+            "read_challenge",
+            "read_timestamp",
+            "read_server_names",
+            "write_response_pairs",
+            "decide",
+            "respond",
+            "respond_for_bench",
+            "respond_to_old_server",
+            "respond_for_relay",
+        ],
+    ),
 ];
 
 /// The calls that are given two inputs which only secrets tell apart.
@@ -105,6 +156,8 @@ struct Row {
     answered: u64,
     /// By number and field.
     refused: [[u64; FIELDS]; NUMBERS],
+    /// Refused pairs by [`PLACES`].
+    places: [u64; PLACES.len()],
     /// Calls of the library on two inputs that only secrets tell apart.
     alike: u64,
 }
@@ -120,6 +173,7 @@ impl Default for Tally {
         let row = Row {
             answered: 0,
             refused: [[0; FIELDS]; NUMBERS],
+            places: [0; PLACES.len()],
             alike: 0,
         };
         Self {
@@ -133,7 +187,12 @@ impl Tally {
         let row = &mut self.rows[call.index()];
         match refusal(answer) {
             None => row.answered += 1,
-            Some((number, field)) => row.refused[usize::from(number)][usize::from(field)] += 1,
+            Some((number, field)) => {
+                row.refused[usize::from(number)][usize::from(field)] += 1;
+                if matches!(number, 10..=13) {
+                    row.add_place(place(answer));
+                }
+            }
         }
     }
 
@@ -173,6 +232,11 @@ impl Tally {
                     missing.push(format!("{name} refused {number} field={field}"));
                 }
             }
+            for kind in own_places(name) {
+                if row.places[kind] == 0 {
+                    missing.push(format!("{name} refused a pair {}", PLACES[kind].0));
+                }
+            }
         }
         for (number, field) in each_refusal(&refusals()) {
             if self.refused(number, field) == 0 {
@@ -196,7 +260,21 @@ fn own_refusals(name: &str) -> Vec<(u8, u8)> {
     pairs.collect()
 }
 
+/// The kinds of place that a call can refuse a pair at.
+fn own_places(name: &str) -> impl Iterator<Item = usize> + '_ {
+    let rows = OF_PLACES
+        .iter()
+        .filter(move |(_, calls)| calls.contains(&name));
+    rows.flat_map(|(kinds, _)| kinds.iter().copied())
+}
+
 impl Row {
+    fn add_place(&mut self, place: u64) {
+        for (count, (_, is_there)) in self.places.iter_mut().zip(PLACES) {
+            *count += u64::from(is_there(place));
+        }
+    }
+
     const fn at(&self, number: u8, field: u8) -> u64 {
         self.refused[number as usize][field as usize]
     }
@@ -235,13 +313,14 @@ impl fmt::Display for Tally {
 
 #[cfg(test)]
 mod tests {
-    use super::super::call::refused;
-    use super::{Call, Tally, NAMES, OF_CALLS, WITH_SECRETS};
+    use super::super::call::{refused, refused_at};
+    use super::{Call, Tally, NAMES, OF_CALLS, OF_PLACES, WITH_SECRETS};
 
     #[test]
     fn the_tables_name_calls_that_are_there() {
         let calls = OF_CALLS.iter().flat_map(|(_, _, calls)| calls.iter());
-        for name in calls.chain(&WITH_SECRETS) {
+        let places = OF_PLACES.iter().flat_map(|(_, calls)| calls.iter());
+        for name in calls.chain(places).chain(&WITH_SECRETS) {
             assert!(NAMES.contains(name), "{name}");
         }
     }
@@ -257,5 +336,27 @@ mod tests {
         assert!(!is_missing("read_challenge refused 6 field=1"));
         assert!(is_missing("read_negotiate refused 6 field=1"));
         assert!(is_missing("read_challenge refused 6 field=2"));
+    }
+
+    #[test]
+    fn a_place_is_reached_for_the_call_that_gave_it() {
+        let mut tally = Tally::default();
+        let list = &[];
+        tally.add(&Call::CheckPairs { list }, refused_at(12, 2, 257));
+        tally.add(&Call::CountPairs { list }, refused(11, 2));
+        tally.add(
+            &Call::NextPair { list, at: 0 },
+            refused_at(11, 2, usize::MAX),
+        );
+        let missing = tally.not_reached();
+        let is_missing = |what: &str| missing.iter().any(|missed| missed == what);
+        assert!(!is_missing("check_pairs refused a pair past 255"));
+        assert!(!is_missing("check_pairs refused a pair at an odd place"));
+        assert!(is_missing("check_pairs refused a pair at 0"));
+        assert!(is_missing("check_pairs refused a pair past 65,535"));
+        assert!(!is_missing("count_pairs refused a pair at 0"));
+        assert!(!is_missing("next_pair refused a pair too far to be shown"));
+        assert!(is_missing("decide refused a pair past 255"));
+        assert!(!is_missing("read_challenge refused a pair at 0"));
     }
 }

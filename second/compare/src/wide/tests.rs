@@ -4,7 +4,7 @@ use std::io::sink;
 
 use reader::NegotiateParts;
 
-use super::call::{refusal, refused, Call, Line, Respond, NAMES};
+use super::call::{place, refusal, refused, refused_at, Call, Line, Respond, FARTHEST, NAMES};
 use super::hold::{Difference, Library};
 use super::{run_on, second, Report};
 
@@ -61,9 +61,9 @@ fn a_difference_is_printed_whole_and_counted() {
     assert!(out.starts_with("1 cases from seed 5, "));
     let told =
         "\nDIFFERENT: read_nl_auth message=02000000000000005C\n    lent: 0 bytes, 12 numbers\n    \
-                proved: refused 16 field=0, numbers [";
+                proved: refused 16 field=0 at=0, numbers [";
     assert!(out.contains(told), "{out}");
-    assert!(out.contains("\n    second: refused 4 field=0, numbers ["));
+    assert!(out.contains("\n    second: refused 4 field=0 at=0, numbers ["));
     let missed = out.matches("NOT REACHED: ").count();
     assert_eq!(failed, missed + 1);
     assert!(out.ends_with(&format!("\n0 passed, {failed} failed\n")));
@@ -156,6 +156,86 @@ fn another_field_of_a_refusal_is_found() {
         "read_authenticate",
         planted(|call, answer, _, _| match (call, refusal(answer)) {
             (Call::ReadAuthenticate { .. }, Some((6, 4))) => refused(6, 3),
+            _ => answer,
+        }),
+    );
+}
+
+/// A faulty library whose refusals of pairs have another place, in the calls of
+/// this name: `wrong` is told the call, the number and the place.
+fn misplaced(name: &'static str, wrong: impl Fn(&Call<'_>, u8, u64) -> u64) {
+    found(
+        "DIFFERENT",
+        name,
+        planted(|call, answer, _, _| match refusal(answer) {
+            Some((number @ 10..=13, field)) if call.name() == name => {
+                let place = wrong(call, number, place(answer));
+                refused_at(number, field, place as usize)
+            }
+            _ => answer,
+        }),
+    );
+}
+
+/// Where the list of a challenge that was refused begins.
+fn list_start(challenge: &[u8]) -> u64 {
+    u64::from(u32::from_le_bytes(
+        *challenge[44..].first_chunk().expect("a head"),
+    ))
+}
+
+#[test]
+fn another_place_of_a_pair_is_found() {
+    for name in ["check_pairs", "count_pairs", "find_pair", "next_pair"] {
+        // None, that of the value, and the first byte after an end pair.
+        misplaced(name, |_, _, _| 0);
+        misplaced(name, |_, number, place| match number {
+            10 | 13 => place + 4,
+            _ => place,
+        });
+        misplaced(name, |_, number, place| match number {
+            12 => place + 4,
+            _ => place,
+        });
+    }
+    // Places that don't fit go round, or are none.
+    for shown in [|at: usize| at as u64 & FARTHEST, |_: usize| 0] {
+        misplaced("next_pair", move |call, _, place| match *call {
+            Call::NextPair { at, .. } if place == FARTHEST => shown(at),
+            _ => place,
+        });
+    }
+}
+
+#[test]
+fn another_start_of_a_list_in_its_message_is_found() {
+    let of = |call: &Call<'_>| match *call {
+        Call::ReadChallenge { message } | Call::ReadTimestamp { message } => list_start(message),
+        Call::Decide { challenge, .. }
+        | Call::Respond { challenge, .. }
+        | Call::WriteResponsePairs { challenge, .. } => list_start(challenge),
+        _ => 0,
+    };
+    for name in [
+        "read_challenge",
+        "read_timestamp",
+        "decide",
+        "respond",
+        "write_response_pairs",
+    ] {
+        // The list's place, and the start counted twice.
+        misplaced(name, move |call, _, place| place - of(call));
+        misplaced(name, move |call, _, place| place + of(call));
+    }
+}
+
+#[test]
+fn a_place_of_another_refusal_is_found() {
+    found(
+        "DIFFERENT",
+        "read_authenticate",
+        planted(|call, answer, _, _| match (call, refusal(answer)) {
+            (Call::ReadAuthenticate { .. }, Some((9, field))) => refused_at(9, field, 88),
             _ => answer,
         }),
     );

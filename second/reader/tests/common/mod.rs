@@ -147,10 +147,17 @@ pub fn nl(message_type: u32, flags: u32, buffer: &[u8]) -> Vec<u8> {
     message
 }
 
-/// A refusal as number and field.
+/// A refusal as number and field. Only one of a pair has a place.
 pub fn refused<T: std::fmt::Debug>(answer: Result<T, Refusal>) -> (u8, u8) {
+    let (number, field, place) = refused_at(answer);
+    assert!(place == 0 || matches!(number, 10..=13), "{number}: {place}");
+    (number, field)
+}
+
+/// A refusal as number, field and place.
+pub fn refused_at<T: std::fmt::Debug>(answer: Result<T, Refusal>) -> (u8, u8, usize) {
     let refusal = answer.expect_err("a refusal");
-    (refusal.number(), refusal.field)
+    (refusal.number(), refusal.field, refusal.place)
 }
 
 /// A line call.

@@ -3,7 +3,7 @@
 
 use reader::{Challenge, TargetInfo};
 
-use super::super::call::{refused, Call};
+use super::super::call::{refused, refused_at, Call};
 use super::super::hold::{Holder, Library};
 use super::super::tally::Tally;
 use super::super::{second, Run};
@@ -258,7 +258,8 @@ impl Given<'_> {
             return Err(odd);
         }
         let read = Challenge::read(message);
-        let challenge = read.map_err(|refusal| refused(refusal.number(), refusal.field))?;
+        let challenge =
+            read.map_err(|refusal| refused_at(refusal.number(), refusal.field, refusal.place))?;
         let came = challenge.target_info.bytes;
         let list = self.list(&challenge, message);
         let long = self.is_long(&list, came);
