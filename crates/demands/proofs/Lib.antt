@@ -25,3 +25,4 @@ pub mod FieldCopied
 pub mod Answers
 pub mod Printed
 pub mod ResponsePairs
+pub mod Explained

@@ -24,3 +24,4 @@ pub mod FromC
 pub mod Answers
 pub mod Printed
 pub mod ResponsePairs
+pub mod Explained
