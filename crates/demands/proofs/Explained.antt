@@ -4,6 +4,7 @@ pub mod Pairs
 pub mod Reasons
 pub mod Same
 pub mod Short
+pub mod Example
 use Prim.Native.Nat.{ℕ, _+_, _≤_, _<_, min}
 use mathlib.Core.Path.{_≡_, refl, sym, ap, _∙_, subst}
 use mathlib.Core.Logic.{_⊎_, inl, inr, ⊎-elim}

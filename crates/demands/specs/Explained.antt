@@ -2,12 +2,14 @@
 -- definition at that field and pair, each one printed before it held up to there, each after it is not reached, and number, field
 -- and at are what the reader returns. An accepted message shows all held."
 use Prim.Native.Nat.{ℕ, _+_, _≤_, _<_, min}
+use Prim.Native.String.{String}
 use mathlib.Core.Path.{_≡_}
 use mathlib.Core.Bool.{_&&_, cond}
 use mathlib.Core.Logic.{_⊎_}
 use mathlib.Core.List.{List, [], _∷_, _++_}
 use lib.Dec.{leb}
 use lib.ListN.{length, getD}
+use lib.Seq.{sets}
 use Rattle.text.specs.Text.{ascii}
 use Rattle.wire.specs.declared.refusal.Refusal.{Refusal}
 use Rattle.wire.specs.declared.refusal.Refusal.the-variants.{NoRoom}
@@ -21,6 +23,8 @@ use Rattle.negotiate.specs.Negotiate.{readNegotiate}
 use Rattle.challenge.specs.Challenge.{readChallenge}
 use Rattle.authenticate.specs.Authenticate.{readAuthenticate}
 use Rattle.explain.specs.Explain.{checksOf, explanation}
+use Rattle.demands.specs.Bench.{p1}
+use Rattle.demands.specs.Examples.{challengeMessage}
 use Rattle.demands.specs.Ignored.{DifferAsRead}
 use Rattle.demands.specs.Kept.{Kept}
 use Rattle.demands.specs.Message.{Format, negotiate, authenticate, challenge, lenOf, offsetOf, Fails}
@@ -181,3 +185,24 @@ SecretExplained = (s t : List ℕ) → DifferInSecrets s t → kindOf s ≡ Auth
 -- so many bytes always suffice for it
 abbrev pub ExplainedShort : Type 0
 ExplainedShort = (s : List ℕ) → ((i : ℕ) → getD s i 0 < 256) → length (explanation s) ≤ 464
+
+-- ---- examples, worked out by hand
+
+-- these lines, each ended by 0A
+abbrev pub linesOf : List String → List ℕ
+linesOf [] = []
+linesOf (t ∷ ts) = ascii t ++ (0x0A ∷ linesOf ts)
+
+pub record ExplainedExample : Type 0 where
+  -- P1 with its user's offset at 113, so that it ends at 121: "field 4, offset 113, length 8, message 120"
+  pub of-field : explanation (sets p1 40 (113 ∷ [])) ≡
+      linesOf ("check 1 held" ∷ "check 2 held" ∷ "check 3 held" ∷ "check 4 held" ∷ "check 5 held"
+      ∷ "check 6 failed field=4 offset=113 length=8 message=120" ∷ "check 7 not reached" ∷ "check 8 not reached" ∷ "check 9 not reached" ∷ [])
+  -- the challenge with length 5 in its second pair, a name that starts at 12 of the list and at 76 of the message
+  pub of-pair : explanation (sets challengeMessage 78 (5 ∷ [])) ≡
+      linesOf ("check 1 held" ∷ "check 2 held" ∷ "check 3 held" ∷ "check 4 held" ∷ "check 5 held" ∷ "check 6 held" ∷ "check 7 held" ∷ "check 8 held"
+      ∷ "check 11 held" ∷ "check 12 held" ∷ "check 10 held" ∷ "check 13 failed field=2 offset=64 length=36 message=100 at=76 id=1 size=5" ∷ [])
+  -- the challenge as it is
+  pub of-taken : explanation challengeMessage ≡
+      linesOf ("check 1 held" ∷ "check 2 held" ∷ "check 3 held" ∷ "check 4 held" ∷ "check 5 held" ∷ "check 6 held" ∷ "check 7 held" ∷ "check 8 held"
+      ∷ "check 11 held" ∷ "check 12 held" ∷ "check 10 held" ∷ "check 13 held" ∷ [])
