@@ -51,7 +51,7 @@ at-mic s p there l r g =
     ⊎-elim (λ u. absurd u) (⊎-elim (λ h. omega (arith, h .last, h .to)) (λ o. o .2 there l r)) (lies authenticate s p g)
 
 module _ (a b : List ℕ) (d : DifferInIgnored authenticate a b) where
-  fields-same : fieldsAt a (flagsAt a 60) ≡ fieldsAt b (flagsAt a 60)
+  pub fields-same : fieldsAt a (flagsAt a 60) ≡ fieldsAt b (flagsAt a 60)
   unfolding fieldsAt
   fields-same =
       simp (

@@ -30,3 +30,4 @@ pub mod ThinCalls
 pub mod DnsName
 pub mod DnsText
 pub mod StringShown
+pub mod Explained

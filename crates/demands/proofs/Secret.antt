@@ -40,10 +40,10 @@ module _ (s t : List ℕ) (d : DifferInSecrets s t) where
   field-same at c l =
       simp (same16 s t at (λ p a b. d .first-64 p (omega arith)), same32 s t (at + 4) (λ p a b. d .first-64 p (omega arith)))
 
-  flags-same : flagsAt s 60 ≡ flagsAt t 60
+  pub flags-same : flagsAt s 60 ≡ flagsAt t 60
   flags-same = ap (λ (x : ℕ). record { bits = x }) (same32 s t 60 (λ p a b. d .first-64 p (omega arith)))
 
-  fields-same : (w : NegotiateFlags) → fieldsAt s w ≡ fieldsAt t w
+  pub fields-same : (w : NegotiateFlags) → fieldsAt s w ≡ fieldsAt t w
   unfolding fieldsAt
   fields-same w =
       simp (field-same 12 true (omega arith), field-same 20 true (omega arith), field-same 28 true (omega arith), field-same 36 true (omega arith), field-same 44 true (omega arith), field-same 52 (keyExch w) (omega arith))

@@ -28,3 +28,4 @@ pub mod DigitByDigit
 pub mod ThinCalls
 pub mod DnsName
 pub mod StringShown
+pub mod Explained

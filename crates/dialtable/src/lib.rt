@@ -16,6 +16,7 @@ ghost use Rattle.nl_auth.specs.NlAuth.{readNlAuth};
 ghost use Rattle.nl_auth_flags.specs.Flags.{known};
 ghost use Rattle.nl_auth_text.specs.StringText.{textAnswer, textAfter};
 ghost use Rattle.nl_auth_writing.specs.Writing.{requestAnswer, requestOut, responseAnswer, responseOut};
+ghost use Rattle.explain.specs.Explain.{explanation};
 ghost use Rattle.line.specs.Line.{negotiateLine, authenticateLine, challengeLine, nlAuthLine, ntlmLine, shownLine};
 ghost use Rattle.respond.specs.Answer.{respondAnswer, respondOut};
 ghost use Rattle.respond.specs.Decision.{defaults, benchSettings, oldServerSettings, decisionOn};
@@ -334,6 +335,14 @@ pub extern "C" fn dialtable_nl_auth_program_line(msg: &[u8], out: &mut [u8]) -> 
     ensures content { λ _. ⌜ now (out .exit) ≡ bytesAfter (shownLine (nlAuthLine (now (msg .entry))) (now (out .entry))) (now (out .entry)) ⌝ }
 {
     line_number(line::nl_auth_program_line(msg, out))
+}
+
+#[no_mangle]
+pub extern "C" fn dialtable_explain(msg: &[u8], out: &mut [u8]) -> u64
+    ensures answer { λ r. ⌜ r ≡ writtenNumber (bytesAnswer (explanation (now (msg .entry))) (now (out .entry))) ⌝ }
+    ensures content { λ _. ⌜ now (out .exit) ≡ bytesAfter (explanation (now (msg .entry))) (now (out .entry)) ⌝ }
+{
+    line_number(explain::write(msg, out))
 }
 
 #[no_mangle]

@@ -29,7 +29,8 @@ pub enum Reading {
     Refused(Refusal),
 }
 
-fn fields_at(msg: &[u8], flags: NegotiateFlags) -> Fields
+// The fields by their heads, as the flags make them count; checks 6 on are not made.
+pub fn fields_at(msg: &[u8], flags: NegotiateFlags) -> Fields
     requires { ⌜ 32 ≤ length (now msg) ⌝ }
     ensures { λ r. ⌜ r ≡ fieldsAt (now (msg .entry)) flags ⌝ }
 {

@@ -68,7 +68,7 @@ at-server s p l r g =
     (lies challenge s p g)
 
 module _ (a b : List ℕ) (d : DifferInIgnored challenge a b) where
-  fields-same : fieldsAt a (flagsAt a 20) ≡ fieldsAt b (flagsAt a 20)
+  pub fields-same : fieldsAt a (flagsAt a 20) ≡ fieldsAt b (flagsAt a 20)
   unfolding fieldsAt
   fields-same =
       simp (

@@ -84,7 +84,7 @@ negotiate-line-ignored s t d =
     negotiate-line-same s t (readNegotiate s) w refl ∙ ap (λ (r : NegotiateReading). negoLine t r) (w .answer)
 
 -- the type, by which the NTLM program chooses, is no ignored byte of any kind
-kind-same : (k : Format) (s t : List ℕ) → Seen k s → DifferInIgnored k s t → kindOf s ≡ kindOf t
+pub kind-same : (k : Format) (s t : List ℕ) → Seen k s → DifferInIgnored k s t → kindOf s ≡ kindOf t
 unfolding kindOf
 kind-same k s t seen d = simp (d .length-same, same32 s t 8 (λ p l r. looked k s t seen d p (seen .early p (omega arith))))
 

@@ -48,7 +48,7 @@ module _ (s : List ℕ) where
       fields.stands negotiate s 2 (oemWorkstationSupplied (flagsAt s 12)) (omega arith) (omega arith)
       (λ h. (λ e. absurd (omega arith), λ e. eqb-true _ 1 h)) (λ h c. eqb-false _ 1 h (c .1 refl))
 
-  two : (P : ℕ → Field → Type 0) → ((i : ℕ) (f : Field) → Stands negotiate s i f → P i f) →
+  pub two : (P : ℕ → Field → Type 0) → ((i : ℕ) (f : Field) → Stands negotiate s i f → P i f) →
       P 1 (fieldsAt s (flagsAt s 12) .domain) × P 2 (fieldsAt s (flagsAt s 12) .workstation)
   unfolding fieldsAt
   two P h = (h 1 _ domain, h 2 _ workstation)
@@ -132,7 +132,7 @@ apart =
     }
 
 module _ (a b : List ℕ) (d : DifferInIgnored negotiate a b) where
-  fields-same : fieldsAt a (flagsAt a 12) ≡ fieldsAt b (flagsAt a 12)
+  pub fields-same : fieldsAt a (flagsAt a 12) ≡ fieldsAt b (flagsAt a 12)
   unfolding fieldsAt
   fields-same =
       simp (

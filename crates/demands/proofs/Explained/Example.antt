@@ -1,0 +1,16 @@
+-- The examples of the print, by computation.
+use mathlib.Core.Path.{refl}
+use Rattle.field.specs.Field.{fieldAt, fieldBytes}
+use Rattle.head.specs.Head.{signatureHolds, readHead, kindOf}
+use Rattle.word.specs.Digits.{hexDigit, decimalSize, decimal}
+use Rattle.word.specs.Words.{numberWord}
+use Rattle.av_pairs.specs.AvPairs.{checkPairs, stepAt, pairOf, left}
+use Rattle.challenge.specs.Challenge.{fieldsAt as challengeFieldsAt, checkEnds as challengeEnds, checkBegins as challengeBegins, checkNames as challengeNames, checkFields as challengeChecks, fieldsOf, checkInfo, readingOf as challengeReadingOf, readChallenge}
+use Rattle.authenticate.specs.Authenticate.{fieldsAt, checkEnds, checkBegins, checkNames, checkShared, checkFields, micPresent, readingOf, readAuthenticate}
+use Rattle.line_checks.specs.Checks.{plainWords, pairText, pairWords, messageWords, figureWords, failedWords, wordsOf, lineOf, checkLines}
+use Rattle.explain.specs.Explain.{figuresOf, figuresAs, explainedAs, explanation}
+use Rattle.demands.specs.Explained.{ExplainedExample}
+
+pub explained-example : ExplainedExample
+unfolding explanation explainedAs figuresAs figuresOf checkLines lineOf wordsOf plainWords pairText pairWords messageWords figureWords failedWords numberWord decimal decimalSize hexDigit kindOf readHead signatureHolds fieldAt fieldBytes readAuthenticate readingOf fieldsAt checkEnds checkBegins checkNames checkShared checkFields micPresent readChallenge challengeReadingOf checkInfo fieldsOf challengeFieldsAt challengeEnds challengeBegins challengeNames challengeChecks checkPairs stepAt pairOf left
+explained-example = record { of-field = refl; of-pair = refl; of-taken = refl }

@@ -1,0 +1,174 @@
+-- Secrets, MaxLen and ignored bytes change nothing in the print.
+use Prim.Native.Nat.{ℕ, _+_, _≤_, _<_}
+use mathlib.Core.Path.{_≡_, refl, sym, ap, _∙_}
+use mathlib.Core.Logic.{inl, inr}
+use mathlib.Core.Bool.{Bool, true, false, _&&_, not}
+use mathlib.Core.List.{List}
+use native.Mathlib.Nat.{add-zero}
+use native.Mathlib.Omega.{arith}
+use lib.Dec.{leb, eqb}
+use lib.ListN.{length, getD, length-take}
+use borrow.Author.Tests.{leb-true, eqb-true, eqb-false}
+use Rattle.wire.specs.declared.check.Verdict.{Verdict}
+use Rattle.wire.specs.declared.check.Verdict.the-variants.{Clear, Refused as Not}
+use Rattle.wire.specs.declared.refusal.Refusal.{Refusal}
+use Rattle.wire.specs.Number.{u16At}
+use Rattle.wire.specs.Refusal.{numberOf, fieldOf, placeOf}
+use Rattle.wire.proofs.Bools.{and-left, and-right}
+use Rattle.field.specs.declared.Field.{Field}
+use Rattle.negotiate_flags.specs.declared.NegotiateFlags.{NegotiateFlags}
+use Rattle.place.specs.Written.{bytesAnswer, bytesAfter}
+use Rattle.head.specs.declared.Kind.{Kind}
+use Rattle.head.specs.declared.Kind.the-variants.{Negotiate, Challenge, Authenticate}
+use Rattle.head.specs.Head.{flagsAt, kindOf}
+use Rattle.negotiate.specs.Negotiate as N
+use Rattle.negotiate.specs.Negotiate.{readNegotiate}
+use Rattle.challenge.specs.declared.Answer.{Answer as ChalAnswer}
+use Rattle.challenge.specs.Challenge as C
+use Rattle.challenge.specs.Challenge.{readChallenge}
+use Rattle.authenticate.specs.declared.Answer.{Answer as AuthAnswer}
+use Rattle.authenticate.specs.Authenticate as A
+use Rattle.authenticate.specs.Authenticate.{readAuthenticate}
+use Rattle.line_checks.specs.declared.Figures.{Figures as Given}
+use Rattle.line_checks.specs.Checks.{checkLines}
+use Rattle.explain.specs.Explain.{checksOf, readAs, fieldsOf, numbered, hasPair, figuresOf, figuresOn, figuresAs, explainedAs, explanation, negoVerdict, chalVerdict, authVerdict}
+use Rattle.demands.specs.Message.{Format, negotiate, authenticate, challenge, lenOf, offsetOf, Nonempty, Fails, DifferInIgnored}
+use Rattle.demands.specs.TakenExactly.{InfoBytes}
+use Rattle.demands.specs.Secret.{DifferInSecrets}
+use Rattle.demands.specs.Ignored.{DifferAsRead}
+use Rattle.demands.specs.Explained.{FailsAt, at-field, at-pair, Before, ExplainedIgnored, SecretExplained}
+use Rattle.demands.proofs.Message.Unchanged.{Seen, looked, flags-same}
+use Rattle.demands.proofs.TakenExactly.Negotiate.{negotiate-ignored, negotiate-seen, fields-same as nego-fields}
+use Rattle.demands.proofs.Ignored.ChallengeIgnored.{challenge-ignored, seen as challenge-seen, fields-same as chal-fields}
+use Rattle.demands.proofs.Ignored.{authenticate-ignored, seen as authenticate-seen, fields-same as auth-fields}
+use Rattle.demands.proofs.Secret.{secret-read, fields-same as secret-fields, flags-same as secret-flags}
+use Rattle.demands.proofs.Secret.SecretPrinted.{secret-printed}
+use Rattle.demands.proofs.Ignored.LineIgnored.{kind-same}
+use Rattle.demands.proofs.Explained.{refused-as, OfPair, by-pair, pair-inside}
+use Rattle.demands.proofs.Explained.Reasons.{Why, why, up-to-9, info-counts}
+
+-- the figures of one refusal are the same where the heads are, and the numbers of its pair
+figures-same : (s t : List ℕ) (fs gs : List (ℕ × Field)) (v : Verdict) → length s ≡ length t → fs ≡ gs →
+    ((e : Refusal) → v ≡ Not e → hasPair (numberOf e) ≡ true → (u16At s (placeOf e) ≡ u16At t (placeOf e)) × (u16At s (placeOf e + 2) ≡ u16At t (placeOf e + 2))) →
+    figuresOn s fs v ≡ figuresOn t gs v
+unfolding figuresOf
+figures-same s t fs gs Clear l f h = refl
+figures-same s t fs gs (Not e) l f h = go (hasPair (numberOf e)) refl where
+  go : (b : Bool) → hasPair (numberOf e) ≡ b → figuresOf s (numbered (fieldOf e) fs) e ≡ figuresOf t (numbered (fieldOf e) gs) e
+  go true p = let x = h e refl p in simp (l, f, x .0, x .1)
+  go false p = simp (l, f, p)
+
+-- ---- the pair of a refusal
+
+pair-number : (n : ℕ) → hasPair n ≡ true → OfPair n
+pair-number n h = go (eqb n 10) (eqb n 12) refl refl where
+  within : leb 10 n && leb n 13 ≡ true
+  within = and-left (leb 10 n && leb n 13) (not (eqb n 11)) h
+
+  other : (t : Bool) → not t ≡ true → t ≡ false
+  other true r = sym r
+  other false r = refl
+
+  go : (a b : Bool) → eqb n 10 ≡ a → eqb n 12 ≡ b → OfPair n
+  go true b p q = inl (eqb-true n 10 p)
+  go false true p q = inr (inl (eqb-true n 12 q))
+  go false false p q =
+      inr (inr (omega (arith, leb-true 10 n (and-left (leb 10 n) (leb n 13) within), leb-true n 13 (and-right (leb 10 n) (leb n 13) within), eqb-false n 10 p, eqb-false n 12 q, eqb-false n 11 (other (eqb n 11) (and-right (leb 10 n && leb n 13) (not (eqb n 11)) h)))))
+
+-- only a challenge has one
+no-pair : (k : Kind) (s : List ℕ) → (k ≡ Challenge → ⊥) → (e : Refusal) → readAs k s ≡ Not e → hasPair (numberOf e) ≡ true → ⊥
+no-pair k s other e h p = go (why k s _ _ _ (refused-as k s e h) .fails) where
+  go : FailsAt k s (numberOf e) (fieldOf e) (placeOf e) → ⊥
+  go (at-field f z) = omega (arith, up-to-9 _ s (numberOf e) (fieldOf e) f, by-pair (numberOf e) (λ m. 10 ≤ m) (pair-number (numberOf e) p) (omega arith) (omega arith) (omega arith))
+  go (at-pair b q c i x l t f z) = other c
+
+not-negotiate : Negotiate ≡ Challenge → ⊥
+not-negotiate h = let z : _≡_ {A = ℕ} 0 1 = cc in omega arith
+
+not-authenticate : Authenticate ≡ Challenge → ⊥
+not-authenticate h = let z : _≡_ {A = ℕ} 0 1 = cc in omega arith
+
+-- and its numbers are no ignored bytes
+module _ (s t : List ℕ) (d : DifferInIgnored challenge s t) (e : Refusal) (h : readAs Challenge s ≡ Not e) (p : hasPair (numberOf e) ≡ true) where
+  reason : Why Challenge s (numberOf e) (fieldOf e) (placeOf e)
+  reason = why Challenge s _ _ _ (refused-as Challenge s e h)
+
+  of-pair : OfPair (numberOf e)
+  of-pair = pair-number (numberOf e) p
+
+  byte-same : (j : ℕ) → j < 4 → getD s (placeOf e + j) 0 ≡ getD t (placeOf e + j) 0
+  byte-same j l = go (reason .fails) where
+    go : FailsAt Challenge s (numberOf e) (fieldOf e) (placeOf e) → getD s (placeOf e + j) 0 ≡ getD t (placeOf e + j) 0
+    go (at-field f z) = absurd (omega (arith, up-to-9 challenge s (numberOf e) (fieldOf e) f, by-pair (numberOf e) (λ m. 10 ≤ m) of-pair (omega arith) (omega arith) (omega arith)))
+    go (at-pair b q c i x m w f z) =
+        let there : Nonempty challenge s 2 = info-counts s b x m in
+        let inside : q + 4 ≤ length b = pair-inside Challenge s _ _ _ reason of-pair b q x z in
+        let short : length b ≤ lenOf challenge s 2 = rw (x .there there) (simp length-take (omega arith)) in
+        let begins : offsetOf challenge s 2 < 48 → ⊥ =
+        λ u. reason .holds 7 (by-pair (numberOf e) (λ m. Before (checksOf Challenge) 7 m) of-pair (omega arith) (omega arith) (omega arith)) .fields 2 (there, u) in
+        looked challenge s t (challenge-seen s) d (placeOf e + j)
+        (challenge-seen s .at-field 2 (placeOf e + j) there (omega (arith, begins, z)) (omega (arith, z), omega (arith, z, inside, short)))
+
+  pair-same : (u16At s (placeOf e) ≡ u16At t (placeOf e)) × (u16At s (placeOf e + 2) ≡ u16At t (placeOf e + 2))
+  pair-same =
+      let b0 : getD s (placeOf e) 0 ≡ getD t (placeOf e) 0 = rw add-zero at (byte-same 0 (omega arith)) in
+      let b3 : getD s (placeOf e + 2 + 1) 0 ≡ getD t (placeOf e + 2 + 1) 0 =
+      let three : placeOf e + 2 + 1 ≡ placeOf e + 3 = omega arith in rw three (byte-same 3 (omega arith)) in
+      (simp (b0, byte-same 1 (omega arith)), simp (byte-same 2 (omega arith), b3))
+
+-- ---- the print
+
+print-same : (k : Kind) (s t : List ℕ) → length s ≡ length t → readAs k s ≡ readAs k t → fieldsOf k s ≡ fieldsOf k t →
+    ((e : Refusal) → readAs k s ≡ Not e → hasPair (numberOf e) ≡ true → (u16At s (placeOf e) ≡ u16At t (placeOf e)) × (u16At s (placeOf e + 2) ≡ u16At t (placeOf e + 2))) →
+    explainedAs k s ≡ explainedAs k t
+unfolding explainedAs figuresAs
+print-same k s t l v f h =
+    ap (λ (g : Given). checkLines g (checksOf k))
+    (figures-same s t (fieldsOf k s) (fieldsOf k t) (readAs k s) l f h ∙ ap (λ (x : Verdict). figuresOn t (fieldsOf k t) x) v)
+
+secret-print : (s t : List ℕ) → DifferInSecrets s t → explainedAs Authenticate s ≡ explainedAs Authenticate t
+secret-print s t d =
+    print-same Authenticate s t (d .length-same) (ap authVerdict (secret-read s t d .reading))
+    (ap A.allFields (secret-fields s t d (flagsAt s 60) ∙ ap (λ (w : NegotiateFlags). A.fieldsAt t w) (secret-flags s t d)))
+    (λ e h p. absurd (no-pair Authenticate s not-authenticate e h p))
+
+pub secret-explained : SecretExplained
+unfolding explanation
+secret-explained s t d e =
+    let kind = secret-printed s t d e .kind in
+    let same : explanation s ≡ explanation t = rw (e, kind) (secret-print s t d) in
+    record {
+      kind = kind;
+      print = same;
+      answer = λ out. ap (λ (l : List ℕ). bytesAnswer l out) same;
+      output = λ out. ap (λ (l : List ℕ). bytesAfter l out) same;
+    }
+
+negotiate-print : (s t : List ℕ) → DifferInIgnored negotiate s t → explainedAs Negotiate s ≡ explainedAs Negotiate t
+negotiate-print s t d =
+    print-same Negotiate s t (d .length-same) (ap negoVerdict (negotiate-ignored s t d .answer))
+    (ap N.allFields (nego-fields s t d ∙ ap (λ (w : NegotiateFlags). N.fieldsAt t w) (flags-same negotiate s t (negotiate-seen s) d)))
+    (λ e h p. absurd (no-pair Negotiate s not-negotiate e h p))
+
+authenticate-print : (s t : List ℕ) → DifferInIgnored authenticate s t → explainedAs Authenticate s ≡ explainedAs Authenticate t
+authenticate-print s t d =
+    print-same Authenticate s t (d .length-same) (ap (λ (x : AuthAnswer). authVerdict (x .reading)) (authenticate-ignored s t d .answer))
+    (ap A.allFields (auth-fields s t d ∙ ap (λ (w : NegotiateFlags). A.fieldsAt t w) (flags-same authenticate s t (authenticate-seen s) d)))
+    (λ e h p. absurd (no-pair Authenticate s not-authenticate e h p))
+
+challenge-print : (s t : List ℕ) → DifferInIgnored challenge s t → explainedAs Challenge s ≡ explainedAs Challenge t
+challenge-print s t d =
+    print-same Challenge s t (d .length-same) (ap (λ (x : ChalAnswer). chalVerdict (x .reading)) (challenge-ignored s t d .answer))
+    (ap C.allFields (chal-fields s t d ∙ ap (λ (w : NegotiateFlags). C.fieldsAt t w) (flags-same challenge s t (challenge-seen s) d)))
+    (pair-same s t d)
+
+pub explained-ignored : ExplainedIgnored
+unfolding explanation
+explained-ignored s t d = go (kindOf s) refl where
+  go : (k : Kind) → kindOf s ≡ k → explainedAs (kindOf s) s ≡ explainedAs (kindOf t) t
+  go Negotiate e =
+      rw (← (kind-same negotiate s t (negotiate-seen s) (d .as-negotiate e)), e) (negotiate-print s t (d .as-negotiate e))
+  go Challenge e =
+      rw (← (kind-same challenge s t (challenge-seen s) (d .as-challenge e)), e) (challenge-print s t (d .as-challenge e))
+  go Authenticate e =
+      rw (← (kind-same authenticate s t (authenticate-seen s) (d .as-authenticate e)), e) (authenticate-print s t (d .as-authenticate e))

@@ -1,0 +1,173 @@
+-- How long the print is at most.
+use Prim.Native.Nat.{ℕ, _+_, _≤_, _<_}
+use mathlib.Core.Path.{_≡_, refl, sym, ap, _∙_}
+use mathlib.Core.Bool.{Bool, true, false, _&&_, not, cond}
+use mathlib.Core.List.{List, [], _∷_, _++_}
+use native.Mathlib.Omega.{arith}
+use lib.Dec.{ltb, eqb}
+use lib.ListN.{length, getD, length-append}
+use borrow.Author.Tests.{ltb-true, ltb-false}
+use Rattle.text.specs.Text.{ascii}
+use Rattle.wire.specs.declared.check.Verdict.{Verdict}
+use Rattle.wire.specs.declared.check.Verdict.the-variants.{Clear, Refused as Not}
+use Rattle.wire.specs.declared.refusal.Refusal.{Refusal}
+use Rattle.wire.specs.Number.{u16At, u32At}
+use Rattle.wire.specs.Refusal.{numberOf, fieldOf, placeOf}
+use Rattle.word.specs.Digits.{decimalSize, decimal}
+use Rattle.word.specs.Words.{numberWord}
+use Rattle.word.proofs.Numbers.{decimal-small}
+use Rattle.head.specs.declared.Kind.{Kind}
+use Rattle.head.specs.declared.Kind.the-variants.{Negotiate, Challenge, Authenticate}
+use Rattle.head.specs.Head.{kindOf}
+use Rattle.challenge.specs.declared.Reading.{Reading}
+use Rattle.challenge.specs.declared.Reading.the-variants.{Taken, Refused}
+use Rattle.challenge.specs.Challenge.{readChallenge}
+use Rattle.line_checks.specs.declared.Figures.{Figures as Given}
+use Rattle.line_checks.specs.Checks.{aboutPair, plainWords, pairText, pairWords, messageWords, figureWords, failedWords, wordsOf, lineOf, linesFrom, checkLines}
+use Rattle.explain.specs.Explain.{checksOf, readAs, fieldsOf, numbered, hasPair, ofPair, figuresOf, figuresOn, figuresAs, explainedAs, explanation, chalVerdict}
+use Rattle.explain.proofs.Laws.{no-head}
+use Rattle.demands.specs.Message.{Nonempty, lenOf, offsetOf}
+use Rattle.demands.specs.Explained.{formatOf, ExplainedShort}
+use Rattle.demands.proofs.TakenExactly.Places.{place-in-message}
+use Rattle.demands.proofs.Answers.Told.{number-small}
+use Rattle.demands.proofs.Explained.{refused-as, head-is}
+use Rattle.demands.proofs.Explained.Reasons.{why}
+
+-- ---- a line
+
+-- figures of 32 bits
+record Small (g : Given) : Type 0 where
+  number : g .number < 4294967296
+  field : g .field < 4294967296
+  offset : g .head .offset < 4294967296
+  len : g .head .len < 4294967296
+  message : g .message < 4294967296
+  at : g .at < 4294967296
+  id : g .id < 4294967296
+  size : g .size < 4294967296
+
+word-bound : (label : List ℕ) (n : ℕ) → n < 4294967296 → length (numberWord label n) ≤ length label + 20
+unfolding numberWord
+word-bound label n l = omega (arith, length-append label (decimal n), decimal-small n (length (decimal n)) refl (omega arith))
+
+pair-bound : (g : Given) → Small g → length (pairWords g) ≤ 74
+unfolding pairWords pairText
+pair-bound g w = go (aboutPair (g .number)) where
+  go : (t : Bool) → length (cond t (numberWord (ascii " at=") (g .at) ++ (numberWord (ascii " id=") (g .id) ++ numberWord (ascii " size=") (g .size))) []) ≤ 74
+  go true = simp length-append (omega (arith, word-bound (ascii " at=") (g .at) (w .at), word-bound (ascii " id=") (g .id) (w .id), word-bound (ascii " size=") (g .size) (w .size)))
+  go false = omega arith
+
+failed-bound : (g : Given) → Small g → length (failedWords g) ≤ 219
+unfolding failedWords figureWords messageWords
+failed-bound g w =
+    simp length-append
+    (omega (
+      arith,
+      word-bound (ascii "check ") (g .number) (w .number),
+      word-bound (ascii " failed field=") (g .field) (w .field),
+      word-bound (ascii " offset=") (g .head .offset) (w .offset),
+      word-bound (ascii " length=") (g .head .len) (w .len),
+      word-bound (ascii " message=") (g .message) (w .message),
+      pair-bound g w,
+    ))
+
+-- a check that is not reached has the longest line but for the one that failed
+held-bound : (g : Given) (n : ℕ) → eqb n (g .number) ≡ false → length (lineOf true g n) ≤ length (lineOf false g n)
+unfolding lineOf wordsOf plainWords
+held-bound g n h = simp (h, length-append) (omega arith)
+
+failed-line : (g : Given) (n : ℕ) → Small g → eqb n (g .number) ≡ true → length (lineOf true g n) ≤ 220
+unfolding lineOf wordsOf
+failed-line g n w h = simp (h, length-append) (omega (arith, failed-bound g w))
+
+lines-bound : (g : Given) (cs : List ℕ) → Small g → length (linesFrom true g cs) ≤ 220 + length (linesFrom false g cs)
+lines-bound g [] w = omega arith
+lines-bound g (c ∷ cs) w = go (eqb c (g .number)) refl (lines-bound g cs w) where
+  go : (t : Bool) → eqb c (g .number) ≡ t → length (linesFrom true g cs) ≤ 220 + length (linesFrom false g cs) →
+      length (lineOf true g c ++ linesFrom (true && not (eqb c (g .number))) g cs) ≤ 220 + length (lineOf false g c ++ linesFrom false g cs)
+  go true p rest = rw p (simp length-append (omega (arith, failed-line g c w p)))
+  go false p rest = rw p (simp length-append (omega (arith, held-bound g c p, rest)))
+
+-- ---- the figures of a message
+
+-- bytes make numbers of 16 and 32 bits
+module _ (s : List ℕ) (bytes : (i : ℕ) → getD s i 0 < 256) where
+  small16 : (at : ℕ) → u16At s at < 65536
+  small16 at = omega (arith, bytes at, bytes (at + 1))
+
+  small32 : (at : ℕ) → u32At s at < 4294967296
+  small32 at = omega (arith, small16 at, small16 (at + 2))
+
+  of-pair : (n at : ℕ) → ofPair n (u16At s at) < 4294967296
+  of-pair n at = go (hasPair n) where
+    go : (t : Bool) → cond t (u16At s at) 0 < 4294967296
+    go true = omega (arith, small16 at)
+    go false = omega arith
+
+  head-small : (k : Kind) (i : ℕ) → (0 < i → Nonempty (formatOf k) s i) →
+      (i < 4294967296) × (numbered i (fieldsOf k s) .offset < 4294967296) × (numbered i (fieldsOf k s) .len < 4294967296)
+  head-small k i h = go (ltb 0 i) refl where
+    last : (k : Kind) → formatOf k .last ≤ 6
+    last Negotiate = omega arith
+    last Challenge = omega arith
+    last Authenticate = omega arith
+
+    go : (t : Bool) → ltb 0 i ≡ t → (i < 4294967296) × (numbered i (fieldsOf k s) .offset < 4294967296) × (numbered i (fieldsOf k s) .len < 4294967296)
+    go true p =
+        let w = h (ltb-true 0 i p) in
+        let x = head-is k s i w in
+        (omega (arith, w .last, last k), rw (x .0) (small32 _), rw (x .1) (omega (arith, small16 (formatOf k .head i))))
+    go false p =
+        let none = no-head k s i (omega (arith, ltb-false 0 i p)) in
+        (omega (arith, ltb-false 0 i p), rw (← none) (omega arith), rw (← none) (omega arith))
+
+  chal-is : (r : Reading) (e : Refusal) → chalVerdict r ≡ Not e → r ≡ Refused e
+  chal-is (Taken c) e h = cc
+  chal-is (Refused d) e h = cc
+
+  place-small : (k : Kind) (e : Refusal) → readAs k s ≡ Not e → placeOf e ≤ 65535
+  place-small Negotiate e h = omega (arith, refused-as Negotiate s e h .1)
+  place-small Challenge e h = place-in-message s e (chal-is (readChallenge s .reading) e h)
+  place-small Authenticate e h = omega (arith, refused-as Authenticate s e h .1)
+
+  given-small : (k : Kind) → Small (figuresAs k s)
+  unfolding figuresAs figuresOf
+  given-small k = go (readAs k s) refl where
+    go : (v : Verdict) → readAs k s ≡ v → Small (figuresOn s (fieldsOf k s) v)
+    go Clear h =
+        record {
+          number = omega arith;
+          field = omega arith;
+          offset = omega arith;
+          len = omega arith;
+          message = omega arith;
+          at = omega arith;
+          id = omega arith;
+          size = omega arith;
+        }
+    go (Not e) h =
+        let x = head-small k (fieldOf e) (why k s _ _ _ (refused-as k s e h) .head) in
+        record {
+          number = omega (arith, number-small e);
+          field = x .0;
+          offset = x .1;
+          len = x .2;
+          message = omega arith;
+          at = omega (arith, place-small k e h);
+          id = of-pair (numberOf e) (placeOf e);
+          size = of-pair (numberOf e) (placeOf e + 2);
+        }
+
+-- ---- the print
+
+none-reached : (k : Kind) (g : Given) → length (linesFrom false g (checksOf k)) ≤ 244
+unfolding lineOf wordsOf plainWords numberWord decimal decimalSize
+none-reached Negotiate g = let n : length (linesFrom false g (checksOf Negotiate)) ≡ 140 = refl in omega (arith, n)
+none-reached Challenge g = let n : length (linesFrom false g (checksOf Challenge)) ≡ 244 = refl in omega (arith, n)
+none-reached Authenticate g = let n : length (linesFrom false g (checksOf Authenticate)) ≡ 180 = refl in omega (arith, n)
+
+pub explained-short : ExplainedShort
+unfolding explanation explainedAs checkLines
+explained-short s bytes =
+    let k = kindOf s in
+    omega (arith, lines-bound (figuresAs k s) (checksOf k) (given-small s bytes k), none-reached k (figuresAs k s))

@@ -1,0 +1,224 @@
+-- What is known of the refusal of a reading: where it has a field, the message has its fixed part; where it is of a pair, the pair's
+-- head stands in the message.
+use Prim.Native.Nat.{ℕ, _+_, _^_, _≤_, _<_}
+use mathlib.Core.Path.{_≡_, refl, sym, _∙_}
+use mathlib.Core.Bool.{Bool, true, false, _&&_, not}
+use mathlib.Core.List.{List, [], _∷_}
+use native.Mathlib.Omega.{arith}
+use lib.Dec.{leb, eqb}
+use lib.ListN.{length}
+use borrow.Author.Tests.{leb-true}
+use Rattle.wire.specs.declared.check.Checked.{Checked}
+use Rattle.wire.specs.declared.check.Verdict.{Verdict}
+use Rattle.wire.specs.declared.check.Verdict.the-variants.{Clear, Refused as Not}
+use Rattle.wire.specs.declared.refusal.Refusal.{Refusal}
+use Rattle.wire.specs.declared.refusal.Refusal.the-variants.{PastEnd, InFixedPart, OddName, NameOverSecret, PairPastEnd, PairMissing, WrongEndPair, WrongPairSize}
+use Rattle.wire.specs.Check.{after, overAll, onClear}
+use Rattle.wire.specs.Refusal.{numberOf, fieldOf, placeOf, movedBy}
+use Rattle.wire.proofs.Bools.{and-left}
+use Rattle.wire.proofs.Places.{of-after}
+use Rattle.field.specs.declared.Field.{Field}
+use Rattle.field.specs.Field.{endsInside, beginsAfter, evenName, fieldBytes}
+use Rattle.negotiate_flags.specs.declared.NegotiateFlags.{NegotiateFlags}
+use Rattle.negotiate_flags.specs.Flags.{unicode, charsetHolds}
+use Rattle.head.specs.declared.Head.{Head}
+use Rattle.head.specs.declared.Head.the-variants.{Flags, Refused as Stopped}
+use Rattle.head.specs.declared.Layout.{Layout}
+use Rattle.head.specs.Head.{lengthHolds, fixedPartHolds, signatureHolds, typeHolds, flagsAt, readHead, onFlags}
+use Rattle.head.proofs.Heads.{head-long}
+use Rattle.negotiate.specs.declared.Fields.{Fields as NegoFields}
+use Rattle.negotiate.specs.declared.Reading.{Reading as NegoReading}
+use Rattle.negotiate.specs.declared.Reading.the-variants.{Taken as NegoTaken, Refused as NegoRefused}
+use Rattle.negotiate.specs.Negotiate as N
+use Rattle.negotiate.specs.Negotiate.{readNegotiate}
+use Rattle.authenticate.specs.declared.Answer.{Answer as AuthAnswer}
+use Rattle.authenticate.specs.declared.Fields.{Fields as AuthFields}
+use Rattle.authenticate.specs.declared.Reading.{Reading as AuthReading}
+use Rattle.authenticate.specs.declared.Reading.the-variants.{Taken as AuthTaken, Refused as AuthRefused}
+use Rattle.authenticate.specs.Authenticate as A
+use Rattle.authenticate.specs.Authenticate.{readAuthenticate}
+use Rattle.challenge.specs.declared.Answer.{Answer as ChalAnswer}
+use Rattle.challenge.specs.declared.Challenge.{Challenge}
+use Rattle.challenge.specs.declared.Fields.{Fields as ChalFields}
+use Rattle.challenge.specs.declared.Reading.{Reading as ChalReading}
+use Rattle.challenge.specs.declared.Reading.the-variants.{Taken as ChalTaken, Refused as ChalRefused}
+use Rattle.challenge.specs.Challenge as C
+use Rattle.challenge.specs.Challenge.{readChallenge, checkInfo, infoOf, inMessage, onTaken}
+use Rattle.challenge.proofs.Laws.{fields-short}
+use Rattle.av_pairs.specs.AvPairs.{checkPairs}
+use Rattle.explain.specs.Explain.{hasPair, FixedPart, Placed}
+use Rattle.explain.proofs.Faults.{Fault, past-end, missing, end-pair, pair-size, fault-of, list-inside}
+
+-- a refusal of a message of n bytes whose fixed part is so long
+pub record Known (fixed : ℕ) (e : Refusal) (n : ℕ) : Type 0 where
+  pub fixed-part : FixedPart fixed (fieldOf e) n
+  pub placed : Placed e n
+
+-- ---- refusals without a pair
+
+no-pair : (number : ℕ) → number < 10 → hasPair number ≡ true → ⊥
+no-pair number h p = omega (arith, leb-true 10 number (and-left (leb 10 number) (leb number 13) (and-left (leb 10 number && leb number 13) (not (eqb number 11)) p)))
+
+plain : (e : Refusal) (n : ℕ) → numberOf e < 10 → placeOf e ≡ 0 → Placed e n
+plain e n h p = record { short = omega arith; there = λ t. absurd (no-pair (numberOf e) h t) }
+
+-- of the head: no field
+of-head : (fixed : ℕ) (e : Refusal) (n : ℕ) → numberOf e < 10 → fieldOf e ≡ 0 → placeOf e ≡ 0 → Known fixed e n
+of-head fixed e n h f p = record { fixed-part = record { there = λ t. absurd (t f) }; placed = plain e n h p }
+
+-- of a field: the fixed part is there
+of-field : (fixed : ℕ) (e : Refusal) (n : ℕ) → fixed ≤ n → numberOf e < 10 → placeOf e ≡ 0 → Known fixed e n
+of-field fixed e n l h p = record { fixed-part = record { there = λ t. l }; placed = plain e n h p }
+
+abbrev KnownV : ℕ → ℕ → Verdict → Type 0
+KnownV fixed n Clear = Unit
+KnownV fixed n (Not e) = Known fixed e n
+
+-- one check over all fields
+of-all : {A : Type 0} (fixed n : ℕ) (ok : A → Checked) (refusal : ℕ → Refusal) (fs : List (ℕ × A)) → ((i : ℕ) → Known fixed (refusal i) n) →
+    KnownV fixed n (overAll ok refusal fs)
+of-all fixed n ok refusal [] h = tt
+of-all fixed n ok refusal (f ∷ fs) h = of-after (KnownV fixed n) (ok (f .1)) (Not (refusal (f .0))) (overAll ok refusal fs) (h (f .0)) (of-all fixed n ok refusal fs h)
+
+-- a group of checks, and what follows it
+of-group : {A : Type 0} (fixed n : ℕ) (P : A → Type 0) (f : Refusal → A) (v : Verdict) (x : A) → KnownV fixed n v →
+    ((e : Refusal) → Known fixed e n → P (f e)) → P x → P (onClear f v x)
+of-group fixed n P f Clear x h p q = q
+of-group fixed n P f (Not e) x h p q = p e h
+
+abbrev KnownH : ℕ → ℕ → Head → Type 0
+KnownH fixed n (Flags w) = Unit
+KnownH fixed n (Stopped e) = Known fixed e n
+
+head-known : (l : Layout) (s : List ℕ) → KnownH (l .fixed) (length s) (readHead l s)
+unfolding readHead
+head-known l s =
+    let n : ℕ = length s in
+    of-after (KnownH (l .fixed) n) (lengthHolds s) _ _ (of-head (l .fixed) _ n (omega arith) refl refl) (
+    of-after (KnownH (l .fixed) n) (fixedPartHolds (l .fixed) s) _ _ (of-head (l .fixed) _ n (omega arith) refl refl) (
+    of-after (KnownH (l .fixed) n) (signatureHolds s) _ _ (of-head (l .fixed) _ n (omega arith) refl refl) (
+    of-after (KnownH (l .fixed) n) (typeHolds (l .«message_type») s) _ _ (of-head (l .fixed) _ n (omega arith) refl refl) (
+    of-after (KnownH (l .fixed) n) (charsetHolds (flagsAt s (l .flags))) _ _ (of-head (l .fixed) _ n (omega arith) refl refl) tt))))
+
+-- a reading: its head, and what follows where the fixed part is there
+of-reading : {A : Type 0} (P : A → Type 0) (f : Refusal → A) (l : Layout) (s : List ℕ) (x : NegotiateFlags → A) →
+    ((e : Refusal) → Known (l .fixed) e (length s) → P (f e)) → ((w : NegotiateFlags) → l .fixed ≤ length s → P (x w)) → P (onFlags f (readHead l s) x)
+of-reading P f l s x p q = go (readHead l s) refl (head-known l s) where
+  go : (k : Head) → readHead l s ≡ k → KnownH (l .fixed) (length s) k → P (onFlags f k x)
+  go (Flags w) e h = q w (head-long (l .fixed) l s (Flags w) w (sym e) refl (omega arith))
+  go (Stopped e) i h = p e h
+
+-- ---- NEGOTIATE
+
+abbrev KnownN : ℕ → NegoReading → Type 0
+KnownN n (NegoTaken m) = Unit
+KnownN n (NegoRefused e) = Known 32 e n
+
+nego-fields : (n : ℕ) (f : NegoFields) → 32 ≤ n → KnownV 32 n (N.checkFields n f)
+unfolding N.checkFields N.checkEnds N.checkBegins
+nego-fields n f l =
+    of-group 32 n (KnownV 32 n) Not (N.checkEnds n f) _ (of-all 32 n (endsInside n) PastEnd (N.allFields f) (λ i. of-field 32 _ n l (omega arith) refl)) (λ e h. h)
+    (of-all 32 n (beginsAfter 32) InFixedPart (N.allFields f) (λ i. of-field 32 _ n l (omega arith) refl))
+
+negotiate-known : (s : List ℕ) → KnownN (length s) (readNegotiate s)
+unfolding readNegotiate
+negotiate-known s =
+    of-reading (KnownN (length s)) NegoRefused N.layout s _ (λ e h. h)
+    (λ w l. of-group 32 (length s) (KnownN (length s)) NegoRefused (N.checkFields (length s) (N.fieldsAt s w)) _ (nego-fields (length s) (N.fieldsAt s w) l) (λ e h. h) tt)
+
+module _ (s : List ℕ) (r : NegoReading) (e : Refusal) (p : r ≡ readNegotiate s) (h : r ≡ NegoRefused e) where
+  nego-known : Known 32 e (length s)
+  nego-known = rw (sym p ∙ h) at (negotiate-known s)
+
+  pub nego-fixed : (i : ℕ) → i ≡ fieldOf e → FixedPart 32 i (length s)
+  nego-fixed i q = rw q (nego-known .fixed-part)
+
+  pub nego-placed : Placed e (length s)
+  nego-placed = nego-known .placed
+
+-- ---- AUTHENTICATE
+
+abbrev KnownA : ℕ → AuthReading → Type 0
+KnownA n (AuthTaken a) = Unit
+KnownA n (AuthRefused e) = Known 64 e n
+
+auth-fields : (n : ℕ) (u : Bool) (f : AuthFields) → 64 ≤ n → KnownV 64 n (A.checkFields n u f)
+unfolding A.checkFields A.checkEnds A.checkBegins A.checkNames A.checkShared
+auth-fields n u f l =
+    of-group 64 n (KnownV 64 n) Not (A.checkEnds n f) _ (of-all 64 n (endsInside n) PastEnd (A.allFields f) (λ i. of-field 64 _ n l (omega arith) refl)) (λ e h. h) (
+    of-group 64 n (KnownV 64 n) Not (A.checkBegins f) _ (of-all 64 n (beginsAfter 64) InFixedPart (A.allFields f) (λ i. of-field 64 _ n l (omega arith) refl)) (λ e h. h) (
+    of-group 64 n (KnownV 64 n) Not (A.checkNames u f) _ (of-all 64 n (evenName u) OddName (A.names f) (λ i. of-field 64 _ n l (omega arith) refl)) (λ e h. h)
+    (of-all 64 n (A.apart f) NameOverSecret (A.names f) (λ i. of-field 64 _ n l (omega arith) refl))))
+
+authenticate-known : (s : List ℕ) → KnownA (length s) (readAuthenticate s .reading)
+unfolding readAuthenticate A.readingOf
+authenticate-known s =
+    of-reading (KnownA (length s)) AuthRefused A.layout s _ (λ e h. h)
+    (λ w l. of-group 64 (length s) (KnownA (length s)) AuthRefused (A.checkFields (length s) (unicode w) (A.fieldsAt s w)) _ (auth-fields (length s) (unicode w) (A.fieldsAt s w) l) (λ e h. h) tt)
+
+module _ (s : List ℕ) (r : AuthAnswer) (e : Refusal) (p : r ≡ readAuthenticate s) (h : r .reading ≡ AuthRefused e) where
+  auth-known : Known 64 e (length s)
+  auth-known = rw (← p, h) at (authenticate-known s)
+
+  pub auth-fixed : (i : ℕ) → i ≡ fieldOf e → FixedPart 64 i (length s)
+  auth-fixed i q = rw q (auth-known .fixed-part)
+
+  pub auth-placed : Placed e (length s)
+  auth-placed = auth-known .placed
+
+-- ---- CHALLENGE
+
+abbrev KnownC : ℕ → ChalReading → Type 0
+KnownC n (ChalTaken c) = 48 ≤ n
+KnownC n (ChalRefused e) = Known 48 e n
+
+chal-fields : (n : ℕ) (u : Bool) (f : ChalFields) → 48 ≤ n → KnownV 48 n (C.checkFields n u f)
+unfolding C.checkFields C.checkEnds C.checkBegins C.checkNames
+chal-fields n u f l =
+    of-group 48 n (KnownV 48 n) Not (C.checkEnds n f) _ (of-all 48 n (endsInside n) PastEnd (C.allFields f) (λ i. of-field 48 _ n l (omega arith) refl)) (λ e h. h) (
+    of-group 48 n (KnownV 48 n) Not (C.checkBegins f) _ (of-all 48 n (beginsAfter 48) InFixedPart (C.allFields f) (λ i. of-field 48 _ n l (omega arith) refl)) (λ e h. h)
+    (of-all 48 n (evenName u) OddName (C.names f) (λ i. of-field 48 _ n l (omega arith) refl)))
+
+fields-known : (s : List ℕ) → KnownC (length s) (C.fieldsOf s)
+unfolding C.fieldsOf
+fields-known s =
+    of-reading (KnownC (length s)) ChalRefused C.layout s _ (λ e h. h)
+    (λ w l. of-group 48 (length s) (KnownC (length s)) ChalRefused (C.checkFields (length s) (unicode w) (C.fieldsAt s w)) _ (chal-fields (length s) (unicode w) (C.fieldsAt s w) l) (λ e h. h) l)
+
+-- a fault of the list, moved into the message
+not-true : false ≡ true → ⊥
+not-true h = let z : _≡_ {A = ℕ} 0 1 = cc in omega arith
+
+moved : (m n off : ℕ) (e : Refusal) → Fault m e → off + m ≤ n → n < 2 ^ 32 → Placed (movedBy off e) n
+moved m n off e (past-end at p h) i b = rw p (record { short = omega arith; there = λ t. omega arith })
+moved m n off e (missing at p h) i b = rw p (record { short = omega arith; there = λ t. absurd (not-true t) })
+moved m n off e (end-pair at p h) i b = rw p (record { short = omega arith; there = λ t. omega arith })
+moved m n off e (pair-size at p h) i b = rw p (record { short = omega arith; there = λ t. omega arith })
+
+info-known : (s : List ℕ) (c : Challenge) → C.fieldsOf s ≡ ChalTaken c → 48 ≤ length s → KnownV 48 (length s) (checkInfo s c)
+unfolding checkInfo
+info-known s c h l = go (checkPairs (infoOf s c)) refl where
+  go : (v : Verdict) → checkPairs (infoOf s c) ≡ v → KnownV 48 (length s) (inMessage (c .fields .«target_info») v)
+  go Clear e = tt
+  go (Not e) i =
+      record {
+        fixed-part = record { there = λ t. l };
+        placed = moved (length (infoOf s c)) (length s) (c .fields .«target_info» .offset) e (fault-of (infoOf s c) e i) (list-inside s (c .fields .«target_info») e i) (omega (arith, fields-short s c h));
+      }
+
+challenge-known : (s : List ℕ) → KnownC (length s) (readChallenge s .reading)
+unfolding readChallenge C.readingOf
+challenge-known s = go (C.fieldsOf s) refl (fields-known s) where
+  go : (r : ChalReading) → C.fieldsOf s ≡ r → KnownC (length s) r → KnownC (length s) (onTaken ChalRefused r (λ c. onClear ChalRefused (checkInfo s c) (ChalTaken c)))
+  go (ChalTaken c) i l = of-group 48 (length s) (KnownC (length s)) ChalRefused (checkInfo s c) _ (info-known s c i l) (λ e h. h) l
+  go (ChalRefused e) i h = h
+
+module _ (s : List ℕ) (r : ChalAnswer) (e : Refusal) (p : r ≡ readChallenge s) (h : r .reading ≡ ChalRefused e) where
+  chal-known : Known 48 e (length s)
+  chal-known = rw (← p, h) at (challenge-known s)
+
+  pub chal-fixed : (i : ℕ) → i ≡ fieldOf e → FixedPart 48 i (length s)
+  chal-fixed i q = rw q (chal-known .fixed-part)
+
+  pub chal-placed : Placed e (length s)
+  chal-placed = chal-known .placed

@@ -1,0 +1,123 @@
+-- Why a message is refused (document 02, 4/12): the checks of the kind that the NTLM program reads it as, one to a line, and the
+-- figures of the one that failed.
+use Prim.Native.Nat.{ℕ, _+_, _^_, _≤_, _<_, min}
+use mathlib.Core.Path.{_≡_}
+use mathlib.Core.Bool.{Bool, true, _&&_, not, cond}
+use mathlib.Core.List.{List, [], _∷_}
+use lib.Dec.{eqb}
+use lib.ListN.{length}
+use Rattle.wire.specs.declared.check.Verdict.{Verdict}
+use Rattle.wire.specs.declared.check.Verdict.the-variants.{Clear, Refused as Not}
+use Rattle.wire.specs.declared.refusal.Refusal.{Refusal}
+use Rattle.wire.specs.Number.{u16At}
+use Rattle.wire.specs.Refusal.{numberOf, fieldOf, placeOf}
+use Rattle.field.specs.declared.Field.{Field}
+use Rattle.field.specs.Field.{noField}
+use Rattle.head.specs.declared.Kind.{Kind}
+use Rattle.head.specs.declared.Kind.the-variants.{Negotiate, Challenge, Authenticate}
+use Rattle.head.specs.Head.{flagsAt, kindOf}
+use Rattle.negotiate.specs.declared.Reading.{Reading as NegoReading}
+use Rattle.negotiate.specs.declared.Reading.the-variants.{Taken as NegoTaken, Refused as NegoRefused}
+use Rattle.negotiate.specs.Negotiate as N
+use Rattle.negotiate.specs.Negotiate.{readNegotiate}
+use Rattle.challenge.specs.declared.Reading.{Reading as ChalReading}
+use Rattle.challenge.specs.declared.Reading.the-variants.{Taken as ChalTaken, Refused as ChalRefused}
+use Rattle.challenge.specs.Challenge as C
+use Rattle.challenge.specs.Challenge.{readChallenge}
+use Rattle.authenticate.specs.declared.Reading.{Reading as AuthReading}
+use Rattle.authenticate.specs.declared.Reading.the-variants.{Taken as AuthTaken, Refused as AuthRefused}
+use Rattle.authenticate.specs.Authenticate as A
+use Rattle.authenticate.specs.Authenticate.{readAuthenticate}
+use Rattle.line_checks.specs.declared.Figures.{Figures}
+use Rattle.line_checks.specs.Checks.{aboutPair, checkLines}
+
+-- the checks of each kind, in the order in which they are made
+abbrev pub checksOf : Kind → List ℕ
+checksOf Negotiate = 1 ∷ 2 ∷ 3 ∷ 4 ∷ 5 ∷ 6 ∷ 7 ∷ []
+checksOf Challenge = 1 ∷ 2 ∷ 3 ∷ 4 ∷ 5 ∷ 6 ∷ 7 ∷ 8 ∷ 11 ∷ 12 ∷ 10 ∷ 13 ∷ []
+checksOf Authenticate = 1 ∷ 2 ∷ 3 ∷ 4 ∷ 5 ∷ 6 ∷ 7 ∷ 8 ∷ 9 ∷ []
+
+-- ---- the reading: all checks held, or the refusal of the first that failed
+
+abbrev pub negoVerdict : NegoReading → Verdict
+negoVerdict (NegoTaken m) = Clear
+negoVerdict (NegoRefused e) = Not e
+
+abbrev pub chalVerdict : ChalReading → Verdict
+chalVerdict (ChalTaken c) = Clear
+chalVerdict (ChalRefused e) = Not e
+
+abbrev pub authVerdict : AuthReading → Verdict
+authVerdict (AuthTaken a) = Clear
+authVerdict (AuthRefused e) = Not e
+
+abbrev pub readAs : Kind → List ℕ → Verdict
+readAs Negotiate s = negoVerdict (readNegotiate s)
+readAs Challenge s = chalVerdict (readChallenge s .reading)
+readAs Authenticate s = authVerdict (readAuthenticate s .reading)
+
+-- ---- the figures
+
+-- the fields by number, as the kind's reader has them
+abbrev pub fieldsOf : Kind → List ℕ → List (ℕ × Field)
+fieldsOf Negotiate s = N.allFields (N.fieldsAt s (flagsAt s (N.layout .flags)))
+fieldsOf Challenge s = C.allFields (C.fieldsAt s (flagsAt s (C.layout .flags)))
+fieldsOf Authenticate s = A.allFields (A.fieldsAt s (flagsAt s (A.layout .flags)))
+
+-- the field with a number; a check without a field has number 0
+abbrev pub numbered : ℕ → List (ℕ × Field) → Field
+numbered i [] = noField
+numbered i (f ∷ fs) = cond (eqb i (f .0)) (f .1) (numbered i fs)
+
+-- checks 10, 12 and 13 fail at a pair, 11 where there is none
+abbrev pub hasPair : ℕ → Bool
+hasPair number = aboutPair number && not (eqb number 11)
+
+-- a number of that pair
+abbrev pub ofPair : ℕ → ℕ → ℕ
+ofPair number n = cond (hasPair number) n 0
+
+unfoldable pub figuresOf : List ℕ → Field → Refusal → Figures
+figuresOf s head e =
+    record {
+      number = numberOf e;
+      field = fieldOf e;
+      head = head;
+      message = min (length s) 65536;
+      at = placeOf e;
+      id = ofPair (numberOf e) (u16At s (placeOf e));
+      size = ofPair (numberOf e) (u16At s (placeOf e + 2));
+    }
+
+abbrev pub noFigures : Figures
+noFigures = record { number = 0; field = 0; head = noField; message = 0; at = 0; id = 0; size = 0 }
+
+abbrev pub figuresOn : List ℕ → List (ℕ × Field) → Verdict → Figures
+figuresOn s fields Clear = noFigures
+figuresOn s fields (Not e) = figuresOf s (numbered (fieldOf e) fields) e
+
+unfoldable pub figuresAs : Kind → List ℕ → Figures
+figuresAs kind s = figuresOn s (fieldsOf kind s) (readAs kind s)
+
+-- ---- the print
+
+unfoldable pub explainedAs : Kind → List ℕ → List ℕ
+explainedAs kind s = checkLines (figuresAs kind s) (checksOf kind)
+
+unfoldable pub explanation : List ℕ → List ℕ
+explanation s = explainedAs (kindOf s) s
+
+-- ---- what inner functions ask
+
+-- a message of n bytes has its fixed part where a field is given
+pub record FixedPart (fixed field n : ℕ) : Type 0 where
+  pub there : (field ≡ 0 → ⊥) → fixed ≤ n
+
+-- a number of the pair that failed stands at a place
+pub record NumberThere (number at n : ℕ) : Type 0 where
+  pub there : hasPair number ≡ true → at + 2 ≤ n
+
+-- a refusal's place has 32 bits, and a pair's id and length number stand there
+pub record Placed (e : Refusal) (n : ℕ) : Type 0 where
+  pub short : placeOf e < 2 ^ 32
+  pub there : hasPair (numberOf e) ≡ true → placeOf e + 4 ≤ n

@@ -1,0 +1,205 @@
+// Why a message is refused: the checks of its kind, one to a line, with the figures of the one that failed.
+ghost use mathlib.Core.Path.{_≡_};
+ghost use mathlib.Core.List.{[], _∷_};
+ghost use Prim.Native.Nat.{min};
+ghost use lib.ListN.{length};
+ghost use Rattle.wire.specs.Number.{u16At};
+ghost use Rattle.head.specs.declared.Kind.the-variants.{Negotiate, Challenge, Authenticate};
+ghost use Rattle.authenticate.specs.Authenticate.{allFields};
+ghost use Rattle.place.specs.Written.{bytesAnswer, bytesAfter};
+ghost use Rattle.explain.specs.Explain.{fieldsOf, numbered, ofPair, figuresOf, noFigures, figuresAs, explanation, FixedPart, NumberThere, Placed};
+use authenticate::Fields;
+use authenticate::Reading as AuthenticateReading;
+use challenge::Reading as ChallengeReading;
+use field::Field;
+use head::Kind;
+use head::flags_at;
+use head::kind_of;
+use line_checks::Figures;
+use line_checks::about_pair;
+use negotiate::Reading as NegotiateReading;
+use place::written::Written;
+use wire::number::u16_at;
+use wire::refusal::Refusal;
+
+// ---- the head of the field that a check failed at; none for field 0
+
+fn one_of_two(field: u8, first: Field, second: Field) -> Field
+    ensures { λ r. ⌜ r ≡ numbered field ((1, first) ∷ (2, second) ∷ []) ⌝ }
+{
+    if field == 1 {
+        return first;
+    }
+    if field == 2 {
+        return second;
+    }
+    Field { offset: 0, len: 0 }
+}
+
+fn one_of_six(field: u8, f: Fields) -> Field
+    ensures { λ r. ⌜ r ≡ numbered field (allFields f) ⌝ }
+{
+    if field == 1 {
+        return f.lm;
+    }
+    if field == 2 {
+        return f.nt;
+    }
+    if field == 3 {
+        return f.domain;
+    }
+    if field == 4 {
+        return f.user;
+    }
+    if field == 5 {
+        return f.workstation;
+    }
+    if field == 6 {
+        return f.key;
+    }
+    Field { offset: 0, len: 0 }
+}
+
+fn negotiate_head(msg: &[u8], field: u8) -> Field
+    requires { ⌜ FixedPart 32 field (length (now msg)) ⌝ }
+    ensures { λ r. ⌜ r ≡ numbered field (fieldsOf Negotiate (now (msg .entry))) ⌝ }
+{
+    if field == 0 {
+        return Field { offset: 0, len: 0 };
+    }
+    let f = negotiate::fields_at(msg, flags_at(msg, 12));
+    one_of_two(field, f.domain, f.workstation)
+}
+
+fn challenge_head(msg: &[u8], field: u8) -> Field
+    requires { ⌜ FixedPart 48 field (length (now msg)) ⌝ }
+    ensures { λ r. ⌜ r ≡ numbered field (fieldsOf Challenge (now (msg .entry))) ⌝ }
+{
+    if field == 0 {
+        return Field { offset: 0, len: 0 };
+    }
+    let f = challenge::fields_at(msg, flags_at(msg, 20));
+    one_of_two(field, f.target_name, f.target_info)
+}
+
+fn authenticate_head(msg: &[u8], field: u8) -> Field
+    requires { ⌜ FixedPart 64 field (length (now msg)) ⌝ }
+    ensures { λ r. ⌜ r ≡ numbered field (fieldsOf Authenticate (now (msg .entry))) ⌝ }
+{
+    if field == 0 {
+        return Field { offset: 0, len: 0 };
+    }
+    one_of_six(field, authenticate::fields_at(msg, flags_at(msg, 60)))
+}
+
+// ---- the figures
+
+// The message's length, or 65,536 for all that is longer.
+fn message_size(msg: &[u8]) -> u32
+    ensures { λ r. ⌜ r ≡ min (length (now (msg .entry))) 65536 ⌝ }
+{
+    let n = msg.len();
+    if n < 65536 {
+        return n as u32;
+    }
+    65536
+}
+
+// A number of the pair that failed, 0 where there is none.
+fn of_pair(msg: &[u8], number: u8, at: usize) -> u16
+    requires { ⌜ NumberThere number at (length (now msg)) ⌝ }
+    ensures { λ r. ⌜ r ≡ ofPair number (u16At (now (msg .entry)) at) ⌝ }
+{
+    if about_pair(number) & (number != 11) {
+        return u16_at(msg, at);
+    }
+    0
+}
+
+fn figures_of(msg: &[u8], head: Field, e: Refusal) -> Figures
+    requires { ⌜ Placed e (length (now msg)) ⌝ }
+    ensures { λ r. ⌜ r ≡ figuresOf (now (msg .entry)) head e ⌝ }
+{
+    let number = e.number();
+    let at = e.place();
+    Figures {
+        number: number,
+        field: e.field(),
+        head: head,
+        message: message_size(msg),
+        at: at as u32,
+        id: of_pair(msg, number, at),
+        size: of_pair(msg, number, at + 2),
+    }
+}
+
+// Those of a message that was taken: no check failed.
+fn no_figures() -> Figures
+    ensures { λ r. ⌜ r ≡ noFigures ⌝ }
+{
+    Figures {
+        number: 0,
+        field: 0,
+        head: Field { offset: 0, len: 0 },
+        message: 0,
+        at: 0,
+        id: 0,
+        size: 0,
+    }
+}
+
+fn negotiate_figures(msg: &[u8]) -> Figures
+    ensures { λ r. ⌜ r ≡ figuresAs Negotiate (now (msg .entry)) ⌝ }
+{
+    match negotiate::read(msg) {
+        NegotiateReading::Taken(_) => no_figures(),
+        NegotiateReading::Refused(e) => figures_of(msg, negotiate_head(msg, e.field()), e),
+    }
+}
+
+fn challenge_figures(msg: &[u8]) -> Figures
+    ensures { λ r. ⌜ r ≡ figuresAs Challenge (now (msg .entry)) ⌝ }
+{
+    let answer = challenge::read(msg);
+    let reading = answer.reading;
+    match reading {
+        ChallengeReading::Taken(_) => no_figures(),
+        ChallengeReading::Refused(e) => figures_of(msg, challenge_head(msg, e.field()), e),
+    }
+}
+
+fn authenticate_figures(msg: &[u8]) -> Figures
+    ensures { λ r. ⌜ r ≡ figuresAs Authenticate (now (msg .entry)) ⌝ }
+{
+    let answer = authenticate::read(msg);
+    let reading = answer.reading;
+    match reading {
+        AuthenticateReading::Taken(_) => no_figures(),
+        AuthenticateReading::Refused(e) => figures_of(msg, authenticate_head(msg, e.field()), e),
+    }
+}
+
+// ---- the print
+
+// The checks of the kind that the NTLM program reads the message as, at the start of the output: their length, or 33 with the
+// output as it was. A refused message's print is an answer.
+pub fn write(msg: &[u8], out: &mut [u8]) -> Written
+    ensures answer { λ r. ⌜ r ≡ bytesAnswer (explanation (now (msg .entry))) (now (out .entry)) ⌝ }
+    ensures content { λ _. ⌜ now (out .exit) ≡ bytesAfter (explanation (now (msg .entry))) (now (out .entry)) ⌝ }
+{
+    match kind_of(msg) {
+        Kind::Negotiate => {
+            line_checks::write(out, b"\x01\x02\x03\x04\x05\x06\x07", negotiate_figures(msg))
+        }
+        Kind::Challenge => line_checks::write(
+            out,
+            b"\x01\x02\x03\x04\x05\x06\x07\x08\x0B\x0C\x0A\x0D",
+            challenge_figures(msg),
+        ),
+        Kind::Authenticate => line_checks::write(
+            out,
+            b"\x01\x02\x03\x04\x05\x06\x07\x08\x09",
+            authenticate_figures(msg),
+        ),
+    }
+}

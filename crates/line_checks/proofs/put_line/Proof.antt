@@ -1,0 +1,15 @@
+-- `put_line` writes a check's line.
+use borrow.Author.Needs.{needs}
+use native.Mathlib.Omega.{arith}
+use Rattle.word.proofs.Rooms.{parts}
+use Rattle.place.proofs.Laws.{and-then}
+use Rattle.line_checks.specs.Checks.{lineOf}
+use Rattle.line_checks.proofs.put_line.Statement.{statement}
+use Rattle.line_checks.proofs.put_line.Tie as tie
+
+pub put-line-spec : {M : Type 1} → statement M
+unfolding lineOf
+put-line-spec =
+    tie.close
+    (tie.spec
+    (λ c κs. omega (arith, parts)) (λ c κs. omega (arith, parts)) (λ c. search needs) (λ c. search and-then))
