@@ -165,8 +165,9 @@ pub type LineCall = fn(&[u8], &mut [u8]) -> Result<usize, Refusal>;
 
 /// The line of a line call with room enough for any.
 pub fn line(call: LineCall, message: &[u8]) -> String {
-    // Each byte may stand in three names and takes up to 4 characters.
-    let mut room = vec![0; 128 + 12 * message.len()];
+    // Each byte may stand in three names and takes up to 4 characters; the checks
+    // of a message take up to 279.
+    let mut room = vec![0; 300 + 12 * message.len()];
     let len = call(message, &mut room).expect("room enough");
     String::from_utf8(room[..len].to_vec()).expect("ASCII")
 }
