@@ -18,7 +18,7 @@ const OF_WRITING: [Refusals; 6] = [
 
 /// Numbers, their fields and the readings and writings that can refuse by them:
 /// each must have done so itself, since kinds of message share numbers.
-const OF_CALLS: [(&[u8], &[u8], &[&str]); 18] = [
+const OF_CALLS: [(&[u8], &[u8], &[&str]); 19] = [
     (
         &[1, 2, 4, 33],
         &[0],
@@ -82,6 +82,7 @@ const OF_CALLS: [(&[u8], &[u8], &[&str]); 18] = [
     (&[31], &[2], &["write_response_pairs"]),
     (&[30], &[0], &["write_response_pairs"]),
     (&[6, 33], &[0], &["field_bytes"]),
+    (&[33], &[0], &["explain"]),
 ];
 
 /// What a kind of place is called, and whether a place is of it.
@@ -122,11 +123,12 @@ const OF_PLACES: [(&[usize], &[&str]); 3] = [
 ];
 
 /// The calls that are given two inputs which only secrets tell apart.
-const WITH_SECRETS: [&str; 8] = [
+const WITH_SECRETS: [&str; 9] = [
     "read_authenticate",
     "authenticate_line",
     "ntlm_line",
     "ntlm_program_line",
+    "explain",
     "respond",
     "respond_for_bench",
     "respond_to_old_server",
@@ -307,7 +309,8 @@ impl fmt::Display for Tally {
             }
             writeln!(f)?;
         }
-        COLUMNS.refusals(f, &refusals(), |number, field| self.refused(number, field))
+        let refused = |number, field| self.refused(number, field);
+        COLUMNS.refusals(f, "refused", &refusals(), refused)
     }
 }
 

@@ -1,3 +1,4 @@
+mod explain;
 mod response_pairs;
 
 use std::io::sink;
