@@ -1,14 +1,15 @@
 # make help lists the targets.
-.PHONY: help run lib lib-small lib-thumb install test test-firmware compare wide bench
+.PHONY: help run explain lib lib-small lib-thumb install test test-firmware compare wide bench
 
 MESSAGES ?= messages
 PREFIX ?= /usr/local
 TARGET ?= thumbv7m-none-eabi
-export MESSAGES DESTDIR
+export MESSAGES FILE DESTDIR
 
 help:
 	@echo 'make run            the depot bench: every message in messages/ through the proved program and the second one;'
 	@echo '                    MESSAGES=folder for another folder. The status is 0 where all lines are the same'
+	@echo 'make explain        why one NTLM message is refused, check by check: FILE=message, raw, in hex or in base64'
 	@echo 'make lib            the library for C and Rust: target/staticlib/libdialtable.a, whose header is include/dialtable.h'
 	@echo 'make lib-small      the same with less code: target/small/libdialtable.a'
 	@echo 'make lib-thumb      the same for a small box: target/TARGET/libdialtable.a; TARGET=thumbv7m-none-eabi is understood,'
@@ -17,13 +18,16 @@ help:
 	@echo 'make test           every proof and every test; the last line is "N passed, 0 failed"'
 	@echo 'make test-firmware  every call on an emulated Cortex-M3 and Cortex-M0 and on this machine, with the same answers;'
 	@echo '                    needs qemu-system-arm and gcc-arm-none-eabi'
-	@echo 'make compare        the part of make test that holds the two programs against the second reader, on messages from a'
+	@echo 'make compare        the part of make test that holds the three programs against the second reader, on messages from a'
 	@echo '                    seed; SEED=number for other messages, N=number for how many are drawn after those at the boundaries'
 	@echo 'make wide           the part of it that holds every call of the library against the second reader; SEED= and N= too'
 	@echo 'make bench          how fast the library is beside the second reader, its instructions, its size and its stack'
 
 run:
 	@tools/run "$$MESSAGES"
+
+explain:
+	@tools/explain "$$FILE"
 
 lib:
 	@tools/build-lib

@@ -82,8 +82,8 @@ typedef uint64_t dialtable_len;
 #define DIALTABLE_PLACE(answer) ((uint64_t)(answer) >> 16 & 0x7fffffffffffu)
 
 /* The numbers of refusals. The field is 0 where no other is said, and so is the place. AUTHENTICATE: LM response 1, NT
- * response 2, domain 3, user 4, workstation 5, session key 6. CHALLENGE: target name 1, target info 2. NEGOTIATE: domain
- * 1, workstation 2. NL_AUTH: strings A to E are 1 to 5. */
+ * response 2, domain 3, user 4, workstation 5, session key 6. CHALLENGE: target name 1, target info 2. NEGOTIATE:
+ * domain 1, workstation 2. NL_AUTH: strings A to E are 1 to 5. */
 enum {
     DIALTABLE_REFUSED_TOO_LONG = 1,           /* message over 65,535 bytes */
     DIALTABLE_REFUSED_TOO_SHORT = 2,          /* shorter than its fixed part */
@@ -299,6 +299,18 @@ uint64_t dialtable_ntlm_line(const uint8_t *msg, dialtable_len msg_len, uint8_t 
 /* What the programs print: the line, or that of 33 ('refused 33 field=0 at=0') where it has no room. */
 uint64_t dialtable_ntlm_program_line(const uint8_t *msg, dialtable_len msg_len, uint8_t *out, dialtable_len out_len);
 uint64_t dialtable_nl_auth_program_line(const uint8_t *msg, dialtable_len msg_len, uint8_t *out, dialtable_len out_len);
+
+/* ---- Why a message is refused. The checks of the kind that dialtable_ntlm_line reads it as, one to a line, each with
+ * its 0A at the end: 'check NUMBER held', 'check NUMBER not reached', and of a refused message one
+ *     check NUMBER failed field=FIELD offset=OFFSET length=LENGTH message=LENGTH
+ * with the head of that field as it stands in the message (0 and 0 for field 0) and the message's length, at most
+ * 65536. For 10 to 13 ' at=PLACE id=ID size=SIZE' follows: the pair's place, its id and its length number (0 and 0 for
+ * 11). Checks 1 to 7 are those of every kind, then come 8 and 9 of an AUTHENTICATE, or 8, 11, 12, 10 and 13 of a
+ * CHALLENGE: the order in which they are made. No line has a byte of a secret. A refused message is no refusal here.
+ * Answers the print's length, or 33. */
+
+#define DIALTABLE_EXPLAIN_ROOM 279 /* always suffices: what follows check 1 of a CHALLENGE over 65,535 bytes */
+uint64_t dialtable_explain(const uint8_t *msg, dialtable_len msg_len, uint8_t *out, dialtable_len out_len);
 
 /* ---- Writing. Answers the message's length. */
 

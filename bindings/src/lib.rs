@@ -40,11 +40,11 @@ pub use answering::{
     write_response_pairs, Answer, Decision, Settings,
 };
 pub use lines::{
-    authenticate_line, challenge_line, negotiate_line, nl_auth_line, nl_auth_program_line,
+    authenticate_line, challenge_line, explain, negotiate_line, nl_auth_line, nl_auth_program_line,
     ntlm_line, ntlm_program_line,
 };
 pub use pairs::{check_pairs, count_pairs, find_pair, Pair, Walk};
-pub use raw::Parts;
+pub use raw::{Parts, EXPLAIN_ROOM};
 pub use reading::{
     nl_auth_name, read_authenticate, read_challenge, read_negotiate, read_nl_auth,
     read_server_names, read_timestamp, Authenticate, Challenge, Field, Negotiate, NlAuth,

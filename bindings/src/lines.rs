@@ -1,5 +1,5 @@
-//! Log lines, each with its 0A. A refused message has a line too; the only
-//! refusal is 33, where the line has no room.
+//! Log lines, each with its 0A, and the checks of a message. A refused message has
+//! them too; the only refusal is 33, where there is no room.
 
 use crate::{raw, written, Refusal};
 
@@ -30,4 +30,10 @@ lines! {
     /// What the NL_AUTH program prints: the line, or that of 33 where it has no
     /// room.
     nl_auth_program_line;
+    /// The checks of a message, read as [`ntlm_line`] does, one to a line: held,
+    /// failed with the figures to look at, or not reached. [`EXPLAIN_ROOM`] bytes
+    /// suffice for any message.
+    ///
+    /// [`EXPLAIN_ROOM`]: crate::EXPLAIN_ROOM
+    explain;
 }

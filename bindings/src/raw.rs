@@ -29,6 +29,9 @@ pub const DECISION_NUMBERS: usize = 3;
 /// How many numbers [`respond`] and its three thin calls give.
 pub const RESPONSE_NUMBERS: usize = 2;
 
+/// Room that suffices for every print of [`explain`].
+pub const EXPLAIN_ROOM: usize = 279;
+
 /// The setting "128-bit demanded".
 pub const DEMAND_128: u32 = 1;
 /// The setting "NTLMv2".
@@ -90,6 +93,8 @@ mod c {
         pub fn dialtable_ntlm_line(msg: *const u8, msg_len: usize, out: *mut u8, out_len: usize) -> u64;
         pub fn dialtable_ntlm_program_line(msg: *const u8, msg_len: usize, out: *mut u8, out_len: usize) -> u64;
         pub fn dialtable_nl_auth_program_line(msg: *const u8, msg_len: usize, out: *mut u8, out_len: usize) -> u64;
+
+        pub fn dialtable_explain(msg: *const u8, msg_len: usize, out: *mut u8, out_len: usize) -> u64;
 
         pub fn dialtable_write_authenticate(out: *mut u8, out_len: usize, flags: u32, version: *const u8,
                                             mic: *const u8, lm: *const u8, lm_len: usize, nt: *const u8,
@@ -226,6 +231,8 @@ line_calls! {
     ntlm_program_line => dialtable_ntlm_program_line;
     /// What the NL_AUTH program prints.
     nl_auth_program_line => dialtable_nl_auth_program_line;
+    /// The checks of a message read as the NTLM program does.
+    explain => dialtable_explain;
 }
 
 /// The text of one string of an NL_AUTH message, as its line shows it.

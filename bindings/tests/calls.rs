@@ -3,13 +3,13 @@
 use std::fs;
 
 use dialtable::{
-    authenticate_line, challenge_line, check_pairs, count_pairs, decide, domain_to_send, find_pair,
-    negotiate_line, nl_auth_line, nl_auth_name, nl_auth_program_line, ntlm_line, ntlm_program_line,
-    raw, read_authenticate, read_challenge, read_negotiate, read_nl_auth, read_server_names,
-    read_timestamp, respond, respond_for_bench, respond_for_relay, respond_to_old_server,
-    write_authenticate, write_negotiate, write_nl_auth_request, write_nl_auth_response,
-    write_response_pairs, Answer, Decision, Field, Negotiate, NlAuth, NlAuthString, Pair, Parts,
-    Reason, Refusal, ServerNames, Settings, Walk,
+    authenticate_line, challenge_line, check_pairs, count_pairs, decide, domain_to_send, explain,
+    find_pair, negotiate_line, nl_auth_line, nl_auth_name, nl_auth_program_line, ntlm_line,
+    ntlm_program_line, raw, read_authenticate, read_challenge, read_negotiate, read_nl_auth,
+    read_server_names, read_timestamp, respond, respond_for_bench, respond_for_relay,
+    respond_to_old_server, write_authenticate, write_negotiate, write_nl_auth_request,
+    write_nl_auth_response, write_response_pairs, Answer, Decision, Field, Negotiate, NlAuth,
+    NlAuthString, Pair, Parts, Reason, Refusal, ServerNames, Settings, Walk, EXPLAIN_ROOM,
 };
 
 const UNICODE: u32 = 0x1;
@@ -438,6 +438,42 @@ fn a_line_with_no_room_is_refused_and_changes_nothing() {
 }
 
 #[test]
+fn the_checks_of_a_message() {
+    let mut room = [0xEE; EXPLAIN_ROOM];
+    let held = "check 1 held\ncheck 2 held\ncheck 3 held\ncheck 4 held\ncheck 5 held\n";
+    let all = format!("{held}check 6 held\ncheck 7 held\ncheck 8 held\ncheck 9 held\n");
+    assert_eq!(explain(&p1(), &mut room), Ok(all.as_bytes()));
+    assert!(room[all.len()..].iter().all(|&byte| byte == 0xEE));
+    let mut past = p1();
+    past[40] = 113;
+    let told = format!(
+        "{held}check 6 failed field=4 offset=113 length=8 message=120\n\
+         check 7 not reached\ncheck 8 not reached\ncheck 9 not reached\n"
+    );
+    assert_eq!(explain(&past, &mut room), Ok(told.as_bytes()));
+    let bad = file("messages/challenge-timestamp-short.bin");
+    let told = format!(
+        "{held}check 6 held\ncheck 7 held\ncheck 8 held\ncheck 11 held\ncheck 12 held\n\
+         check 10 held\n\
+         check 13 failed field=2 offset=70 length=64 message=134 at=118 id=7 size=4\n"
+    );
+    assert_eq!(explain(&bad, &mut room), Ok(told.as_bytes()));
+    let seven = format!("{held}check 6 held\ncheck 7 held\n");
+    assert_eq!(explain(&negotiate(), &mut room), Ok(seven.as_bytes()));
+
+    // The longest print has exactly this room, and no less.
+    let mut long = challenge();
+    long.resize(70_000, 0);
+    let told = explain(&long, &mut room).expect("room");
+    assert!(told.starts_with(b"check 1 failed field=0 offset=0 length=0 message=65536\n"));
+    assert_eq!(told.len(), EXPLAIN_ROOM);
+    let mut short = [0xEE; EXPLAIN_ROOM - 1];
+    assert_eq!(refusal(explain(&long, &mut short)), (33, 0));
+    assert_eq!(refusal(explain(&long, &mut [])), (33, 0));
+    assert_eq!(short, [0xEE; EXPLAIN_ROOM - 1]);
+}
+
+#[test]
 fn what_is_written_reads_back() {
     let flags = UNICODE | VERSION | KEY_EXCH;
     let parts = parts();
@@ -805,6 +841,7 @@ fn any_bytes_are_answered() {
         assert!(find_pair(message, 7).is_err() || check_pairs(message).is_ok());
         assert!(ntlm_line(message, &mut room).is_ok());
         assert!(nl_auth_program_line(message, &mut room).is_ok());
+        assert!(explain(message, &mut [0; EXPLAIN_ROOM]).is_ok());
         let _ = respond_for_bench(&mut room, message, CLOCK, true, &parts());
         let _ = write_response_pairs(&mut room, message, b"n\0", true, &[1; 16]);
     }

@@ -470,7 +470,7 @@ typedef uint64_t line_call(const uint8_t *msg, dialtable_len msg_len, uint8_t *o
 /* The line at exactly its room, with bytes after it, and with one byte less. */
 static void has_line(line_call *call, const uint8_t *msg, dialtable_len msg_len, const char *expected)
 {
-    uint8_t out[256];
+    uint8_t out[512];
     size_t len = strlen(expected);
 
     memset(out, FILL, sizeof out);
@@ -512,6 +512,69 @@ static void prints_lines(const message_t *p1, const message_t *challenge)
     /* The main job: what a log would have. */
     EQUAL(dialtable_ntlm_line(p1->bytes, p1->len, out, sizeof out), strlen(p1_line));
     fwrite(out, 1, strlen(p1_line), stdout);
+}
+
+#define HELD_5 "check 1 held\ncheck 2 held\ncheck 3 held\ncheck 4 held\ncheck 5 held\n"
+#define HELD_8 HELD_5 "check 6 held\ncheck 7 held\ncheck 8 held\n"
+
+/* The checks of each kind of message, held, failed and not reached. */
+static void explains(const message_t *p1, const message_t *challenge)
+{
+    message_t other = *p1;
+
+    has_line(dialtable_explain, p1->bytes, p1->len, HELD_8 "check 9 held\n");
+    has_line(dialtable_explain, nego, NEGO_LEN, HELD_5 "check 6 held\ncheck 7 held\n");
+    has_line(dialtable_explain, challenge->bytes, challenge->len,
+             HELD_8 "check 11 held\ncheck 12 held\ncheck 10 held\ncheck 13 held\n");
+    has_line(dialtable_explain, NULL, 0,
+             "check 1 held\ncheck 2 failed field=0 offset=0 length=0 message=0\ncheck 3 not reached\n"
+             "check 4 not reached\ncheck 5 not reached\ncheck 6 not reached\ncheck 7 not reached\n"
+             "check 8 not reached\ncheck 9 not reached\n");
+    other.bytes[40] = 113;
+    has_line(dialtable_explain, other.bytes, other.len,
+             HELD_5 "check 6 failed field=4 offset=113 length=8 message=120\ncheck 7 not reached\n"
+                    "check 8 not reached\ncheck 9 not reached\n");
+    other.bytes[40] = 112;
+    has_line(dialtable_explain, other.bytes, other.len,
+             HELD_8 "check 9 failed field=4 offset=112 length=8 message=120\n");
+    has_line(dialtable_explain, nego, NEGO_LEN - 1,
+             HELD_5 "check 6 failed field=2 offset=47 length=5 message=51\ncheck 7 not reached\n");
+    /* The pairs of TargetInfo: at 118 the timestamp, at 130 the end pair. */
+    other = *challenge;
+    other.bytes[120] = 4;
+    has_line(dialtable_explain, other.bytes, other.len,
+             HELD_8 "check 11 held\ncheck 12 held\ncheck 10 held\n"
+                    "check 13 failed field=2 offset=70 length=64 message=134 at=118 id=7 size=4\n");
+    other.bytes[120] = 200;
+    has_line(dialtable_explain, other.bytes, other.len,
+             HELD_8 "check 11 held\ncheck 12 held\n"
+                    "check 10 failed field=2 offset=70 length=64 message=134 at=118 id=7 size=200\n"
+                    "check 13 not reached\n");
+    other = *challenge;
+    other.bytes[132] = 9;
+    has_line(dialtable_explain, other.bytes, other.len,
+             HELD_8 "check 11 held\n"
+                    "check 12 failed field=2 offset=70 length=64 message=134 at=130 id=0 size=9\n"
+                    "check 10 not reached\ncheck 13 not reached\n");
+    other.bytes[40] = 63;
+    has_line(dialtable_explain, other.bytes, other.len,
+             HELD_8 "check 11 failed field=2 offset=70 length=63 message=134 at=130 id=0 size=0\n"
+                    "check 12 not reached\ncheck 10 not reached\ncheck 13 not reached\n");
+}
+
+/* The room that always suffices is that of a CHALLENGE which is too long. */
+static void explains_the_longest(void)
+{
+    static uint8_t message[65537];
+    uint8_t out[DIALTABLE_EXPLAIN_ROOM];
+    unsigned type;
+
+    for (type = 1; type <= 3; type++) {
+        static const unsigned lens[] = {175, DIALTABLE_EXPLAIN_ROOM, 215};
+        message[8] = (uint8_t)type;
+        EQUAL(dialtable_explain(message, sizeof message, out, sizeof out), lens[type - 1]);
+        CHECK(memcmp(out, "check 1 failed field=0 offset=0 length=0 message=65536\ncheck 2 not reached\n", 75) == 0);
+    }
 }
 
 static const uint8_t version[8] = {10, 0, 0x61, 0x4A, 0, 0, 0, 15};
@@ -959,6 +1022,8 @@ int main(int argc, char **argv)
     says_where(&challenge);
     shows_far_places(&challenge);
     prints_lines(&p1, &challenge);
+    explains(&p1, &challenge);
+    explains_the_longest();
     writes_and_reads_back();
     writes_negotiate();
     writes_the_longest_negotiate();

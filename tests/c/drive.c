@@ -128,6 +128,7 @@ static void prints(unsigned room)
     CALL(dialtable_ntlm_line(msg, len, out, room));
     CALL(dialtable_ntlm_program_line(msg, len, out, room));
     CALL(dialtable_nl_auth_program_line(msg, len, out, room));
+    CALL(dialtable_explain(msg, len, out, room));
 }
 
 static const uint8_t version[8] = {6, 1, 0xB1, 0x1D, 0, 0, 0, 15};

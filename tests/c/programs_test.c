@@ -1,6 +1,6 @@
 /*
- * The two proved programs on inputs and outputs that fail, come in pieces or have no room. A line is printed only where the
- * input was read to its end; where reading or writing fails, standard error has one line that says so.
+ * The three proved programs on inputs and outputs that fail, come in pieces or have no room. Something is printed only where
+ * the input was read to its end; where reading or writing fails, standard error has one line that says so.
  * programs_test PROGRAMS CRATES LIBRARY: the folders of the programs and of their crates, and the library of short_reads.c.
  * The last line is 'N passed, M failed'.
  */
@@ -24,9 +24,11 @@ struct text {
     size_t len;
 };
 
-/* A program, the message that its crate has for it, and that message's line. */
+/* A program, what it prints for no input and for too much, the message that its crate has for it, and what it prints for
+ * that. */
 struct program {
     const char *name;
+    const char *of_none, *of_too_much;
     char path[ROOM];
     struct text message;
     struct text line;
@@ -234,8 +236,6 @@ static void cannot_write(const struct program *program, const char *what, const 
 
 static void from_files(const struct program *program)
 {
-    static const char refused_2[] = "refused 2 field=0 at=0\n";
-    static const char refused_1[] = "refused 1 field=0 at=0\n";
     static const char zeros[200000];
     static const size_t too_long[] = {65536, 65537, sizeof zeros};
     size_t i;
@@ -243,11 +243,12 @@ static void from_files(const struct program *program)
     reads_whole(program, "a file", &plain, in);
     close(in);
     in = opened("/dev/null", O_RDONLY);
-    on_input(program, "an empty input", &plain, in, refused_2, sizeof refused_2 - 1, NULL);
+    on_input(program, "an empty input", &plain, in, program->of_none, strlen(program->of_none), NULL);
     close(in);
     for (i = 0; i < sizeof too_long / sizeof *too_long; i++) {
         in = holding(zeros, too_long[i]);
-        on_input(program, "an input of more than 65,535 bytes", &plain, in, refused_1, sizeof refused_1 - 1, NULL);
+        on_input(program, "an input of more than 65,535 bytes", &plain, in, program->of_too_much,
+                 strlen(program->of_too_much), NULL);
         close(in);
     }
 }
@@ -412,7 +413,17 @@ static void test(const struct program *program, const char *preload)
 
 int main(int argc, char **argv)
 {
-    static const char *const names[] = {"ntlm_line", "nl_auth_line"};
+#define NOT_REACHED_3_TO_9 \
+    "check 3 not reached\ncheck 4 not reached\ncheck 5 not reached\ncheck 6 not reached\ncheck 7 not reached\n" \
+    "check 8 not reached\ncheck 9 not reached\n"
+    static const char refused_2[] = "refused 2 field=0 at=0\n", refused_1[] = "refused 1 field=0 at=0\n";
+    static const struct {
+        const char *name, *of_none, *of_too_much;
+    } programs[] = {
+        {"ntlm_line", refused_2, refused_1},
+        {"nl_auth_line", refused_2, refused_1},
+        {"ntlm_explain", "check 1 held\ncheck 2 failed field=0 offset=0 length=0 message=0\n" NOT_REACHED_3_TO_9,
+         "check 1 failed field=0 offset=0 length=0 message=65536\ncheck 2 not reached\n" NOT_REACHED_3_TO_9}};
     size_t i;
     int fd;
     if (argc != 4) {
@@ -424,12 +435,14 @@ int main(int argc, char **argv)
     close(fd);
     /* A program that ends early fails its test and ends no other. */
     signal(SIGPIPE, SIG_IGN);
-    for (i = 0; i < sizeof names / sizeof *names; i++) {
+    for (i = 0; i < sizeof programs / sizeof *programs; i++) {
         struct program program;
-        program.name = names[i];
-        snprintf(program.path, sizeof program.path, "%s/%s", argv[1], names[i]);
-        get_file(argv[2], names[i], "stdin", &program.message);
-        get_file(argv[2], names[i], "stdout", &program.line);
+        program.name = programs[i].name;
+        program.of_none = programs[i].of_none;
+        program.of_too_much = programs[i].of_too_much;
+        snprintf(program.path, sizeof program.path, "%s/%s", argv[1], program.name);
+        get_file(argv[2], program.name, "stdin", &program.message);
+        get_file(argv[2], program.name, "stdout", &program.line);
         test(&program, argv[3]);
     }
     printf("%d passed, %d failed\n", passed, failed);

@@ -60,6 +60,7 @@ static void measure(const uint8_t *msg, dialtable_len len)
     STACK(ntlm_line, msg, len, out, sizeof out);
     STACK(ntlm_program_line, msg, len, out, sizeof out);
     STACK(nl_auth_program_line, msg, len, out, sizeof out);
+    STACK(explain, msg, len, out, sizeof out);
     STACK(write_authenticate, out, sizeof out, 0xE28A8215u, zeros, zeros, zeros, 24, zeros, 24, NAMES, zeros, 16);
     STACK(write_negotiate, out, sizeof out, 0xA2088207u, zeros, zeros, 5, zeros, 5);
     STACK(write_nl_auth_request, out, sizeof out, 31, msg, 1, msg, 1, msg, 1, msg, 1, msg, 1);

@@ -162,6 +162,19 @@ pub fn six_pairs() -> Vec<u8> {
     list
 }
 
+/// The same without the end pair.
+pub fn cut_pairs() -> Vec<u8> {
+    let mut list = six_pairs();
+    list.truncate(list.len() - 4);
+    list
+}
+
+/// A message whose last field ends past it by a byte.
+pub fn past_end(mut message: Vec<u8>) -> Vec<u8> {
+    message.pop();
+    message
+}
+
 /// A list of `len` bytes, of target names as long as there is room for them, and
 /// a timestamp at its end.
 pub fn long_list(len: usize) -> Vec<u8> {

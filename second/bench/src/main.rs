@@ -12,7 +12,7 @@ use std::time::{Duration, Instant};
 
 use dialtable::raw;
 use reader::{
-    answer_for_bench, authenticate_line, challenge_line, negotiate_line, nl_auth_line,
+    answer_for_bench, authenticate_line, challenge_line, explain, negotiate_line, nl_auth_line,
     nl_auth_name, write_authenticate, write_negotiate, write_nl_auth_request, write_response_pairs,
     Authenticate, AvId, Challenge, Negotiate, NlAuth, NlAuthFlags, Refusal, Secrets, TargetInfo,
 };
@@ -248,10 +248,13 @@ fn usual() -> Vec<Measured> {
         read_nl_auth(inputs::nl_auth_names(), "a jump"),
         name_of_nl_auth(inputs::nl_auth_names(), 4, "a jump"),
         line_of_challenge(challenge.clone()),
-        line_of_authenticate(message, "a line of 100 bytes"),
+        line_of_authenticate(message.clone(), "a line of 100 bytes"),
         line_of_negotiate(negotiate),
         line_of_nl_auth(nl_auth, ""),
         line_of_nl_auth(inputs::nl_auth_names(), "a jump"),
+        checks_of(challenge.clone(), "all held"),
+        checks_of(inputs::past_end(message), "check 6 failed"),
+        checks_of(inputs::challenge(&inputs::cut_pairs()), "check 11 failed"),
         find_pair(inputs::six_pairs(), "the last of six pairs"),
         write(account.clone()),
         open(opening),
@@ -309,6 +312,10 @@ fn growing() -> Vec<Measured> {
     each(|len| line_of_challenge(inputs::challenge(&inputs::long_list(len - BEFORE_LIST))));
     each(|len| line_of_negotiate(Opening::of_message(len).message(FLAGS)));
     each(|len| line_of_nl_auth(inputs::nl_auth(len), ""));
+    each(|len| {
+        let list = inputs::long_list(len - BEFORE_LIST);
+        checks_of(inputs::challenge(&list), "of pairs")
+    });
     each(|len| find_pair(inputs::long_list(len), "the last pair"));
     each(|len| write(Account::of_message(len)));
     each(|len| open(Opening::of_message(len)));
@@ -441,6 +448,11 @@ fn line_of_nl_auth(message: Vec<u8>, what: &str) -> Measured {
         nl_auth_line,
         message,
     )
+}
+
+fn checks_of(message: Vec<u8>, what: &str) -> Measured {
+    let on = format!("{what} {}", bytes(&message));
+    line("explain", on, raw::explain, explain, message)
 }
 
 fn line(
@@ -630,6 +642,17 @@ mod tests {
         let challenge = Challenge::read(&inputs::challenge(&inputs::six_pairs()))
             .map(|challenge| (challenge.flags, challenge.pairs.pairs));
         assert_eq!(challenge, Ok((NegotiateFlags(FLAGS), 6)));
+        let failed = |message: &[u8]| {
+            let mut out = room();
+            let len = explain(message, &mut out).expect("room");
+            let print = String::from_utf8_lossy(&out[..len]).into_owned();
+            let line = print.lines().find(|line| line.contains("failed"));
+            line.map(|line| line.split(" field").next().unwrap_or(line).to_owned())
+        };
+        let past = failed(&inputs::past_end(message));
+        assert_eq!(past.as_deref(), Some("check 6 failed"));
+        let cut = failed(&inputs::challenge(&inputs::cut_pairs()));
+        assert_eq!(cut.as_deref(), Some("check 11 failed"));
         let opening = Opening::usual().message(FLAGS);
         let names =
             Negotiate::read(&opening).map(|read| (read.domain.bytes, read.workstation.bytes));

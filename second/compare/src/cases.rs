@@ -12,7 +12,8 @@ pub struct Case {
     pub message: Vec<u8>,
 }
 
-/// The messages at every boundary, then as many drawn ones as asked for.
+/// The messages at every boundary, then as many drawn ones as asked for. What goes
+/// to the NTLM program goes to the one that explains it too.
 pub fn cases(seed: u64, drawn: usize) -> Vec<Case> {
     let random = &mut Random::new(seed);
     let mut cases = Vec::new();
@@ -31,6 +32,13 @@ pub fn cases(seed: u64, drawn: usize) -> Vec<Case> {
     for _ in 0..drawn {
         cases.push(drawn_case(random));
     }
+    let explained = |case: &Case| Case {
+        program: Program::Explain,
+        ..case.clone()
+    };
+    let ntlm = cases.iter().filter(|case| case.program == Program::Ntlm);
+    let explained: Vec<Case> = ntlm.map(explained).collect();
+    cases.extend(explained);
     cases
 }
 
@@ -58,7 +66,20 @@ mod tests {
     fn a_seed_gives_the_same_messages_again() {
         assert_eq!(cases(7, 50), cases(7, 50));
         assert_ne!(cases(7, 50), cases(8, 50));
-        assert_eq!(cases(7, 0).len() + 50, cases(7, 50).len());
+        // Each drawn one is for one program, and mostly for the one that explains.
+        let more = cases(7, 50).len() - cases(7, 0).len();
+        assert!((50..=100).contains(&more), "{more}");
+    }
+
+    #[test]
+    fn the_same_messages_are_explained() {
+        let cases = cases(7, 50);
+        let of = |program| {
+            let of_program = cases.iter().filter(move |case| case.program == program);
+            of_program.map(|case| &case.message)
+        };
+        assert!(of(Program::Ntlm).eq(of(Program::Explain)));
+        assert!(of(Program::Ntlm).count() > 1_000);
     }
 
     #[test]

@@ -71,8 +71,8 @@ pub fn compare<E: Send>(
 impl Report {
     fn add(&mut self, index: usize, proved: Answer, line: &[u8]) {
         self.tally.add(line);
-        let second = Answer::Line(line.to_vec());
-        if !proved.is_same_line(&second) {
+        let second = Answer::Printed(line.to_vec());
+        if !proved.is_same(&second) {
             self.different.push(Difference {
                 index,
                 proved,
@@ -140,7 +140,7 @@ mod tests {
     fn every_kind_of_answer_is_reached_without_drawn_messages() {
         for seed in [0, 1, 5, u64::MAX] {
             let report = compare(&cases(seed, 0), 2, |case| {
-                Ok::<_, Infallible>(Answer::Line(reader_line(case)))
+                Ok::<_, Infallible>(Answer::Printed(reader_line(case)))
             });
             let report = report.expect("no error");
             assert!(report.different.is_empty());
@@ -158,7 +158,7 @@ mod tests {
                 if case == &cases[planted] {
                     line.insert(1, b' ');
                 }
-                Ok::<_, Infallible>(Answer::Line(line))
+                Ok::<_, Infallible>(Answer::Printed(line))
             });
             let found = report.expect("no error").different;
             assert!(found.iter().any(|difference| difference.index == planted));
@@ -177,7 +177,7 @@ mod tests {
     /// What is printed for these messages where the program says `line` to all.
     fn printed(cases: &[Case], line: &[u8]) -> (usize, String) {
         let report = compare(cases, 2, |_| {
-            Ok::<_, Infallible>(Answer::Line(line.to_vec()))
+            Ok::<_, Infallible>(Answer::Printed(line.to_vec()))
         });
         let mut out = Vec::new();
         let failed = report.expect("no error").print(3, cases, &mut out);

@@ -17,18 +17,36 @@ pub enum Kind {
         number: u8,
         field: u8,
     },
-    /// None of document 01's forms.
+    /// So many checks, all held.
+    Held(usize),
+    /// Checks of which this one failed.
+    Failed {
+        number: u8,
+        field: u8,
+    },
+    /// None of the forms of documents 01 and 02.
     Other,
 }
 
-/// The lines other than refusals, and what they are called.
-const TAKEN: [(Kind, &str); 6] = [
+/// The lines other than refusals and the prints of checks that held, and what
+/// they are called.
+const TAKEN: [(Kind, &str); 9] = [
     (Kind::Authenticate, "auth"),
     (Kind::ChallengeWithTime, "chal with time"),
     (Kind::ChallengeWithoutTime, "chal without time"),
     (Kind::Negotiate, "nego"),
     (Kind::NlAuthRequest, "nl type=0"),
     (Kind::NlAuthResponse, "nl type=1"),
+    (Kind::Held(7), "7 checks held"),
+    (Kind::Held(9), "9 checks held"),
+    (Kind::Held(12), "12 checks held"),
+];
+
+/// The checks of each kind of message, in the order of their print.
+const CHECKS: [&[u8]; 3] = [
+    &[1, 2, 3, 4, 5, 6, 7],
+    &[1, 2, 3, 4, 5, 6, 7, 8, 9],
+    &[1, 2, 3, 4, 5, 6, 7, 8, 11, 12, 10, 13],
 ];
 
 /// The number of a refusal, and each field that it can have.
@@ -69,6 +87,7 @@ impl Kind {
         };
         let words: Vec<&[u8]> = text.split(|&byte| byte == b' ').collect();
         match words.as_slice() {
+            [b"check", ..] => Self::checks(text).unwrap_or(Self::Other),
             [b"auth", ..] => Self::Authenticate,
             [b"chal", .., last] if last.starts_with(b"time=") => Self::ChallengeWithTime,
             [b"chal", ..] => Self::ChallengeWithoutTime,
@@ -80,6 +99,46 @@ impl Kind {
             }
             _ => Self::Other,
         }
+    }
+
+    /// The kind of a print of checks: those of one kind of message, in order,
+    /// held up to one that failed, and not reached after it.
+    fn checks(text: &[u8]) -> Option<Self> {
+        let lines: Vec<&[u8]> = text.split(|&byte| byte == b'\n').collect();
+        let checks = CHECKS.iter().find(|checks| checks.len() == lines.len())?;
+        let mut failed = None;
+        for (line, check) in lines.iter().zip(*checks) {
+            let start = format!("check {check} ");
+            let state = line.strip_prefix(start.as_bytes())?;
+            match state {
+                b"held" if failed.is_none() => {}
+                b"not reached" if failed.is_some() => {}
+                _ if failed.is_none() => failed = Some(Self::failed(*check, state)?),
+                _ => return None,
+            }
+        }
+        Some(failed.unwrap_or(Self::Held(lines.len())))
+    }
+
+    /// A check that failed, by the words after its number: every figure is there,
+    /// and the length of a message is at most 65,536.
+    fn failed(number: u8, state: &[u8]) -> Option<Self> {
+        let words: Vec<&[u8]> = state.split(|&byte| byte == b' ').collect();
+        let (first, figures) = words.split_first()?;
+        let mut names = vec!["field", "offset", "length", "message"];
+        if matches!(number, 10..=13) {
+            names.extend(["at", "id", "size"]);
+        }
+        if *first != b"failed" || figures.len() != names.len() {
+            return None;
+        }
+        let mut numbers = Vec::new();
+        for (name, figure) in names.iter().zip(figures) {
+            let digits = figure.strip_prefix(name.as_bytes())?.strip_prefix(b"=")?;
+            numbers.push(parse::<u32>(digits)?);
+        }
+        let field = u8::try_from(numbers[0]).ok()?;
+        (numbers[3] <= 65_536).then_some(Self::Failed { number, field })
     }
 
     fn refused(number: &[u8], field: &[u8], place: &[u8]) -> Option<Self> {
@@ -102,12 +161,23 @@ fn parse<N: FromStr>(digits: &[u8]) -> Option<N> {
 
 impl fmt::Display for Kind {
     fn fmt(&self, f: &mut fmt::Formatter<'_>) -> fmt::Result {
-        if let Self::Refused { number, field } = self {
-            return write!(f, "refused {number} field={field}");
+        match self {
+            Self::Refused { number, field } => {
+                return write!(f, "refused {number} field={field}");
+            }
+            Self::Failed { number, field } => {
+                return write!(f, "check {number} failed field={field}");
+            }
+            _ => {}
         }
         let taken = TAKEN.iter().find(|(kind, _)| kind == self);
         f.write_str(taken.map_or("no line of any form", |(_, name)| name))
     }
+}
+
+/// The refusals that are checks of an NTLM message.
+fn of_checks() -> impl Iterator<Item = (u8, u8)> {
+    each_refusal(&REFUSALS).filter(|(number, _)| *number <= 13)
 }
 
 /// Each number of a table with each of its fields.
@@ -137,13 +207,14 @@ impl Columns {
     pub fn refusals(
         &self,
         f: &mut fmt::Formatter<'_>,
+        word: &str,
         table: &[Refusals],
         count: impl Fn(u8, u8) -> u64,
     ) -> fmt::Result {
         for &(number, fields) in table {
             let counts = fields.iter().map(|&field| (field, count(number, field)));
             let all = counts.clone().map(|(_, count)| count).sum();
-            self.row(f, &format!("refused {number}"), all)?;
+            self.row(f, &format!("{word} {number}"), all)?;
             if fields.len() > 1 {
                 let each: Vec<String> = counts
                     .map(|(field, count)| format!("field {field}: {count}"))
@@ -175,8 +246,10 @@ impl Tally {
         let taken = TAKEN.map(|(kind, _)| kind).into_iter();
         let refused =
             each_refusal(&REFUSALS).map(|(number, field)| Kind::Refused { number, field });
+        let failed = of_checks().map(|(number, field)| Kind::Failed { number, field });
         taken
             .chain(refused)
+            .chain(failed)
             .filter(|&kind| self.count(kind) == 0)
             .collect()
     }
@@ -188,6 +261,7 @@ impl Tally {
             Kind::Refused { number, field } => {
                 each_refusal(&REFUSALS).any(|refusal| refusal == (number, field))
             }
+            Kind::Failed { number, field } => of_checks().any(|check| check == (number, field)),
             Kind::Other => false,
             _ => true,
         };
@@ -208,15 +282,18 @@ impl fmt::Display for Tally {
             COLUMNS.row(f, name, self.count(kind))?;
             writeln!(f)?;
         }
-        COLUMNS.refusals(f, &REFUSALS, |number, field| {
-            self.count(Kind::Refused { number, field })
-        })
+        let refused = |number, field| self.count(Kind::Refused { number, field });
+        COLUMNS.refusals(f, "refused", &REFUSALS, refused)?;
+        let checks = REFUSALS.iter().filter(|(number, _)| *number <= 13);
+        let checks: Vec<Refusals> = checks.copied().collect();
+        let failed = |number, field| self.count(Kind::Failed { number, field });
+        COLUMNS.refusals(f, "failed check", &checks, failed)
     }
 }
 
 #[cfg(test)]
 mod tests {
-    use super::{Kind, Tally};
+    use super::{Kind, Tally, CHECKS};
 
     #[test]
     fn each_line_has_its_kind() {
@@ -266,13 +343,58 @@ mod tests {
     }
 
     #[test]
+    fn each_print_of_checks_has_its_kind() {
+        let held = |checks: &[u8]| {
+            let lines = checks.iter().map(|check| format!("check {check} held\n"));
+            lines.collect::<String>()
+        };
+        for checks in CHECKS {
+            let kind = Kind::Held(checks.len());
+            assert_eq!(Kind::of(held(checks).as_bytes()), kind);
+        }
+        let all = held(CHECKS[0]);
+        let failed = "check 6 failed field=2 offset=45 length=5 message=49\ncheck 7 not reached\n";
+        let print = all.replace("check 6 held\ncheck 7 held\n", failed);
+        let kind = Kind::Failed {
+            number: 6,
+            field: 2,
+        };
+        assert_eq!(Kind::of(print.as_bytes()), kind);
+        for other in [
+            all.replace("check 7 held\n", ""),
+            all.replace("check 6 held", "check 6 not reached"),
+            all.replace("check 2", "check 3"),
+            print.replace("7 not reached", "7 held"),
+            print.replace("49", "65537"),
+            print.replace(" message=49", ""),
+            print.replace("message=49", "message=49 at=0"),
+            print.replace("offset=45", "offset="),
+            print.replace("5 held", "5 failed field=0 offset=0 length=0 message=49"),
+            print.trim_end().to_owned(),
+        ] {
+            assert_eq!(Kind::of(other.as_bytes()), Kind::Other, "{other}");
+        }
+        let print = held(CHECKS[2]).replace(
+            "13 held",
+            "13 failed field=2 offset=70 length=64 message=134 at=118 id=7 size=4",
+        );
+        let kind = Kind::Failed {
+            number: 13,
+            field: 2,
+        };
+        assert_eq!(Kind::of(print.as_bytes()), kind);
+        let without = print.replace(" size=4", "");
+        assert_eq!(Kind::of(without.as_bytes()), Kind::Other);
+    }
+
+    #[test]
     fn what_was_not_reached_is_named() {
         let mut tally = Tally::default();
-        assert_eq!(tally.not_reached().len(), 6 + 49);
+        assert_eq!(tally.not_reached().len(), 9 + 49 + 28);
         tally.add(b"refused 8 field=5 at=0\n");
         tally.add(b"auth\n");
         let missing = tally.not_reached();
-        assert_eq!(missing.len(), 6 + 49 - 2);
+        assert_eq!(missing.len(), 9 + 49 + 28 - 2);
         assert!(!missing.contains(&Kind::Authenticate));
         assert!(!missing.contains(&Kind::Refused {
             number: 8,

@@ -17,7 +17,7 @@ fn compare(args: &[&str]) -> (Option<i32>, String, String) {
 
 #[test]
 fn a_missing_program_is_one_plain_line() {
-    let (status, out, err) = compare(&["/no/ntlm_line", "/no/nl_auth_line", "1", "0"]);
+    let (status, out, err) = compare(&["/no/line", "/no/nl_auth", "/no/explain", "1", "0"]);
     assert_eq!((status, out.as_str()), (Some(1), "0 passed, 1 failed\n"));
     assert_eq!(err.lines().count(), 1);
     assert!(err.contains(" can't be run: "), "{err}");
@@ -27,11 +27,11 @@ fn a_missing_program_is_one_plain_line() {
 fn wrong_words_are_status_2() {
     let cases: [(&[&str], &str); 6] = [
         (&[], "usage: compare "),
-        (&["a", "b", "1"], "usage: compare "),
-        (&["a", "b", "1", "2", "3"], "usage: compare "),
-        (&["a", "b", "x", "1"], "SEED and N are whole numbers"),
-        (&["a", "b", "1", "-1"], "SEED and N are whole numbers"),
-        (&["a", "b", "", "1"], "SEED and N are whole numbers"),
+        (&["a", "b", "1", "2"], "usage: compare "),
+        (&["a", "b", "c", "1", "2", "3"], "usage: compare "),
+        (&["a", "b", "c", "x", "1"], "SEED and N are whole numbers"),
+        (&["a", "b", "c", "1", "-1"], "SEED and N are whole numbers"),
+        (&["a", "b", "c", "", "1"], "SEED and N are whole numbers"),
     ];
     for (args, said) in cases {
         let (status, out, err) = compare(args);

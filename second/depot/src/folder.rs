@@ -41,6 +41,7 @@ pub enum NoFolder {
 /// Why a file gives no message. Each says what to do.
 #[derive(Debug)]
 pub enum NotRead {
+    Missing,
     Folder(PathBuf),
     NotAFile,
     TooLarge,
@@ -97,9 +98,20 @@ fn printable(name: &OsStr) -> String {
 }
 
 impl MessageFile {
+    /// The file at this path.
+    pub fn at(path: &Path) -> Self {
+        Self {
+            name: printable(path.as_os_str()),
+            path: path.to_owned(),
+        }
+    }
+
     /// The message and the form that it has in the file.
     pub fn read(&self) -> Result<(Form, Vec<u8>), NotRead> {
-        let about = fs::metadata(&self.path).map_err(NotRead::Unreadable)?;
+        let about = fs::metadata(&self.path).map_err(|error| match error.kind() {
+            io::ErrorKind::NotFound => NotRead::Missing,
+            _ => NotRead::Unreadable(error),
+        })?;
         if about.is_dir() {
             return Err(NotRead::Folder(self.path.clone()));
         }
@@ -146,6 +158,7 @@ impl fmt::Display for NoFolder {
 impl fmt::Display for NotRead {
     fn fmt(&self, f: &mut fmt::Formatter<'_>) -> fmt::Result {
         match self {
+            Self::Missing => f.write_str("it leads to no file: take it out of the folder"),
             Self::Folder(path) => write!(
                 f,
                 "it is a folder: run it by itself, as make run MESSAGES={}",

@@ -1,5 +1,6 @@
 //! The depot bench: runs every message of a folder through the proved program
-//! and through the second, prints the line of each, and says where they differ.
+//! and through the second, prints the line of each, and why an NTLM message is
+//! refused, and says where the two differ. It also does the last for one file.
 
 #![forbid(unsafe_code)]
 
@@ -7,22 +8,29 @@ use std::env;
 use std::ffi::OsString;
 use std::fmt;
 use std::io::{self, BufWriter, Write};
-use std::path::Path;
+use std::path::{Path, PathBuf};
 use std::process::ExitCode;
 
-use depot::folder::{Folder, NoFolder};
+use depot::folder::{Folder, MessageFile, NoFolder, NotRead};
 use depot::form::Kind;
-use programs::{Answer, CannotRun, Program};
+use programs::{Answer, CannotRun, Program, Text};
 
-const USAGE: &str = "usage: depot look FOLDER | depot run FOLDER NTLM_LINE NL_AUTH_LINE SECOND";
+const USAGE: &str =
+    "usage: depot look FOLDER | depot run FOLDER NTLM_LINE NL_AUTH_LINE NTLM_EXPLAIN SECOND \
+                     | depot read FILE | depot explain FILE NTLM_EXPLAIN SECOND";
 
 fn main() -> ExitCode {
     let args: Vec<OsString> = env::args_os().skip(1).collect();
     let done = match args.as_slice() {
         [command, folder] if command == "look" => look(Path::new(folder)),
-        [command, folder, ntlm, nl_auth, second] if command == "run" => {
-            let (ntlm, nl_auth, second) = (Path::new(ntlm), Path::new(nl_auth), Path::new(second));
-            Bench::new(ntlm, nl_auth, second).run(Path::new(folder))
+        [command, folder, ntlm, nl_auth, explain, second] if command == "run" => {
+            let [ntlm, nl_auth, explain, second] = [ntlm, nl_auth, explain, second].map(Path::new);
+            Bench::new(ntlm, nl_auth, explain, second).run(Path::new(folder))
+        }
+        [command, file] if command == "read" => read(Path::new(file)).map(|_| true),
+        [command, file, explain, second] if command == "explain" => {
+            let pair = Pair::explain(Path::new(explain), Path::new(second));
+            explain_file(&pair, Path::new(file))
         }
         _ => return fail(2, &USAGE),
     };
@@ -43,6 +51,7 @@ fn fail(status: u8, message: &dyn fmt::Display) -> ExitCode {
 /// What ends the bench before its summary.
 enum Failure {
     NoFolder(NoFolder),
+    NoFile(PathBuf, NotRead),
     CannotRun(CannotRun),
     Print(io::Error),
 }
@@ -69,6 +78,12 @@ impl fmt::Display for Failure {
     fn fmt(&self, f: &mut fmt::Formatter<'_>) -> fmt::Result {
         match self {
             Self::NoFolder(why) => why.fmt(f),
+            Self::NoFile(path, NotRead::Missing) => write!(
+                f,
+                "there is no file {}: name a message, as make explain FILE=message",
+                path.display()
+            ),
+            Self::NoFile(path, why) => write!(f, "{} is not read: {why}", path.display()),
             Self::CannotRun(why) => write!(f, "{why}; make run builds it"),
             Self::Print(error) => write!(f, "what the bench found can't be printed: {error}"),
         }
@@ -82,6 +97,32 @@ fn look(folder: &Path) -> Result<bool, Failure> {
     Ok(true)
 }
 
+/// The message of a file.
+fn read(file: &Path) -> Result<Vec<u8>, Failure> {
+    match MessageFile::at(file).read() {
+        Ok((_, message)) => Ok(message),
+        Err(why) => Err(Failure::NoFile(file.to_owned(), why)),
+    }
+}
+
+/// Prints the checks of the message in a file. True where both programs print the
+/// same.
+fn explain_file(pair: &Pair, file: &Path) -> Result<bool, Failure> {
+    let message = read(file)?;
+    let (proved, second) = pair.run(&message)?;
+    let mut out = BufWriter::new(io::stdout().lock());
+    let same = proved.is_same(&second);
+    if same {
+        for line in lines(&proved) {
+            writeln!(out, "{}", Text(line))?;
+        }
+    } else {
+        write_parted(&proved, &second, "", &mut out)?;
+    }
+    out.flush()?;
+    Ok(same)
+}
+
 /// A proved program and the second one for the same kind of message.
 struct Pair {
     kind: &'static str,
@@ -89,9 +130,26 @@ struct Pair {
     second: Program,
 }
 
+impl Pair {
+    /// The programs that tell why an NTLM message is refused.
+    fn explain(proved: &Path, second: &Path) -> Self {
+        let no_words: [&str; 0] = [];
+        Self {
+            kind: "NTLM",
+            proved: Program::of_lines(proved, &no_words),
+            second: Program::of_lines(second, &["explain"]),
+        }
+    }
+
+    fn run(&self, message: &[u8]) -> Result<(Answer, Answer), CannotRun> {
+        Ok((self.proved.run(message)?, self.second.run(message)?))
+    }
+}
+
 struct Bench {
     ntlm: Pair,
     nl_auth: Pair,
+    explain: Pair,
 }
 
 /// What the summary counts.
@@ -105,7 +163,7 @@ struct Counts {
 }
 
 impl Bench {
-    fn new(ntlm: &Path, nl_auth: &Path, second: &Path) -> Self {
+    fn new(ntlm: &Path, nl_auth: &Path, explain: &Path, second: &Path) -> Self {
         let no_words: [&str; 0] = [];
         Self {
             ntlm: Pair {
@@ -118,6 +176,7 @@ impl Bench {
                 proved: Program::new(nl_auth, &no_words),
                 second: Program::new(second, &["nl"]),
             },
+            explain: Pair::explain(explain, second),
         }
     }
 
@@ -151,9 +210,8 @@ impl Bench {
     /// Runs each program once on nothing, so that one that can't be run is told
     /// before any message is.
     fn try_programs(&self) -> Result<(), CannotRun> {
-        for pair in [&self.ntlm, &self.nl_auth] {
-            pair.proved.run(&[])?;
-            pair.second.run(&[])?;
+        for pair in [&self.ntlm, &self.nl_auth, &self.explain] {
+            pair.run(&[])?;
         }
         Ok(())
     }
@@ -183,9 +241,8 @@ impl Bench {
         let mut same = true;
         let mut taken = false;
         for pair in pairs {
-            let proved = pair.proved.run(message)?;
-            let second = pair.second.run(message)?;
-            if proved.is_same_line(&second) {
+            let (proved, second) = pair.run(message)?;
+            if proved.is_same(&second) {
                 writeln!(out, "    {proved}")?;
             } else {
                 writeln!(out, "    DIFFERENT: {}", difference(&proved, &second))?;
@@ -194,6 +251,9 @@ impl Bench {
                 same = false;
             }
             taken |= !is_refusal(&proved);
+            if pair.kind == self.explain.kind && by_a_check(&proved) {
+                same &= self.explain(message, out)?;
+            }
         }
         match (same, taken) {
             (false, _) => counts.different += 1,
@@ -202,21 +262,87 @@ impl Bench {
         }
         Ok(())
     }
+
+    /// Prints the check that failed, under the line of a refused NTLM message.
+    /// False where the two programs don't print the same checks, or none failed.
+    fn explain(&self, message: &[u8], out: &mut impl Write) -> Result<bool, Failure> {
+        let (proved, second) = self.explain.run(message)?;
+        if !proved.is_same(&second) {
+            write_parted(&proved, &second, "    ", out)?;
+            return Ok(false);
+        }
+        let failed = lines(&proved).find(|line| is_failed_check(line));
+        match failed {
+            Some(line) => writeln!(out, "    {}", Text(line))?,
+            None => writeln!(out, "    DIFFERENT: refused, but no check failed")?,
+        }
+        Ok(failed.is_some())
+    }
+}
+
+/// The lines of an answer, each with its 0A; none of a fault.
+fn lines(answer: &Answer) -> impl Iterator<Item = &[u8]> {
+    let text = match answer {
+        Answer::Printed(text) => text.as_slice(),
+        Answer::Fault(_) => &[],
+    };
+    text.split_inclusive(|&byte| byte == b'\n')
+}
+
+/// Whether a line is `check D failed ..`.
+fn is_failed_check(line: &[u8]) -> bool {
+    let mut words = line.split(|&byte| byte == b' ');
+    words.next() == Some(b"check") && words.nth(1) == Some(b"failed")
+}
+
+/// Prints where two prints of checks part: the first line of each that the other
+/// hasn't there, or the fault.
+fn write_parted(
+    proved: &Answer,
+    second: &Answer,
+    indent: &str,
+    out: &mut impl Write,
+) -> io::Result<()> {
+    if matches!((proved, second), (Answer::Printed(_), Answer::Printed(_))) {
+        let alike = lines(proved).zip(lines(second)).take_while(|(a, b)| a == b);
+        let at = alike.count();
+        writeln!(out, "{indent}DIFFERENT: the checks part at line {}", at + 1)?;
+        for (name, answer) in [("proved", proved), ("second", second)] {
+            match lines(answer).nth(at) {
+                Some(line) => writeln!(out, "{indent}{name}: {}", Text(line))?,
+                None => writeln!(out, "{indent}{name}: [no more checks]")?,
+            }
+        }
+        return Ok(());
+    }
+    writeln!(out, "{indent}DIFFERENT: {}", difference(proved, second))?;
+    for (name, answer) in [("proved", proved), ("second", second)] {
+        if let Answer::Fault(_) = answer {
+            writeln!(out, "{indent}{name}: {answer}")?;
+        }
+    }
+    Ok(())
 }
 
 fn is_refusal(answer: &Answer) -> bool {
-    matches!(answer, Answer::Line(line) if line.starts_with(b"refused "))
+    matches!(answer, Answer::Printed(line) if line.starts_with(b"refused "))
+}
+
+/// Whether a check of the message refused it. 33 says that its line is too long.
+fn by_a_check(answer: &Answer) -> bool {
+    let no_room = b"refused 33 ";
+    is_refusal(answer) && !matches!(answer, Answer::Printed(line) if line.starts_with(no_room))
 }
 
 /// Where two answers that are not the same part.
 fn difference(proved: &Answer, second: &Answer) -> String {
     match (proved, second) {
-        (Answer::Line(proved), Answer::Line(second)) => {
+        (Answer::Printed(proved), Answer::Printed(second)) => {
             let alike = proved.iter().zip(second).take_while(|(a, b)| a == b);
             format!("the lines part at character {}", alike.count() + 1)
         }
-        (Answer::Fault(_), Answer::Line(_)) => "the proved program gave no line".to_owned(),
-        (Answer::Line(_), Answer::Fault(_)) => "the second program gave no line".to_owned(),
+        (Answer::Fault(_), Answer::Printed(_)) => "the proved program gave no line".to_owned(),
+        (Answer::Printed(_), Answer::Fault(_)) => "the second program gave no line".to_owned(),
         (Answer::Fault(_), Answer::Fault(_)) => "neither program gave a line".to_owned(),
     }
 }

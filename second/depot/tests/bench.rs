@@ -8,6 +8,12 @@ use std::sync::OnceLock;
 
 const P12: &[u8] = b"\0\0\0\0\x01\0\0\0LINE\0";
 
+/// What the programs that stand for the real ones print for any message.
+const EXPLAIN: &str = "echo check 1 held; \
+                       echo check 2 failed field=0 offset=0 length=0 message=8; \
+                       echo check 3 not reached";
+const FAILED: &str = "check 2 failed field=0 offset=0 length=0 message=8";
+
 /// Programs that stand for the real ones. All are written before any is run: a
 /// file still open for writing can't be run.
 fn program(name: &str) -> PathBuf {
@@ -27,13 +33,28 @@ fn program(name: &str) -> PathBuf {
                 "prints_and_says_why",
                 "echo 'refused 2 field=0 at=0'; echo 'the line could not be written' >&2",
             ),
+            ("refuses_its_line", "echo 'refused 33 field=0 at=0'"),
+            ("explains", EXPLAIN),
+            (
+                "explains_otherwise",
+                "echo check 1 held; echo check 2 failed field=0 offset=0 length=0 message=9",
+            ),
+            ("explains_less", "echo check 1 held"),
+            (
+                "holds_all",
+                "case \"$1\" in ntlm) echo refused 2 field=0 at=0 ;; *) echo check 1 held ;; esac",
+            ),
         ];
         for (name, script) in scripts {
             let path = folder.join(name);
+            // The second program prints checks too.
+            let explain = format!("if [ \"$1\" = explain ]; then {EXPLAIN}; exit; fi\n");
             let text = if script.starts_with("wc") {
                 format!("#!/bin/sh\n{script}\n")
-            } else {
+            } else if script.starts_with("case") {
                 format!("#!/bin/sh\ncat >/dev/null\n{script}\n")
+            } else {
+                format!("#!/bin/sh\ncat >/dev/null\n{explain}{script}\n")
             };
             fs::write(&path, text).expect("a script");
             fs::set_permissions(&path, fs::Permissions::from_mode(0o755)).expect("its mode");
@@ -67,14 +88,15 @@ fn depot(args: &[&Path]) -> Output {
 
 /// Runs a folder with `ntlm` and `nl_auth` as the proved programs.
 fn run(folder: &Path, ntlm: &str, nl_auth: &str, second: &str) -> (Option<i32>, String, String) {
-    let output = depot(&[
-        Path::new("run"),
-        folder,
-        &program(ntlm),
-        &program(nl_auth),
-        &program(second),
-    ]);
-    told(&output)
+    run_all(folder, [ntlm, nl_auth, "explains", second])
+}
+
+/// Runs a folder with these programs: three proved ones, then the second.
+fn run_all(folder: &Path, programs: [&str; 4]) -> (Option<i32>, String, String) {
+    let programs = programs.map(program);
+    let mut args = vec![Path::new("run"), folder];
+    args.extend(programs.iter().map(PathBuf::as_path));
+    told(&depot(&args))
 }
 
 fn told(output: &Output) -> (Option<i32>, String, String) {
@@ -113,12 +135,117 @@ fn a_difference_shows_both_lines() {
     let (status, out, _) = run(&folder, "refuses_otherwise", "refuses", "refuses");
     assert_eq!(
         out,
-        "a.bin: raw, 8 bytes, NTLM\n    DIFFERENT: the lines part at character 9\n    \
-         proved: refused 3 field=0 at=0\n    second: refused 2 field=0 at=0\n\
-         b.bin: raw, 13 bytes, NL_AUTH\n    refused 2 field=0 at=0\n\
-         2 messages: 1 the same in both programs (0 taken, 1 refused), 1 different, 0 not read\n"
+        format!(
+            "a.bin: raw, 8 bytes, NTLM\n    DIFFERENT: the lines part at character 9\n    \
+             proved: refused 3 field=0 at=0\n    second: refused 2 field=0 at=0\n    {FAILED}\n\
+             b.bin: raw, 13 bytes, NL_AUTH\n    refused 2 field=0 at=0\n\
+             2 messages: 1 the same in both programs (0 taken, 1 refused), 1 different, 0 not read\n"
+        )
     );
     assert_eq!(status, Some(1));
+}
+
+#[test]
+fn a_refused_ntlm_message_shows_the_failed_check() {
+    let files: [(&str, &[u8]); 3] = [("a", b"NTLMSSP\0"), ("b", b"NTLMSSQ\0"), ("c", P12)];
+    let folder = folder_of("explained", &files);
+    let (status, out, _) = run(&folder, "refuses", "refuses", "refuses");
+    assert_eq!(
+        out,
+        format!(
+            "a: raw, 8 bytes, NTLM\n    refused 2 field=0 at=0\n    {FAILED}\n\
+             b: raw, 8 bytes, begins like no message, read as NTLM and as NL_AUTH\n    \
+             refused 2 field=0 at=0\n    {FAILED}\n    refused 2 field=0 at=0\n\
+             c: raw, 13 bytes, NL_AUTH\n    refused 2 field=0 at=0\n\
+             3 messages: 3 the same in both programs (0 taken, 3 refused), 0 different, 0 not read\n"
+        )
+    );
+    assert_eq!(status, Some(0));
+    // Nothing is to be explained of a message that is taken, or whose line is
+    // too long.
+    for ntlm in ["takes", "refuses_its_line"] {
+        let (status, out, _) = run(&folder, ntlm, ntlm, ntlm);
+        assert!(!out.contains("check "), "{out}");
+        assert_eq!(status, Some(0));
+    }
+}
+
+#[test]
+fn checks_that_differ_are_a_difference() {
+    let folder = folder_of("explained_otherwise", &[("a", b"NTLMSSP\0")]);
+    let cases = [
+        (
+            "explains_otherwise",
+            "DIFFERENT: the checks part at line 2\n    \
+             proved: check 2 failed field=0 offset=0 length=0 message=9\n    \
+             second: check 2 failed field=0 offset=0 length=0 message=8\n",
+        ),
+        (
+            "explains_less",
+            "DIFFERENT: the checks part at line 2\n    proved: [no more checks]\n    \
+             second: check 2 failed field=0 offset=0 length=0 message=8\n",
+        ),
+        (
+            "prints_nothing",
+            "DIFFERENT: the proved program gave no line\n    \
+             proved: [the program printed no whole line]\n",
+        ),
+    ];
+    for (explain, told) in cases {
+        let (status, out, _) = run_all(&folder, ["refuses", "refuses", explain, "refuses"]);
+        let line = "    refused 2 field=0 at=0\n    ";
+        assert!(out.contains(&format!("{line}{told}1 message: ")), "{out}");
+        assert!(out.ends_with(" 1 different, 0 not read\n"), "{out}");
+        assert_eq!(status, Some(1));
+    }
+    // Both say that all checks of a refused message held.
+    let (status, out, _) = run_all(&folder, ["refuses", "refuses", "holds_all", "holds_all"]);
+    assert!(out.contains("    DIFFERENT: refused, but no check failed\n"));
+    assert_eq!(status, Some(1));
+}
+
+/// Prints the checks of one file.
+fn explain(file: &Path, explain: &str, second: &str) -> (Option<i32>, String, String) {
+    let (explain, second) = (program(explain), program(second));
+    told(&depot(&[Path::new("explain"), file, &explain, &second]))
+}
+
+#[test]
+fn one_file_is_explained() {
+    let files: [(&str, &[u8]); 2] = [("a.bin", b"NTLMSSP\0"), ("b.hex", b"4E544C4D 53535000\n")];
+    let folder = folder_of("one_file", &files);
+    for (file, _) in files {
+        let file = folder.join(file);
+        let (status, out, err) = explain(&file, "explains", "refuses");
+        let expected = format!("check 1 held\n{FAILED}\ncheck 3 not reached\n");
+        assert_eq!(
+            (status, out.as_str(), err.as_str()),
+            (Some(0), &expected[..], "")
+        );
+        let (status, out, _) = explain(&file, "explains_otherwise", "refuses");
+        assert!(out.starts_with("DIFFERENT: the checks part at line 2\nproved: check 2 "));
+        assert_eq!(status, Some(1));
+        let looked = told(&depot(&[Path::new("read"), &file]));
+        assert_eq!(looked, (Some(0), String::new(), String::new()));
+    }
+}
+
+#[test]
+fn a_file_that_gives_no_message_is_one_plain_line() {
+    let folder = folder_of("no_file", &[("text", b"box 31")]);
+    let cases = [
+        (folder.join("nowhere"), "there is no file "),
+        (folder.join("text"), ""),
+        (folder, ""),
+    ];
+    for (file, start) in cases {
+        let read = told(&depot(&[Path::new("read"), &file]));
+        for (status, out, err) in [read, explain(&file, "explains", "refuses")] {
+            assert_eq!((status, out.as_str()), (Some(1), ""));
+            assert_eq!(err.lines().count(), 1, "{err}");
+            assert!(err.starts_with(start), "{err}");
+        }
+    }
 }
 
 #[test]
@@ -222,7 +349,7 @@ fn a_file_that_gives_no_message_is_told_and_the_others_are_run() {
     assert_eq!(not_read.len(), 4, "{out}");
     assert!(not_read[0].starts_with("a.txt: NOT READ: it is text, but neither"));
     assert!(not_read[1].starts_with("c.txt: NOT READ: it begins with a byte order mark"));
-    assert!(not_read[2].starts_with("d.bin: NOT READ: No such file"));
+    assert!(not_read[2].starts_with("d.bin: NOT READ: it leads to no file"));
     assert!(not_read[3].starts_with("e: NOT READ: it is a folder"));
     assert!(out.contains("b.bin: raw, 13 bytes, NL_AUTH\n    refused 2 field=0 at=0\n"));
     assert!(out.ends_with(
@@ -260,7 +387,7 @@ fn a_folder_with_nothing_to_run_is_one_plain_line() {
     ];
     for (folder, start) in cases {
         for command in ["look", "run"] {
-            let programs = [program("refuses"), program("refuses"), program("refuses")];
+            let programs = [(); 4].map(|()| program("refuses"));
             let mut args = vec![Path::new(command), &folder];
             if command == "run" {
                 args.extend(programs.iter().map(PathBuf::as_path));
@@ -284,10 +411,10 @@ fn a_folder_to_run_is_looked_at_without_a_word() {
 #[test]
 fn a_missing_program_is_one_plain_line() {
     let folder = folder_of("no_program", &[("a.bin", P12)]);
-    for missing in 0..3 {
-        let mut names = ["refuses"; 3];
+    for missing in 0..4 {
+        let mut names = ["refuses"; 4];
         names[missing] = "not_there";
-        let (status, out, err) = run(&folder, names[0], names[1], names[2]);
+        let (status, out, err) = run_all(&folder, names);
         assert_eq!((status, out.as_str()), (Some(1), ""));
         assert_eq!(err.lines().count(), 1, "{err}");
         assert!(
@@ -304,6 +431,9 @@ fn wrong_words_are_status_2() {
         &["run"],
         &["look"],
         &["look", "a", "b"],
+        &["run", "a", "b", "c", "d"],
+        &["read"],
+        &["explain", "a", "b"],
         &["walk", "a"],
     ] {
         let args: Vec<&Path> = args.iter().map(Path::new).collect();

@@ -1,5 +1,5 @@
 //! Runs a program that reads one message from standard input and prints one
-//! line.
+//! line, or some.
 
 #![forbid(unsafe_code)]
 #![warn(missing_docs)]
@@ -16,14 +16,16 @@ use std::thread;
 pub struct Program {
     path: PathBuf,
     words: Vec<OsString>,
+    /// Whether it prints one line only.
+    one_line: bool,
 }
 
 /// What a program made of a message.
 #[derive(Clone, Debug, PartialEq, Eq)]
 pub enum Answer {
-    /// The line that it printed, with its 0A.
-    Line(Vec<u8>),
-    /// It printed something else than one line, or did not end well.
+    /// The line that it printed, or the lines, each with its 0A.
+    Printed(Vec<u8>),
+    /// It printed something else, or did not end well.
     Fault(Fault),
 }
 
@@ -37,7 +39,7 @@ pub enum Fault {
     StandardError,
     /// It printed nothing, or what it printed does not end with 0A.
     NoLine,
-    /// It printed more than one line.
+    /// It printed more than its one line.
     MoreLines,
 }
 
@@ -49,18 +51,27 @@ pub struct CannotRun {
 }
 
 impl Program {
-    /// The program at `path`, called with `words`.
+    /// The program at `path`, called with `words`, which prints one line.
     pub fn new<W: AsRef<OsStr>>(path: &Path, words: &[W]) -> Self {
         Self {
             path: path.to_owned(),
             words: words.iter().map(|word| word.as_ref().to_owned()).collect(),
+            one_line: true,
+        }
+    }
+
+    /// The same of a program that prints one line or more.
+    pub fn of_lines<W: AsRef<OsStr>>(path: &Path, words: &[W]) -> Self {
+        Self {
+            one_line: false,
+            ..Self::new(path, words)
         }
     }
 
     /// Runs the program once, with `message` as its standard input.
     pub fn run(&self, message: &[u8]) -> Result<Answer, CannotRun> {
         self.output(message)
-            .map(Answer::of)
+            .map(|output| Answer::of(output, self.one_line))
             .map_err(|error| CannotRun {
                 path: self.path.clone(),
                 error,
@@ -90,10 +101,10 @@ impl Program {
 }
 
 impl Answer {
-    /// A run counts only where it ends with status 0, prints exactly one line
-    /// and writes nothing to standard error. Otherwise two programs that both
-    /// print nothing would look alike.
-    fn of(output: Output) -> Self {
+    /// A run counts only where it ends with status 0, prints exactly one line, or
+    /// some where it may, and writes nothing to standard error. Otherwise two
+    /// programs that both print nothing would look alike.
+    fn of(output: Output, one_line: bool) -> Self {
         let lines = output.stdout.iter().filter(|&&byte| byte == b'\n').count();
         if !output.status.success() {
             Self::Fault(Fault::Status(output.status))
@@ -101,37 +112,43 @@ impl Answer {
             Self::Fault(Fault::StandardError)
         } else if output.stdout.last() != Some(&b'\n') {
             Self::Fault(Fault::NoLine)
-        } else if lines != 1 {
+        } else if one_line && lines != 1 {
             Self::Fault(Fault::MoreLines)
         } else {
-            Self::Line(output.stdout)
+            Self::Printed(output.stdout)
         }
     }
 
-    /// Whether both are lines and the same, byte for byte. A fault is like
-    /// nothing, not even another fault.
-    pub fn is_same_line(&self, other: &Self) -> bool {
-        matches!((self, other), (Self::Line(one), Self::Line(two)) if one == two)
+    /// Whether both printed the same, byte for byte. A fault is like nothing, not
+    /// even another fault.
+    pub fn is_same(&self, other: &Self) -> bool {
+        matches!((self, other), (Self::Printed(one), Self::Printed(two)) if one == two)
     }
 }
 
-/// The line without its 0A, bytes outside printable ASCII escaped; or what was
-/// wrong, in brackets.
+/// What was printed, as [`Text`] shows it; or what was wrong, in brackets.
 impl fmt::Display for Answer {
     fn fmt(&self, f: &mut fmt::Formatter<'_>) -> fmt::Result {
         match self {
-            Self::Line(line) => {
-                let text = line.strip_suffix(b"\n").unwrap_or(line);
-                for &byte in text {
-                    match byte {
-                        0x20..=0x7E => write!(f, "{}", char::from(byte))?,
-                        _ => write!(f, "<{byte:02X}>")?,
-                    }
-                }
-                Ok(())
-            }
+            Self::Printed(text) => Text(text).fmt(f),
             Self::Fault(fault) => write!(f, "[{fault}]"),
         }
+    }
+}
+
+/// A line without its 0A, bytes outside printable ASCII escaped, another 0A too.
+#[derive(Clone, Copy, Debug)]
+pub struct Text<'a>(pub &'a [u8]);
+
+impl fmt::Display for Text<'_> {
+    fn fmt(&self, f: &mut fmt::Formatter<'_>) -> fmt::Result {
+        for &byte in self.0.strip_suffix(b"\n").unwrap_or(self.0) {
+            match byte {
+                0x20..=0x7E => write!(f, "{}", char::from(byte))?,
+                _ => write!(f, "<{byte:02X}>")?,
+            }
+        }
+        Ok(())
     }
 }
 
@@ -165,8 +182,8 @@ mod tests {
 
     #[test]
     fn one_line_is_an_answer() {
-        assert_eq!(shell("cat", b"one\n"), Answer::Line(b"one\n".to_vec()));
-        assert_eq!(shell("cat", b"\n"), Answer::Line(b"\n".to_vec()));
+        assert_eq!(shell("cat", b"one\n"), Answer::Printed(b"one\n".to_vec()));
+        assert_eq!(shell("cat", b"\n"), Answer::Printed(b"\n".to_vec()));
     }
 
     #[test]
@@ -190,26 +207,44 @@ mod tests {
     }
 
     #[test]
+    fn lines_are_an_answer_where_a_program_prints_some() {
+        let shell = |script: &str| {
+            let program = Program::of_lines(Path::new("/bin/sh"), &["-c", script]);
+            program.run(b"").expect("a shell")
+        };
+        for (script, text) in [("echo one", "one\n"), ("echo 1; echo 2", "1\n2\n")] {
+            let expected = Answer::Printed(text.as_bytes().to_vec());
+            assert_eq!(shell(script), expected);
+        }
+        assert_eq!(shell("echo 1; echo 2").to_string(), "1<0A>2");
+        for script in [":", "echo 1; printf 2"] {
+            assert_eq!(shell(script), Answer::Fault(Fault::NoLine));
+        }
+        let loud = shell("echo 1; echo 2; echo 3 >&2");
+        assert_eq!(loud, Answer::Fault(Fault::StandardError));
+    }
+
+    #[test]
     fn faults_are_never_the_same() {
         let none = shell("true", b"");
-        assert!(!none.is_same_line(&none));
+        assert!(!none.is_same(&none));
         let line = shell("echo one", b"");
-        assert!(line.is_same_line(&line));
-        assert!(!line.is_same_line(&none));
-        assert!(!line.is_same_line(&shell("echo onE", b"")));
+        assert!(line.is_same(&line));
+        assert!(!line.is_same(&none));
+        assert!(!line.is_same(&shell("echo onE", b"")));
     }
 
     #[test]
     fn a_long_message_and_a_long_line_pass() {
         let mut message = vec![b'x'; 1 << 20];
         message.push(b'\n');
-        assert_eq!(shell("cat", &message), Answer::Line(message.clone()));
+        assert_eq!(shell("cat", &message), Answer::Printed(message.clone()));
     }
 
     #[test]
     fn a_program_that_does_not_read_is_judged_by_its_line() {
         let answer = shell("echo one", &vec![b'x'; 1 << 20]);
-        assert_eq!(answer, Answer::Line(b"one\n".to_vec()));
+        assert_eq!(answer, Answer::Printed(b"one\n".to_vec()));
     }
 
     #[test]

@@ -2,7 +2,7 @@
 
 use crate::flags::{CharacterSet, NegotiateFlags};
 use crate::refusal::{Reason, Refusal};
-use crate::wire::{locate, number_at, open, part, Field, Head};
+use crate::wire::{head_of, locate, number_at, open, part, Field, Head};
 
 /// An AUTHENTICATE message that every check holds for.
 #[derive(Clone, Copy, Debug, PartialEq, Eq)]
@@ -49,14 +49,9 @@ impl<'a> Authenticate<'a> {
         let flags = NegotiateFlags(number_at::<60, { Authenticate::FIXED }>(fixed));
         let set = flags.character_set()?;
 
-        let heads = [
-            Head::read::<12, { Authenticate::FIXED }>(fixed),
-            Head::read::<20, { Authenticate::FIXED }>(fixed),
-            Head::read::<28, { Authenticate::FIXED }>(fixed),
-            Head::read::<36, { Authenticate::FIXED }>(fixed),
-            Head::read::<44, { Authenticate::FIXED }>(fixed),
-            Head::read::<52, { Authenticate::FIXED }>(fixed).counted(flags.key_counts()),
-        ];
+        let [lm, nt, domain, user, workstation, key] = Self::heads(fixed);
+        let key = key.counted(flags.key_counts());
+        let heads = [lm, nt, domain, user, workstation, key];
         let [lm, nt, domain, user, workstation, key] = locate(message, Self::FIXED, heads)?;
         let mut reading = Self {
             flags,
@@ -78,6 +73,23 @@ impl<'a> Authenticate<'a> {
     /// "MIC presence and bytes (zeros if absent)": the bytes.
     pub fn mic_bytes(&self) -> [u8; 16] {
         self.mic.unwrap_or_default()
+    }
+
+    /// The heads in field order.
+    fn heads(fixed: &[u8; Authenticate::FIXED]) -> [Head; 6] {
+        [
+            Head::read::<12, { Authenticate::FIXED }>(fixed),
+            Head::read::<20, { Authenticate::FIXED }>(fixed),
+            Head::read::<28, { Authenticate::FIXED }>(fixed),
+            Head::read::<36, { Authenticate::FIXED }>(fixed),
+            Head::read::<44, { Authenticate::FIXED }>(fixed),
+            Head::read::<52, { Authenticate::FIXED }>(fixed),
+        ]
+    }
+
+    /// The head of a field, where `message` has a fixed part.
+    pub(crate) fn head(message: &[u8], field: u8) -> Option<Head> {
+        head_of(Self::heads(message.first_chunk()?), field)
     }
 
     /// The fields in field order.

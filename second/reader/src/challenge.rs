@@ -3,7 +3,7 @@
 use crate::flags::{CharacterSet, NegotiateFlags};
 use crate::refusal::Refusal;
 use crate::target_info::{Summary, TargetInfo};
-use crate::wire::{locate, number_at, open, part, Field, Head};
+use crate::wire::{head_of, locate, number_at, open, part, Field, Head};
 
 /// A CHALLENGE message that every check holds for.
 #[derive(Clone, Copy, Debug, PartialEq, Eq)]
@@ -36,9 +36,10 @@ impl<'a> Challenge<'a> {
         let flags = NegotiateFlags(number_at::<20, { Challenge::FIXED }>(fixed));
         let set = flags.character_set()?;
 
+        let [name, info] = Self::heads(fixed);
         let heads = [
-            Head::read::<12, { Challenge::FIXED }>(fixed).counted(flags.target_name_counts()),
-            Head::read::<40, { Challenge::FIXED }>(fixed).counted(flags.target_info_counts()),
+            name.counted(flags.target_name_counts()),
+            info.counted(flags.target_info_counts()),
         ];
         let [target_name, target_info] = locate(message, Self::FIXED, heads)?;
         if set == CharacterSet::Unicode {
@@ -57,6 +58,19 @@ impl<'a> Challenge<'a> {
             target_info,
             pairs,
         })
+    }
+
+    /// The heads in field order.
+    fn heads(fixed: &[u8; Challenge::FIXED]) -> [Head; 2] {
+        [
+            Head::read::<12, { Challenge::FIXED }>(fixed),
+            Head::read::<40, { Challenge::FIXED }>(fixed),
+        ]
+    }
+
+    /// The head of a field, where `message` has a fixed part.
+    pub(crate) fn head(message: &[u8], field: u8) -> Option<Head> {
+        head_of(Self::heads(message.first_chunk()?), field)
     }
 
     /// The fields in field order.

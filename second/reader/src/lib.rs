@@ -1,7 +1,7 @@
 //! NTLM and NL_AUTH messages by the rules of document 01, with those of
 //! document 02 that have landed: reading NEGOTIATE, CHALLENGE, AUTHENTICATE,
-//! NL_AUTH and TargetInfo, the log line of each message, answering a challenge,
-//! and writing NEGOTIATE, AUTHENTICATE, NL_AUTH and the pair list of an answer.
+//! NL_AUTH and TargetInfo, the log line of each message, why one is refused,
+//! answering a challenge, and writing NEGOTIATE, AUTHENTICATE, NL_AUTH and the pair list of an answer.
 //!
 //! Reading borrows from the message and allocates nothing. Every call ends
 //! for any input, takes time linear in what it is lent, and does not panic.
@@ -20,7 +20,9 @@ mod answer;
 mod authenticate;
 mod challenge;
 mod dns_name;
+mod explain;
 mod flags;
+mod kind;
 mod layout;
 mod line;
 mod negotiate;
@@ -42,6 +44,7 @@ pub use answer::{
 };
 pub use authenticate::Authenticate;
 pub use challenge::Challenge;
+pub use explain::explain;
 pub use flags::{CharacterSet, NegotiateFlags, NlAuthFlags};
 pub use line::{authenticate_line, challenge_line, negotiate_line, nl_auth_line, ntlm_line};
 pub use negotiate::Negotiate;

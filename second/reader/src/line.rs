@@ -3,11 +3,12 @@
 use crate::authenticate::Authenticate;
 use crate::challenge::Challenge;
 use crate::flags::CharacterSet;
+use crate::kind::Kind;
 use crate::negotiate::Negotiate;
 use crate::nl_auth::NlAuth;
 use crate::output::{Count, Cursor, Sink};
 use crate::refusal::{Reason, Refusal};
-use crate::wire::{type_of, Field};
+use crate::wire::Field;
 
 /// Writes the line of `message`, read as AUTHENTICATE, to the start of `out`
 /// and gives its length. "A refused message's line is the last form above,
@@ -32,14 +33,12 @@ pub fn nl_auth_line(message: &[u8], out: &mut [u8]) -> Result<usize, Refusal> {
     line_of(NlAuth::read(message), out)
 }
 
-/// Writes the line of `message` read as the NTLM program does: "as CHALLENGE
-/// where 12 bytes are there and the type is 2, else as AUTHENTICATE", and since
-/// request 1/12 as NEGOTIATE where the type is 1.
+/// Writes the line of `message` read as the NTLM program does.
 pub fn ntlm_line(message: &[u8], out: &mut [u8]) -> Result<usize, Refusal> {
-    match type_of(message) {
-        Some(Negotiate::TYPE) => negotiate_line(message, out),
-        Some(Challenge::TYPE) => challenge_line(message, out),
-        _ => authenticate_line(message, out),
+    match Kind::of(message) {
+        Kind::Negotiate => negotiate_line(message, out),
+        Kind::Challenge => challenge_line(message, out),
+        Kind::Authenticate => authenticate_line(message, out),
     }
 }
 
@@ -286,7 +285,7 @@ fn put_hex<S: Sink, const N: usize>(sink: &mut S, number: [u8; N]) {
 }
 
 /// "D is decimal, without leading zeros."
-fn put_decimal<S: Sink>(sink: &mut S, number: usize) {
+pub(crate) fn put_decimal<S: Sink>(sink: &mut S, number: usize) {
     if number >= 10 {
         put_decimal(sink, number / 10);
     }

@@ -2,7 +2,7 @@
 
 use crate::flags::NegotiateFlags;
 use crate::refusal::Refusal;
-use crate::wire::{locate, number_at, open, Field, Head};
+use crate::wire::{head_of, locate, number_at, open, Field, Head};
 
 /// A NEGOTIATE message that every check holds for. "Both are OEM bytes even
 /// where UNICODE is set", so it has no character set.
@@ -30,9 +30,10 @@ impl<'a> Negotiate<'a> {
         // Check 5. The set itself decides nothing here.
         flags.character_set()?;
 
+        let [domain, workstation] = Self::heads(fixed);
         let heads = [
-            Head::read::<16, { Negotiate::FIXED }>(fixed).counted(flags.domain_counts()),
-            Head::read::<24, { Negotiate::FIXED }>(fixed).counted(flags.workstation_counts()),
+            domain.counted(flags.domain_counts()),
+            workstation.counted(flags.workstation_counts()),
         ];
         let [domain, workstation] = locate(message, Self::FIXED, heads)?;
 
@@ -41,6 +42,19 @@ impl<'a> Negotiate<'a> {
             domain,
             workstation,
         })
+    }
+
+    /// The heads in field order.
+    fn heads(fixed: &[u8; Negotiate::FIXED]) -> [Head; 2] {
+        [
+            Head::read::<16, { Negotiate::FIXED }>(fixed),
+            Head::read::<24, { Negotiate::FIXED }>(fixed),
+        ]
+    }
+
+    /// The head of a field, where `message` has a fixed part.
+    pub(crate) fn head(message: &[u8], field: u8) -> Option<Head> {
+        head_of(Self::heads(message.first_chunk()?), field)
     }
 
     /// The fields in field order.

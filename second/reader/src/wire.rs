@@ -51,12 +51,6 @@ pub(crate) fn open<const FIXED: usize>(
     Ok(fixed)
 }
 
-/// The type that the NTLM program chooses a reader by, "where 12 bytes are
-/// there".
-pub(crate) fn type_of(message: &[u8]) -> Option<u32> {
-    message.first_chunk::<12>().map(number_at::<8, 12>)
-}
-
 /// A field's place in its message and its own bytes. "An empty field's offset
 /// is ignored and its place is 0."
 #[derive(Clone, Copy, Debug, Default, PartialEq, Eq)]
@@ -115,10 +109,15 @@ impl Field<'_> {
 
 /// "A field head is Len (2 bytes), MaxLen (2), offset (4) from the start of
 /// the message. MaxLen is never looked at when reading."
-#[derive(Clone, Copy)]
+#[derive(Clone, Copy, Default)]
 pub(crate) struct Head {
-    len: u16,
-    offset: u32,
+    pub(crate) len: u16,
+    pub(crate) offset: u32,
+}
+
+/// The head of a field by its number, the first being 1.
+pub(crate) fn head_of<const N: usize>(heads: [Head; N], field: u8) -> Option<Head> {
+    heads.get(usize::from(field).checked_sub(1)?).copied()
 }
 
 impl Head {

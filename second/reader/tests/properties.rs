@@ -6,11 +6,11 @@ use std::ops::Range;
 
 use common::*;
 use reader::{
-    answer, authenticate_line, challenge_line, domain_to_send, negotiate_line, nl_auth_line,
-    nl_auth_name, ntlm_line, write_authenticate, write_negotiate, write_nl_auth_request,
-    write_response_pairs, Account, Authenticate, AuthenticateParts, AvId, Challenge, Negotiate,
-    NegotiateFlags, NegotiateParts, NlAuth, NlAuthFlags, Policy, Refusal, ResponsePairs, Secrets,
-    Settings, TargetInfo,
+    answer, authenticate_line, challenge_line, domain_to_send, explain, negotiate_line,
+    nl_auth_line, nl_auth_name, ntlm_line, write_authenticate, write_negotiate,
+    write_nl_auth_request, write_response_pairs, Account, Authenticate, AuthenticateParts, AvId,
+    Challenge, Negotiate, NegotiateFlags, NegotiateParts, NlAuth, NlAuthFlags, Policy, Refusal,
+    ResponsePairs, Secrets, Settings, TargetInfo,
 };
 
 /// SplitMix64.
@@ -225,6 +225,8 @@ fn no_bytes_make_a_call_panic() {
         }
         let (which, room) = (random.below(7) as u32, random.below(20));
         let _ = nl_auth_name(&message, which, &mut out[..room]);
+        let room = random.below(300);
+        let _ = explain(&message, &mut out[..room]);
         let (part, other) = message.split_at(random.below(message.len() + 1));
         let secrets = Secrets {
             lm: part,
@@ -376,6 +378,7 @@ fn messages_that_differ_in_secrets_have_one_line() {
             line(authenticate_line, &message),
             line(authenticate_line, &other)
         );
+        assert_eq!(line(explain, &message), line(explain, &other));
         match read {
             Ok(_) => taken += 1,
             Err(refusal) => refused_by_9 += usize::from(refusal.number() == 9),
@@ -603,6 +606,81 @@ fn checks_6_to_9_agree_with_a_slow_count_of_bytes() {
     }
     for number in [0, 6, 7, 8, 9] {
         assert!(counts[number] > 500, "{counts:?}");
+    }
+}
+
+/// The number at a place, lowest byte first.
+fn number(message: &[u8], at: usize, len: usize) -> u64 {
+    let bytes = message[at..at + len].iter().rev();
+    bytes.fold(0, |number, &byte| number << 8 | u64::from(byte))
+}
+
+/// The figures of a refusal, from the message's own bytes.
+fn figures(message: &[u8], heads: &[usize], refusal: Refusal) -> String {
+    let Refusal { field, place, .. } = refusal;
+    let (offset, len) = match usize::from(field).checked_sub(1) {
+        Some(at) => (
+            number(message, heads[at] + 4, 4),
+            number(message, heads[at], 2),
+        ),
+        None => (0, 0),
+    };
+    let all = message.len().min(65_536);
+    let mut text = format!("failed field={field} offset={offset} length={len} message={all}");
+    let (id, size) = match refusal.number() {
+        11 => (0, 0),
+        10 | 12 | 13 => (number(message, place, 2), number(message, place + 2, 2)),
+        _ => return text,
+    };
+    text += &format!(" at={place} id={id} size={size}");
+    text
+}
+
+#[test]
+fn a_print_tells_what_the_reader_returns() {
+    let mut random = Random(12);
+    let mut failed = [0; 14];
+    for _ in 0..40_000 {
+        let message = random.damaged();
+        let (checks, heads, read): (&[u8], &[usize], _) = match message.get(8..12) {
+            Some([1, 0, 0, 0]) => (
+                &[1, 2, 3, 4, 5, 6, 7],
+                &[16, 24],
+                Negotiate::read(&message).map(|_| ()),
+            ),
+            Some([2, 0, 0, 0]) => (
+                &[1, 2, 3, 4, 5, 6, 7, 8, 11, 12, 10, 13],
+                &[12, 40],
+                Challenge::read(&message).map(|_| ()),
+            ),
+            _ => (
+                &[1, 2, 3, 4, 5, 6, 7, 8, 9],
+                &HEADS,
+                Authenticate::read(&message).map(|_| ()),
+            ),
+        };
+        let failing = read.err().map(Refusal::number);
+        let mut reached = true;
+        let mut expected = String::new();
+        for &check in checks {
+            let state = match read {
+                Err(refusal) if failing == Some(check) => {
+                    reached = false;
+                    figures(&message, heads, refusal)
+                }
+                _ if reached => "held".to_owned(),
+                _ => "not reached".to_owned(),
+            };
+            expected += &format!("check {check} {state}\n");
+        }
+        let print = line(explain, &message);
+        assert_eq!(print, expected);
+        assert!(print.len() <= 279);
+        assert_eq!(reached, read.is_ok());
+        failed[usize::from(failing.unwrap_or(0))] += 1;
+    }
+    for number in [0, 2, 3, 4, 5, 6, 7, 8, 9, 10, 11, 12, 13] {
+        assert!(failed[number] > 50, "{failed:?}");
     }
 }
 

@@ -1,5 +1,5 @@
 //! Reads NTLM or NL_AUTH messages from standard input and prints the log line
-//! of each.
+//! of each, or why an NTLM message is refused.
 
 #![forbid(unsafe_code)]
 
@@ -13,7 +13,7 @@ use std::process::ExitCode;
 
 use reader::{Program, LINE_LIMIT, MAX_MESSAGE};
 
-const USAGE: &str = "usage: second ntlm | second nl | second batch ntlm | second batch nl";
+const USAGE: &str = "usage: second [batch] ntlm | second [batch] nl | second [batch] explain";
 
 /// How many bytes of input and output a batch holds at a time.
 const BATCH_BUFFER: usize = 1 << 18;
@@ -59,6 +59,7 @@ fn parse_program(name: &OsString) -> Option<Program> {
     match name.to_str()? {
         "ntlm" => Some(Program::Ntlm),
         "nl" => Some(Program::NlAuth),
+        "explain" => Some(Program::Explain),
         _ => None,
     }
 }

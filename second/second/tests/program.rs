@@ -90,6 +90,23 @@ fn refused_messages_print_and_succeed() {
 }
 
 #[test]
+fn explain_prints_the_checks() {
+    let mut message = bytes(P1_HEX);
+    let held = "check 1 held\ncheck 2 held\ncheck 3 held\ncheck 4 held\ncheck 5 held\n";
+    let rest = "check 6 held\ncheck 7 held\ncheck 8 held\ncheck 9 held\n";
+    assert_eq!(printed(&["explain"], &message), format!("{held}{rest}"));
+    message[40] = 113;
+    let rest = "check 6 failed field=4 offset=113 length=8 message=120\n\
+                check 7 not reached\ncheck 8 not reached\ncheck 9 not reached\n";
+    assert_eq!(printed(&["explain"], &message), format!("{held}{rest}"));
+    let vast = vec![0; 5_000_000];
+    let print = printed(&["explain"], &vast);
+    let first = "check 1 failed field=0 offset=0 length=0 message=65536\ncheck 2 not reached\n";
+    assert!(print.starts_with(first));
+    assert_eq!(print.lines().count(), 9);
+}
+
+#[test]
 fn over_65535_bytes() {
     let mut message = bytes(P1_HEX);
     message.resize(65_535, 0);
@@ -122,6 +139,9 @@ fn batch_prints_a_line_for_each() {
         "nl type=1 flags=00000000\n"
     );
     assert_eq!(printed(&["batch", "nl"], b""), "");
+    let both = printed(&["batch", "explain"], b"4E54\n010203");
+    assert_eq!(both.lines().count(), 18);
+    assert!(both.contains("check 2 failed field=0 offset=0 length=0 message=3\n"));
 }
 
 #[test]
@@ -144,7 +164,7 @@ fn a_line_that_is_not_hex_ends_the_batch() {
 
 #[test]
 fn wrong_arguments() {
-    let cases: [&[&str]; 8] = [
+    let cases: [&[&str]; 9] = [
         &[],
         &["other"],
         &["batch"],
@@ -153,6 +173,7 @@ fn wrong_arguments() {
         &["nl", "batch"],
         &["batch", "ntlm", "nl"],
         &["NTLM"],
+        &["explain", "ntlm"],
     ];
     for args in cases {
         let output = run(args, b"");

@@ -67,6 +67,7 @@ fn library(call: &Call<'_>, out: &mut [u8], numbers: &mut [u64]) -> u64 {
             Line::Ntlm => raw::ntlm_line(message, out),
             Line::NtlmProgram => raw::ntlm_program_line(message, out),
             Line::NlAuthProgram => raw::nl_auth_program_line(message, out),
+            Line::Explain => raw::explain(message, out),
         },
         Call::WriteAuthenticate { flags, ref parts } => {
             raw::write_authenticate(out, flags, &lent(parts))

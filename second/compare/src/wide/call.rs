@@ -13,7 +13,7 @@ pub struct Parts<'a> {
     pub secrets: Secrets<'a>,
 }
 
-/// The calls that give a line.
+/// The calls that give a line, or the lines of a message's checks.
 #[derive(Clone, Copy, Debug, PartialEq, Eq)]
 pub enum Line {
     Authenticate,
@@ -23,10 +23,11 @@ pub enum Line {
     Ntlm,
     NtlmProgram,
     NlAuthProgram,
+    Explain,
 }
 
 impl Line {
-    pub const ALL: [Self; 7] = [
+    pub const ALL: [Self; 8] = [
         Self::Authenticate,
         Self::Challenge,
         Self::Negotiate,
@@ -34,6 +35,7 @@ impl Line {
         Self::Ntlm,
         Self::NtlmProgram,
         Self::NlAuthProgram,
+        Self::Explain,
     ];
 
     const fn index(self) -> usize {
@@ -45,6 +47,7 @@ impl Line {
             Self::Ntlm => const { place_of("ntlm_line") },
             Self::NtlmProgram => const { place_of("ntlm_program_line") },
             Self::NlAuthProgram => const { place_of("nl_auth_program_line") },
+            Self::Explain => const { place_of("explain") },
         }
     }
 }
@@ -180,7 +183,7 @@ pub enum Call<'a> {
 
 /// The names of the calls, without `dialtable_`, by [`Call::index`]; those of
 /// `crates/thin_calls` last.
-pub const NAMES: [&str; 33] = [
+pub const NAMES: [&str; 34] = [
     "read_authenticate",
     "read_challenge",
     "read_timestamp",
@@ -200,6 +203,7 @@ pub const NAMES: [&str; 33] = [
     "ntlm_line",
     "ntlm_program_line",
     "nl_auth_program_line",
+    "explain",
     "write_authenticate",
     "write_negotiate",
     "write_nl_auth_request",

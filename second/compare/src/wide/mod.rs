@@ -346,8 +346,8 @@ impl<L: Library> Run<L> {
         });
     }
 
-    /// Demand 3: two messages that differ only in secrets get the same answer
-    /// and the same line.
+    /// Demand 3: two messages that differ only in secrets get the same answer, the
+    /// same line and the same checks.
     fn secrets_read(&mut self, message: &[u8]) {
         let mut other = message.to_vec();
         for at in changeable_places(message) {
@@ -365,7 +365,12 @@ impl<L: Library> Run<L> {
             numbers: calls[0].numbers(),
         };
         self.holder.hold_alike(&calls[0], &calls[1], lent, mic);
-        for line in [Line::Authenticate, Line::Ntlm, Line::NtlmProgram] {
+        for line in [
+            Line::Authenticate,
+            Line::Ntlm,
+            Line::NtlmProgram,
+            Line::Explain,
+        ] {
             // A message of type 1 or 2 is read as another kind, without secrets.
             if line != Line::Authenticate && matches!(message[8..12], [1 | 2, 0, 0, 0]) {
                 continue;

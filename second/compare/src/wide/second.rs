@@ -2,11 +2,11 @@
 
 use reader::{
     answer, answer_for_bench, answer_for_old_servers, answer_for_relay, authenticate_line,
-    challenge_line, domain_to_send, field_bytes, negotiate_line, nl_auth_line, nl_auth_name,
-    ntlm_line, write_authenticate, write_negotiate, write_nl_auth_request, write_nl_auth_response,
-    write_response_pairs, Answer, Authenticate, AuthenticateParts, AvId, Challenge, Field,
-    Negotiate, NegotiateFlags, NlAuth, NlAuthFlags, Policy, Program, Reason, Refusal,
-    ResponsePairs, Settings, TargetInfo,
+    challenge_line, domain_to_send, explain, field_bytes, negotiate_line, nl_auth_line,
+    nl_auth_name, ntlm_line, write_authenticate, write_negotiate, write_nl_auth_request,
+    write_nl_auth_response, write_response_pairs, Answer, Authenticate, AuthenticateParts, AvId,
+    Challenge, Field, Negotiate, NegotiateFlags, NlAuth, NlAuthFlags, Policy, Program, Reason,
+    Refusal, ResponsePairs, Settings, TargetInfo,
 };
 
 use super::call::{refused_at, Call, Line, Parts, Respond, Thin};
@@ -176,6 +176,7 @@ fn put_line(line: Line, message: &[u8], out: &mut [u8]) -> Result<usize, Refusal
         Line::Ntlm => ntlm_line(message, out),
         Line::NtlmProgram => Program::Ntlm.write_line(message, out),
         Line::NlAuthProgram => Program::NlAuth.write_line(message, out),
+        Line::Explain => explain(message, out),
     }
 }
 

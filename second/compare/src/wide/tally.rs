@@ -18,7 +18,7 @@ const OF_WRITING: [Refusals; 6] = [
 
 /// Numbers, their fields and the readings and writings that can refuse by them:
 /// each must have done so itself, since kinds of message share numbers.
-const OF_CALLS: [(&[u8], &[u8], &[&str]); 21] = [
+const OF_CALLS: [(&[u8], &[u8], &[&str]); 22] = [
     (
         &[1, 2, 4, 33],
         &[0],
@@ -101,6 +101,7 @@ const OF_CALLS: [(&[u8], &[u8], &[&str]); 21] = [
             "thin_respond_for_relay",
         ],
     ),
+    (&[33], &[0], &["explain"]),
 ];
 
 /// What a kind of place is called, and whether a place is of it.
@@ -141,11 +142,12 @@ const OF_PLACES: [(&[usize], &[&str]); 3] = [
 ];
 
 /// The calls that are given two inputs which only secrets tell apart.
-const WITH_SECRETS: [&str; 11] = [
+const WITH_SECRETS: [&str; 12] = [
     "read_authenticate",
     "authenticate_line",
     "ntlm_line",
     "ntlm_program_line",
+    "explain",
     "respond",
     "respond_for_bench",
     "respond_to_old_server",
@@ -329,7 +331,8 @@ impl fmt::Display for Tally {
             }
             writeln!(f)?;
         }
-        COLUMNS.refusals(f, &refusals(), |number, field| self.refused(number, field))
+        let refused = |number, field| self.refused(number, field);
+        COLUMNS.refusals(f, "refused", &refusals(), refused)
     }
 }
 

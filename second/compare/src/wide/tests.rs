@@ -1,4 +1,5 @@
 mod dns_names;
+mod explain;
 mod response_pairs;
 
 use std::io::sink;

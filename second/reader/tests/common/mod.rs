@@ -166,8 +166,9 @@ pub type LineCall = fn(&[u8], &mut [u8]) -> Result<usize, Refusal>;
 /// The line of a line call with room enough for any.
 pub fn line(call: LineCall, message: &[u8]) -> String {
     // Each byte may stand in three names and takes up to 4 characters; a DNS
-    // name, which may jump to bytes of others, has at most 255 of them.
-    let mut room = vec![0; 128 + 12 * message.len() + 12 * 255];
+    // name, which may jump to bytes of others, has at most 255 of them. The
+    // checks of a message take up to 279.
+    let mut room = vec![0; 300 + 12 * message.len() + 12 * 255];
     let len = call(message, &mut room).expect("room enough");
     String::from_utf8(room[..len].to_vec()).expect("ASCII")
 }
