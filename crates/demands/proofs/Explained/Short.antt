@@ -4,13 +4,14 @@ use mathlib.Core.Path.{_≡_, refl, sym, ap, _∙_}
 use mathlib.Core.Bool.{Bool, true, false, _&&_, not, cond}
 use mathlib.Core.List.{List, [], _∷_, _++_}
 use native.Mathlib.Omega.{arith}
-use lib.Dec.{ltb, eqb}
+use lib.Dec.{leb, ltb, eqb}
 use lib.ListN.{length, getD, length-append}
-use borrow.Author.Tests.{ltb-true, ltb-false}
+use borrow.Author.Tests.{leb-true, leb-false, ltb-true, ltb-false}
 use Rattle.text.specs.Text.{ascii}
 use Rattle.wire.specs.declared.check.Verdict.{Verdict}
 use Rattle.wire.specs.declared.check.Verdict.the-variants.{Clear, Refused as Not}
 use Rattle.wire.specs.declared.refusal.Refusal.{Refusal}
+use Rattle.wire.specs.declared.refusal.Refusal.the-variants.{NoRoom}
 use Rattle.wire.specs.Number.{u16At, u32At}
 use Rattle.wire.specs.Refusal.{numberOf, fieldOf, placeOf}
 use Rattle.word.specs.Digits.{decimalSize, decimal}
@@ -22,15 +23,18 @@ use Rattle.head.specs.Head.{kindOf}
 use Rattle.challenge.specs.declared.Reading.{Reading}
 use Rattle.challenge.specs.declared.Reading.the-variants.{Taken, Refused}
 use Rattle.challenge.specs.Challenge.{readChallenge}
+use Rattle.place.specs.Written.{bytesAnswer}
+use Rattle.c_number.specs.Number.{writtenNumber}
 use Rattle.line_checks.specs.declared.Figures.{Figures as Given}
 use Rattle.line_checks.specs.Checks.{aboutPair, plainWords, pairText, pairWords, messageWords, figureWords, failedWords, wordsOf, lineOf, linesFrom, checkLines}
 use Rattle.explain.specs.Explain.{checksOf, readAs, fieldsOf, numbered, hasPair, ofPair, figuresOf, figuresOn, figuresAs, explainedAs, explanation, chalVerdict}
 use Rattle.explain.proofs.Laws.{no-head}
+use Rattle.demands.specs.Answers.{TellsWritten}
 use Rattle.demands.specs.Message.{Nonempty, lenOf, offsetOf}
-use Rattle.demands.specs.Explained.{formatOf, ExplainedShort}
+use Rattle.demands.specs.Explained.{formatOf, ExplainedShort, ExplainedTells}
 use Rattle.demands.proofs.TakenExactly.Places.{place-in-message}
-use Rattle.demands.proofs.Answers.Told.{number-small}
-use Rattle.demands.proofs.Explained.{refused-as, head-is}
+use Rattle.demands.proofs.Answers.Told.{number-small, tells-refusal, tells-length}
+use Rattle.demands.proofs.Explained.{refused-as, head-is, explained-answered}
 use Rattle.demands.proofs.Explained.Reasons.{why}
 
 -- ---- a line
@@ -171,3 +175,9 @@ unfolding explanation explainedAs checkLines
 explained-short s bytes =
     let k = kindOf s in
     omega (arith, lines-bound (figuresAs k s) (checksOf k) (given-small s bytes k), none-reached k (figuresAs k s))
+
+pub explained-tells : ExplainedTells
+explained-tells s out bytes = go (leb (length (explanation s)) (length out)) refl where
+  go : (t : Bool) → leb (length (explanation s)) (length out) ≡ t → TellsWritten (writtenNumber (bytesAnswer (explanation s) out)) (bytesAnswer (explanation s) out)
+  go true p = rw (explained-answered s out .0 (leb-true (length (explanation s)) (length out) p)) (tells-length (length (explanation s)) (omega (arith, explained-short s bytes)))
+  go false p = rw (explained-answered s out .1 (leb-false (length (explanation s)) (length out) p)) (tells-refusal NoRoom (omega arith))
