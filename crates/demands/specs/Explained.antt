@@ -186,7 +186,7 @@ SecretExplained = (s t : List ℕ) → DifferInSecrets s t → kindOf s ≡ Auth
 
 -- so many bytes always suffice for it
 abbrev pub ExplainedShort : Type 0
-ExplainedShort = (s : List ℕ) → ((i : ℕ) → getD s i 0 < 256) → length (explanation s) ≤ 464
+ExplainedShort = (s : List ℕ) → ((i : ℕ) → getD s i 0 < 256) → length (explanation s) ≤ 322
 
 -- so that from C no length of a message of bytes is taken for a refusal
 abbrev pub ExplainedTells : Type 0
