@@ -11,7 +11,6 @@ use lib.Dec.{leb}
 use lib.ListN.{length, getD}
 use lib.Seq.{sets}
 use Rattle.text.specs.Text.{ascii}
-use Rattle.wire.specs.declared.refusal.Refusal.{Refusal}
 use Rattle.wire.specs.declared.refusal.Refusal.the-variants.{NoRoom}
 use Rattle.word.specs.Digits.{decimal}
 use Rattle.place.specs.declared.written.Written.the-variants.{Length, Refused}

@@ -22,22 +22,17 @@ use Rattle.head.specs.declared.Kind.{Kind}
 use Rattle.head.specs.declared.Kind.the-variants.{Negotiate, Challenge, Authenticate}
 use Rattle.head.specs.Head.{flagsAt, kindOf}
 use Rattle.negotiate.specs.Negotiate as N
-use Rattle.negotiate.specs.Negotiate.{readNegotiate}
 use Rattle.challenge.specs.declared.Answer.{Answer as ChalAnswer}
 use Rattle.challenge.specs.Challenge as C
-use Rattle.challenge.specs.Challenge.{readChallenge}
 use Rattle.authenticate.specs.declared.Answer.{Answer as AuthAnswer}
 use Rattle.authenticate.specs.Authenticate as A
-use Rattle.authenticate.specs.Authenticate.{readAuthenticate}
 use Rattle.line_checks.specs.declared.Figures.{Figures as Given}
 use Rattle.line_checks.specs.Checks.{checkLines}
 use Rattle.explain.specs.Explain.{checksOf, readAs, fieldsOf, numbered, hasPair, figuresOf, figuresOn, figuresAs, explainedAs, explanation, negoVerdict, chalVerdict, authVerdict}
-use Rattle.demands.specs.Message.{Format, negotiate, authenticate, challenge, lenOf, offsetOf, Nonempty, Fails, DifferInIgnored}
-use Rattle.demands.specs.TakenExactly.{InfoBytes}
+use Rattle.demands.specs.Message.{negotiate, authenticate, challenge, lenOf, offsetOf, Nonempty, DifferInIgnored}
 use Rattle.demands.specs.Secret.{DifferInSecrets}
-use Rattle.demands.specs.Ignored.{DifferAsRead}
 use Rattle.demands.specs.Explained.{FailsAt, at-field, at-pair, Before, ExplainedIgnored, SecretExplained}
-use Rattle.demands.proofs.Message.Unchanged.{Seen, looked, flags-same}
+use Rattle.demands.proofs.Message.Unchanged.{looked, flags-same}
 use Rattle.demands.proofs.TakenExactly.Negotiate.{negotiate-ignored, negotiate-seen, fields-same as nego-fields}
 use Rattle.demands.proofs.Ignored.ChallengeIgnored.{challenge-ignored, seen as challenge-seen, fields-same as chal-fields}
 use Rattle.demands.proofs.Ignored.{authenticate-ignored, seen as authenticate-seen, fields-same as auth-fields}

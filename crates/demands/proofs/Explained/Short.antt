@@ -1,6 +1,6 @@
 -- How long the print is at most.
 use Prim.Native.Nat.{ℕ, zero, suc, _+_, _/_, _^_, _≤_, _<_}
-use mathlib.Core.Path.{_≡_, refl, sym, ap, _∙_}
+use mathlib.Core.Path.{_≡_, refl}
 use mathlib.Core.Bool.{Bool, true, false, _&&_, not, cond}
 use mathlib.Core.List.{List, [], _∷_, _++_}
 use native.Mathlib.Omega.{arith}
@@ -30,7 +30,7 @@ use Rattle.line_checks.specs.Checks.{aboutPair, plainWords, pairText, pairWords
 use Rattle.explain.specs.Explain.{checksOf, readAs, fieldsOf, numbered, hasPair, ofPair, figuresOf, figuresOn, figuresAs, explainedAs, explanation, chalVerdict}
 use Rattle.explain.proofs.Laws.{no-head}
 use Rattle.demands.specs.Answers.{TellsWritten}
-use Rattle.demands.specs.Message.{Nonempty, lenOf, offsetOf}
+use Rattle.demands.specs.Message.{Nonempty}
 use Rattle.demands.specs.Explained.{formatOf, ExplainedShort, ExplainedTells}
 use Rattle.demands.proofs.TakenExactly.Places.{place-in-message}
 use Rattle.demands.proofs.Answers.Told.{number-small, tells-refusal, tells-length}
