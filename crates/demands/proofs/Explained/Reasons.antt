@@ -87,10 +87,10 @@ pub record Why (k : Kind) (s : List ℕ) (n i p : ℕ) : Type 0 where
   pub holds : (m : ℕ) → Before (checksOf k) m n → HoldsUpTo k s m
   pub head : 0 < i → Nonempty (formatOf k) s i
 
-not-negotiate : Negotiate ≡ Challenge → ⊥
+pub not-negotiate : Negotiate ≡ Challenge → ⊥
 not-negotiate h = let z : _≡_ {A = ℕ} 0 1 = cc in omega arith
 
-not-authenticate : Authenticate ≡ Challenge → ⊥
+pub not-authenticate : Authenticate ≡ Challenge → ⊥
 not-authenticate h = let z : _≡_ {A = ℕ} 0 1 = cc in omega arith
 
 negotiate-why : (s : List ℕ) (n i : ℕ) → First (Fails negotiate s) n i → Why Negotiate s n i 0

@@ -40,7 +40,7 @@ use Rattle.demands.proofs.Secret.{secret-read, fields-same as secret-fi
 use Rattle.demands.proofs.Secret.SecretPrinted.{secret-printed}
 use Rattle.demands.proofs.Ignored.LineIgnored.{kind-same}
 use Rattle.demands.proofs.Explained.{refused-as, OfPair, by-pair, pair-inside}
-use Rattle.demands.proofs.Explained.Reasons.{Why, why, up-to-9, info-counts}
+use Rattle.demands.proofs.Explained.Reasons.{Why, why, up-to-9, info-counts, not-negotiate, not-authenticate}
 
 -- the figures of one refusal are the same where the heads are, and the numbers of its pair
 figures-same : (s t : List ℕ) (fs gs : List (ℕ × Field)) (v : Verdict) → length s ≡ length t → fs ≡ gs →
@@ -76,12 +76,6 @@ no-pair k s other e h p = go (why k s _ _ _ (refused-as k s e h) .fails) where
   go : FailsAt k s (numberOf e) (fieldOf e) (placeOf e) → ⊥
   go (at-field f z) = omega (arith, up-to-9 _ s (numberOf e) (fieldOf e) f, by-pair (numberOf e) (λ m. 10 ≤ m) (pair-number (numberOf e) p) (omega arith) (omega arith) (omega arith))
   go (at-pair b q c i x l t f z) = other c
-
-not-negotiate : Negotiate ≡ Challenge → ⊥
-not-negotiate h = let z : _≡_ {A = ℕ} 0 1 = cc in omega arith
-
-not-authenticate : Authenticate ≡ Challenge → ⊥
-not-authenticate h = let z : _≡_ {A = ℕ} 0 1 = cc in omega arith
 
 -- and its numbers are no ignored bytes
 module _ (s t : List ℕ) (d : DifferInIgnored challenge s t) (e : Refusal) (h : readAs Challenge s ≡ Not e) (p : hasPair (numberOf e) ≡ true) where
