@@ -5,39 +5,35 @@ pub mod Reasons
 pub mod Same
 pub mod Short
 pub mod Example
-use Prim.Native.Nat.{ℕ, _+_, _≤_, _<_, min}
+use Prim.Native.Nat.{ℕ, _+_, _≤_, _<_}
 use mathlib.Core.Path.{_≡_, refl, sym, ap, _∙_, subst}
 use mathlib.Core.Logic.{_⊎_, inl, inr, ⊎-elim}
 use mathlib.Core.Bool.{Bool, true, false, cond}
 use mathlib.Core.List.{List, [], _∷_}
 use native.Mathlib.Omega.{arith}
-use lib.Dec.{leb, ltb, eqb}
-use lib.ListN.{length, take, drop, getD, length-take, length-drop}
+use lib.Dec.{ltb, eqb}
+use lib.ListN.{length, take, drop, getD, length-take}
 use lib.Seq.{getD-take, getD-drop}
 use borrow.Author.Tests.{eqb-true, eqb-false, eq-eqb, ne-eqb, ltb-true, lt-ltb, le-ltb, le-leb, lt-leb}
-use Rattle.wire.specs.declared.check.Verdict.{Verdict}
 use Rattle.wire.specs.declared.check.Verdict.the-variants.{Clear, Refused as Not}
 use Rattle.wire.specs.declared.refusal.Refusal.{Refusal}
 use Rattle.wire.specs.Number.{u16At}
 use Rattle.wire.specs.Refusal.{numberOf, fieldOf, placeOf}
 use Rattle.wire.proofs.Places.{placeless-number}
 use Rattle.field.specs.declared.Field.{Field}
-use Rattle.field.specs.Field.{isEmpty, noField}
+use Rattle.field.specs.Field.{isEmpty}
 use Rattle.place.specs.Written.{bytesAnswer}
 use Rattle.head.specs.declared.Kind.{Kind}
 use Rattle.head.specs.declared.Kind.the-variants.{Negotiate, Challenge, Authenticate}
-use Rattle.head.specs.Head.{flagsAt, kindOf}
+use Rattle.head.specs.Head.{kindOf}
 use Rattle.negotiate.specs.declared.Reading.{Reading as NegoReading}
 use Rattle.negotiate.specs.declared.Reading.the-variants.{Taken as NegoTaken, Refused as NegoRefused}
-use Rattle.negotiate.specs.Negotiate as N
 use Rattle.negotiate.specs.Negotiate.{readNegotiate}
 use Rattle.challenge.specs.declared.Reading.{Reading as ChalReading}
 use Rattle.challenge.specs.declared.Reading.the-variants.{Taken as ChalTaken, Refused as ChalRefused}
-use Rattle.challenge.specs.Challenge as C
 use Rattle.challenge.specs.Challenge.{readChallenge}
 use Rattle.authenticate.specs.declared.Reading.{Reading as AuthReading}
 use Rattle.authenticate.specs.declared.Reading.the-variants.{Taken as AuthTaken, Refused as AuthRefused}
-use Rattle.authenticate.specs.Authenticate as A
 use Rattle.authenticate.specs.Authenticate.{readAuthenticate}
 use Rattle.line_checks.specs.declared.Figures.{Figures as Given}
 use Rattle.line_checks.specs.Checks.{checkLines}
@@ -47,15 +43,14 @@ use Rattle.demands.specs.Order.{placeIn}
 use Rattle.demands.specs.Message.{Format, negotiate, authenticate, challenge, Nonempty, lenOf, offsetOf}
 use Rattle.demands.specs.PairList.{idOf, sizeOf}
 use Rattle.demands.specs.TakenExactly.{RefusalIs, InfoBytes, IsTakenNegotiate, IsTakenChallenge, IsTakenAuthenticate, NegotiateRefusedWith, ChallengeRefusedWith, AuthenticateRefusedWith}
-use Rattle.demands.specs.Explained.{Figures, State, held, failed, not-reached, printOf, formatOf, TakenAs, RefusedAs, Leads, PairFails, FailsAt, at-field, at-pair, FiguresAre, OneOf, Before, Told, ExplainedExactly, ExplainedAnswered, ExplainedKept}
-use Rattle.demands.proofs.Bools.{true-not-false}
+use Rattle.demands.specs.Explained.{Figures, State, held, failed, not-reached, printOf, formatOf, TakenAs, RefusedAs, FailsAt, at-field, at-pair, FiguresAre, OneOf, Before, Told, ExplainedExactly, ExplainedAnswered, ExplainedKept}
 use Rattle.demands.proofs.Kept.{line-kept}
 use Rattle.demands.proofs.Message.{Stands}
 use Rattle.demands.proofs.Message.Fields.{AllStand}
 use Rattle.demands.proofs.TakenExactly.{six, authenticate-refused}
 use Rattle.demands.proofs.TakenExactly.Negotiate.{two as nego-two, negotiate-refused}
 use Rattle.demands.proofs.TakenExactly.Challenge.{two as chal-two}
-use Rattle.demands.proofs.Explained.Lines.{shown, stateBy, stateOf, distinct, lines-are}
+use Rattle.demands.proofs.Explained.Lines.{shown, stateBy, stateOf, lines-are}
 use Rattle.demands.proofs.Explained.Reasons.{Why, why, taken-holds, one-info, info-counts, up-to-9}
 
 -- ---- the verdict that the print goes by is the reader's

@@ -11,7 +11,6 @@ use lib.Dec.{leb}
 use lib.ListN.{length, getD}
 use lib.Seq.{sets}
 use Rattle.text.specs.Text.{ascii}
-use Rattle.wire.specs.declared.refusal.Refusal.{Refusal}
 use Rattle.wire.specs.declared.refusal.Refusal.the-variants.{NoRoom}
 use Rattle.word.specs.Digits.{decimal}
 use Rattle.place.specs.declared.written.Written.the-variants.{Length, Refused}
@@ -22,7 +21,9 @@ use Rattle.head.specs.Head.{kindOf}
 use Rattle.negotiate.specs.Negotiate.{readNegotiate}
 use Rattle.challenge.specs.Challenge.{readChallenge}
 use Rattle.authenticate.specs.Authenticate.{readAuthenticate}
+use Rattle.c_number.specs.Number.{writtenNumber}
 use Rattle.explain.specs.Explain.{checksOf, explanation}
+use Rattle.demands.specs.Answers.{TellsWritten}
 use Rattle.demands.specs.Bench.{p1}
 use Rattle.demands.specs.Examples.{challengeMessage}
 use Rattle.demands.specs.Ignored.{DifferAsRead}
@@ -184,7 +185,13 @@ SecretExplained = (s t : List ℕ) → DifferInSecrets s t → kindOf s ≡ Auth
 
 -- so many bytes always suffice for it
 abbrev pub ExplainedShort : Type 0
-ExplainedShort = (s : List ℕ) → ((i : ℕ) → getD s i 0 < 256) → length (explanation s) ≤ 464
+ExplainedShort = (s : List ℕ) → ((i : ℕ) → getD s i 0 < 256) → length (explanation s) ≤ 322
+
+-- so that from C no length of a message of bytes is taken for a refusal
+abbrev pub ExplainedTells : Type 0
+ExplainedTells =
+    (s out : List ℕ) → ((i : ℕ) → getD s i 0 < 256) →
+    TellsWritten (writtenNumber (bytesAnswer (explanation s) out)) (bytesAnswer (explanation s) out)
 
 -- ---- examples, worked out by hand
 

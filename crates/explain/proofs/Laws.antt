@@ -1,6 +1,6 @@
 -- Laws of the figures and of the print.
-use Prim.Native.Nat.{ℕ, _+_, _^_, _≤_, _<_, min}
-use mathlib.Core.Path.{_≡_, refl, sym, ap, _∙_}
+use Prim.Native.Nat.{ℕ, _+_, _≤_, min}
+use mathlib.Core.Path.{_≡_, _∙_}
 use mathlib.Core.Bool.{Bool, true, false, _&&_, not}
 use mathlib.Core.List.{List, [], _∷_}
 use native.Mathlib.Omega.{arith}
@@ -36,7 +36,7 @@ use Rattle.challenge.specs.Challenge as C
 use Rattle.challenge.specs.Challenge.{readChallenge}
 use Rattle.line_checks.specs.declared.Figures.{Figures}
 use Rattle.line_checks.specs.Checks.{aboutPair, checkLines}
-use Rattle.explain.specs.Explain.{fieldsOf, numbered, hasPair, ofPair, figuresOf, noFigures, figuresAs, checksOf, explainedAs, explanation, FixedPart, NumberThere, Placed}
+use Rattle.explain.specs.Explain.{fieldsOf, numbered, ofPair, figuresOf, noFigures, figuresAs, explainedAs, explanation, FixedPart, NumberThere, Placed}
 
 -- ---- the head of a field
 

@@ -12,13 +12,12 @@ use Rattle.wire.specs.declared.check.Checked.{Checked}
 use Rattle.wire.specs.declared.check.Verdict.{Verdict}
 use Rattle.wire.specs.declared.check.Verdict.the-variants.{Clear, Refused as Not}
 use Rattle.wire.specs.declared.refusal.Refusal.{Refusal}
-use Rattle.wire.specs.declared.refusal.Refusal.the-variants.{PastEnd, InFixedPart, OddName, NameOverSecret, PairPastEnd, PairMissing, WrongEndPair, WrongPairSize}
-use Rattle.wire.specs.Check.{after, overAll, onClear}
+use Rattle.wire.specs.declared.refusal.Refusal.the-variants.{PastEnd, InFixedPart, OddName, NameOverSecret}
+use Rattle.wire.specs.Check.{overAll, onClear}
 use Rattle.wire.specs.Refusal.{numberOf, fieldOf, placeOf, movedBy}
 use Rattle.wire.proofs.Bools.{and-left}
 use Rattle.wire.proofs.Places.{of-after}
-use Rattle.field.specs.declared.Field.{Field}
-use Rattle.field.specs.Field.{endsInside, beginsAfter, evenName, fieldBytes}
+use Rattle.field.specs.Field.{endsInside, beginsAfter, evenName}
 use Rattle.negotiate_flags.specs.declared.NegotiateFlags.{NegotiateFlags}
 use Rattle.negotiate_flags.specs.Flags.{unicode, charsetHolds}
 use Rattle.head.specs.declared.Head.{Head}

@@ -1,21 +1,20 @@
 -- Laws of the lines of checks.
-use Prim.Native.Nat.{ℕ, suc, _+_, _-_, _≤_, _<_}
-use mathlib.Core.Path.{_≡_, refl, sym, ap, _∙_}
-use mathlib.Core.Bool.{Bool, true, false, _&&_, not, cond}
-use mathlib.Core.List.{List, [], _∷_, _++_, append-assoc, append-nil}
+use Prim.Native.Nat.{ℕ, _+_, _-_, _≤_, _<_}
+use mathlib.Core.Path.{_≡_, refl, ap, _∙_}
+use mathlib.Core.Bool.{Bool, true, false, _&&_, not}
+use mathlib.Core.List.{List, [], _++_, append-assoc, append-nil}
 use native.Mathlib.Numerals.{add-one}
 use native.Mathlib.Omega.{arith}
-use lib.Dec.{leb, eqb}
+use lib.Dec.{eqb}
 use lib.ListN.{length, getD, drop, length-append, drop-of-length-le}
 use lib.Seq.{drop-cons}
 use borrow.Author.Tests.{eq-eqb, ne-eqb, le-leb, lt-leb}
 use Rattle.text.specs.Text.{ascii}
 use Rattle.wire.specs.declared.check.Checked.the-variants.{Held, Failed}
-use Rattle.wire.specs.Check.{checked}
 use Rattle.place.specs.Place.{Wrote}
 use Rattle.place.specs.Written.{roomHolds}
 use Rattle.place.proofs.Laws.{and-then, nothing, kept}
-use Rattle.word.specs.Words.{Room, numberWord, lineEnd}
+use Rattle.word.specs.Words.{Room, numberWord}
 use Rattle.line_checks.specs.declared.Figures.{Figures}
 use Rattle.line_checks.specs.Checks.{plainWords, aboutPair, pairText, pairWords, messageWords, figureWords, failedWords, wordsOf, lineOf, linesFrom, checkLines}
 

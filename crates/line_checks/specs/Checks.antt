@@ -1,6 +1,6 @@
 -- The lines of a message's checks (document 02, 4/12), one to a line, each of them held, failed or not reached.
 use Prim.Native.Nat.{ℕ}
-use mathlib.Core.Bool.{Bool, true, false, _&&_, not, cond}
+use mathlib.Core.Bool.{Bool, true, _&&_, not, cond}
 use mathlib.Core.List.{List, [], _∷_, _++_}
 use lib.Dec.{leb, eqb}
 use Rattle.text.specs.Text.{ascii}

@@ -1,7 +1,7 @@
 -- Checks 10 to 13 at the places to which pairs without fault lead.
-use Prim.Native.Nat.{ℕ, _+_, _<_, _≤_}
+use Prim.Native.Nat.{ℕ, _<_}
 use mathlib.Core.Path.{_≡_, refl, sym, subst}
-use mathlib.Core.Logic.{inl, inr, ⊎-elim}
+use mathlib.Core.Logic.{⊎-elim}
 use mathlib.Core.Bool.{Bool, true, false}
 use mathlib.Core.List.{List}
 use native.Mathlib.Omega.{arith}
@@ -11,7 +11,7 @@ use borrow.Author.Tests.{eqb-true}
 use Rattle.head.specs.declared.Kind.the-variants.{Challenge}
 use Rattle.explain.specs.Explain.{checksOf}
 use Rattle.demands.specs.Order.{placeIn}
-use Rattle.demands.specs.PairList.{idOf, sizeOf, nextOf, SizeAllowed, PairAt, EndAt, WellFormed, end, pair, Holds, empty, listed, Fails10, Fails11, Fails12, Fails13, FaultAt, fault10, fault11, fault12, fault13, FirstFault, here, later}
+use Rattle.demands.specs.PairList.{idOf, sizeOf, SizeAllowed, PairAt, EndAt, WellFormed, end, pair, Holds, empty, listed, Fails10, Fails11, Fails12, Fails13, FaultAt, fault10, fault11, fault12, fault13, FirstFault, here, later}
 use Rattle.demands.specs.Explained.{PairFails, Leads, there, past, Before}
 use Rattle.demands.proofs.PairList.{pair-or-end, pair-or-fault}
 

@@ -7,7 +7,7 @@ use mathlib.Core.List.{List, [], _∷_, _++_}
 use native.Mathlib.Omega.{arith}
 use lib.Dec.{eqb}
 use lib.ListN.{length}
-use borrow.Author.Tests.{eqb-true, eqb-false}
+use borrow.Author.Tests.{eqb-true}
 use Rattle.field.specs.declared.Field.{Field}
 use Rattle.field.specs.Field.{isEmpty}
 use Rattle.head.specs.declared.Kind.{Kind}
@@ -17,8 +17,8 @@ use Rattle.challenge.specs.Challenge as C
 use Rattle.explain.specs.Explain.{checksOf}
 use Rattle.demands.specs.Order.{First, placeIn}
 use Rattle.demands.specs.Message.{Format, negotiate, authenticate, challenge, Nonempty, Fails}
-use Rattle.demands.specs.TakenExactly.{InfoBytes, ChallengeHolds, ChallengeFails, in-fields, in-list}
-use Rattle.demands.specs.Explained.{formatOf, TakenAs, RefusedAs, PairFails, FailsAt, at-field, at-pair, HoldsUpTo, OneOf, Before}
+use Rattle.demands.specs.TakenExactly.{InfoBytes, ChallengeFails, in-fields, in-list}
+use Rattle.demands.specs.Explained.{formatOf, TakenAs, RefusedAs, FailsAt, at-field, at-pair, HoldsUpTo, OneOf, Before}
 use Rattle.demands.proofs.Message.{Stands}
 use Rattle.demands.proofs.TakenExactly.{authenticate-taken, authenticate-refused}
 use Rattle.demands.proofs.TakenExactly.Negotiate.{negotiate-taken, negotiate-refused}
@@ -87,10 +87,10 @@ pub record Why (k : Kind) (s : List ℕ) (n i p : ℕ) : Type 0 where
   pub holds : (m : ℕ) → Before (checksOf k) m n → HoldsUpTo k s m
   pub head : 0 < i → Nonempty (formatOf k) s i
 
-not-negotiate : Negotiate ≡ Challenge → ⊥
+pub not-negotiate : Negotiate ≡ Challenge → ⊥
 not-negotiate h = let z : _≡_ {A = ℕ} 0 1 = cc in omega arith
 
-not-authenticate : Authenticate ≡ Challenge → ⊥
+pub not-authenticate : Authenticate ≡ Challenge → ⊥
 not-authenticate h = let z : _≡_ {A = ℕ} 0 1 = cc in omega arith
 
 negotiate-why : (s : List ℕ) (n i : ℕ) → First (Fails negotiate s) n i → Why Negotiate s n i 0

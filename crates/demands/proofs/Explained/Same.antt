@@ -22,22 +22,17 @@ use Rattle.head.specs.declared.Kind.{Kind}
 use Rattle.head.specs.declared.Kind.the-variants.{Negotiate, Challenge, Authenticate}
 use Rattle.head.specs.Head.{flagsAt, kindOf}
 use Rattle.negotiate.specs.Negotiate as N
-use Rattle.negotiate.specs.Negotiate.{readNegotiate}
 use Rattle.challenge.specs.declared.Answer.{Answer as ChalAnswer}
 use Rattle.challenge.specs.Challenge as C
-use Rattle.challenge.specs.Challenge.{readChallenge}
 use Rattle.authenticate.specs.declared.Answer.{Answer as AuthAnswer}
 use Rattle.authenticate.specs.Authenticate as A
-use Rattle.authenticate.specs.Authenticate.{readAuthenticate}
 use Rattle.line_checks.specs.declared.Figures.{Figures as Given}
 use Rattle.line_checks.specs.Checks.{checkLines}
 use Rattle.explain.specs.Explain.{checksOf, readAs, fieldsOf, numbered, hasPair, figuresOf, figuresOn, figuresAs, explainedAs, explanation, negoVerdict, chalVerdict, authVerdict}
-use Rattle.demands.specs.Message.{Format, negotiate, authenticate, challenge, lenOf, offsetOf, Nonempty, Fails, DifferInIgnored}
-use Rattle.demands.specs.TakenExactly.{InfoBytes}
+use Rattle.demands.specs.Message.{negotiate, authenticate, challenge, lenOf, offsetOf, Nonempty, DifferInIgnored}
 use Rattle.demands.specs.Secret.{DifferInSecrets}
-use Rattle.demands.specs.Ignored.{DifferAsRead}
 use Rattle.demands.specs.Explained.{FailsAt, at-field, at-pair, Before, ExplainedIgnored, SecretExplained}
-use Rattle.demands.proofs.Message.Unchanged.{Seen, looked, flags-same}
+use Rattle.demands.proofs.Message.Unchanged.{looked, flags-same}
 use Rattle.demands.proofs.TakenExactly.Negotiate.{negotiate-ignored, negotiate-seen, fields-same as nego-fields}
 use Rattle.demands.proofs.Ignored.ChallengeIgnored.{challenge-ignored, seen as challenge-seen, fields-same as chal-fields}
 use Rattle.demands.proofs.Ignored.{authenticate-ignored, seen as authenticate-seen, fields-same as auth-fields}
@@ -45,7 +40,7 @@ use Rattle.demands.proofs.Secret.{secret-read, fields-same as secret-fi
 use Rattle.demands.proofs.Secret.SecretPrinted.{secret-printed}
 use Rattle.demands.proofs.Ignored.LineIgnored.{kind-same}
 use Rattle.demands.proofs.Explained.{refused-as, OfPair, by-pair, pair-inside}
-use Rattle.demands.proofs.Explained.Reasons.{Why, why, up-to-9, info-counts}
+use Rattle.demands.proofs.Explained.Reasons.{Why, why, up-to-9, info-counts, not-negotiate, not-authenticate}
 
 -- the figures of one refusal are the same where the heads are, and the numbers of its pair
 figures-same : (s t : List ℕ) (fs gs : List (ℕ × Field)) (v : Verdict) → length s ≡ length t → fs ≡ gs →
@@ -81,12 +76,6 @@ no-pair k s other e h p = go (why k s _ _ _ (refused-as k s e h) .fails) where
   go : FailsAt k s (numberOf e) (fieldOf e) (placeOf e) → ⊥
   go (at-field f z) = omega (arith, up-to-9 _ s (numberOf e) (fieldOf e) f, by-pair (numberOf e) (λ m. 10 ≤ m) (pair-number (numberOf e) p) (omega arith) (omega arith) (omega arith))
   go (at-pair b q c i x l t f z) = other c
-
-not-negotiate : Negotiate ≡ Challenge → ⊥
-not-negotiate h = let z : _≡_ {A = ℕ} 0 1 = cc in omega arith
-
-not-authenticate : Authenticate ≡ Challenge → ⊥
-not-authenticate h = let z : _≡_ {A = ℕ} 0 1 = cc in omega arith
 
 -- and its numbers are no ignored bytes
 module _ (s t : List ℕ) (d : DifferInIgnored challenge s t) (e : Refusal) (h : readAs Challenge s ≡ Not e) (p : hasPair (numberOf e) ≡ true) where

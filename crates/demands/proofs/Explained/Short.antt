@@ -1,73 +1,90 @@
 -- How long the print is at most.
-use Prim.Native.Nat.{ℕ, _+_, _≤_, _<_}
-use mathlib.Core.Path.{_≡_, refl, sym, ap, _∙_}
+use Prim.Native.Nat.{ℕ, zero, suc, _+_, _/_, _^_, _≤_, _<_}
+use mathlib.Core.Path.{_≡_, refl}
 use mathlib.Core.Bool.{Bool, true, false, _&&_, not, cond}
 use mathlib.Core.List.{List, [], _∷_, _++_}
 use native.Mathlib.Omega.{arith}
-use lib.Dec.{ltb, eqb}
+use lib.Dec.{leb, ltb, eqb}
 use lib.ListN.{length, getD, length-append}
-use borrow.Author.Tests.{ltb-true, ltb-false}
+use borrow.Author.Tests.{leb-true, leb-false, ltb-true, ltb-false}
 use Rattle.text.specs.Text.{ascii}
 use Rattle.wire.specs.declared.check.Verdict.{Verdict}
 use Rattle.wire.specs.declared.check.Verdict.the-variants.{Clear, Refused as Not}
 use Rattle.wire.specs.declared.refusal.Refusal.{Refusal}
+use Rattle.wire.specs.declared.refusal.Refusal.the-variants.{NoRoom}
 use Rattle.wire.specs.Number.{u16At, u32At}
 use Rattle.wire.specs.Refusal.{numberOf, fieldOf, placeOf}
-use Rattle.word.specs.Digits.{decimalSize, decimal}
+use Rattle.word.specs.Digits.{sizeStep, sizeWithin, decimalSize, decimal}
 use Rattle.word.specs.Words.{numberWord}
-use Rattle.word.proofs.Numbers.{decimal-small}
+use Rattle.word.proofs.Numbers.{length-digits}
 use Rattle.head.specs.declared.Kind.{Kind}
 use Rattle.head.specs.declared.Kind.the-variants.{Negotiate, Challenge, Authenticate}
 use Rattle.head.specs.Head.{kindOf}
 use Rattle.challenge.specs.declared.Reading.{Reading}
 use Rattle.challenge.specs.declared.Reading.the-variants.{Taken, Refused}
 use Rattle.challenge.specs.Challenge.{readChallenge}
+use Rattle.place.specs.Written.{bytesAnswer}
+use Rattle.c_number.specs.Number.{writtenNumber}
 use Rattle.line_checks.specs.declared.Figures.{Figures as Given}
 use Rattle.line_checks.specs.Checks.{aboutPair, plainWords, pairText, pairWords, messageWords, figureWords, failedWords, wordsOf, lineOf, linesFrom, checkLines}
 use Rattle.explain.specs.Explain.{checksOf, readAs, fieldsOf, numbered, hasPair, ofPair, figuresOf, figuresOn, figuresAs, explainedAs, explanation, chalVerdict}
 use Rattle.explain.proofs.Laws.{no-head}
-use Rattle.demands.specs.Message.{Nonempty, lenOf, offsetOf}
-use Rattle.demands.specs.Explained.{formatOf, ExplainedShort}
+use Rattle.demands.specs.Answers.{TellsWritten}
+use Rattle.demands.specs.Message.{Nonempty}
+use Rattle.demands.specs.Explained.{formatOf, ExplainedShort, ExplainedTells}
 use Rattle.demands.proofs.TakenExactly.Places.{place-in-message}
-use Rattle.demands.proofs.Answers.Told.{number-small}
-use Rattle.demands.proofs.Explained.{refused-as, head-is}
+use Rattle.demands.proofs.Answers.Told.{number-small, tells-refusal, tells-length}
+use Rattle.demands.proofs.Digits.{decimal-has-value}
+use Rattle.demands.proofs.Explained.{refused-as, head-is, explained-answered}
 use Rattle.demands.proofs.Explained.Reasons.{why}
+
+-- ---- decimals
+
+-- a number below ten to the k has at most k digits
+few : (j k n : ℕ) → n < 10 ^ suc k → sizeWithin j n ≤ suc k
+few zero k n h = omega arith
+few (suc j) k n h = go (ltb n 10) refl (λ i m. few j i m) k h where
+  go : (t : Bool) → ltb n 10 ≡ t → ((i m : ℕ) → m < 10 ^ suc i → sizeWithin j m ≤ suc i) → (k : ℕ) → n < 10 ^ suc k → sizeStep t n (λ m. sizeWithin j m) ≤ suc k
+  go true e rest k h = omega arith
+  go false e rest zero h = absurd (omega (arith, ltb-false n 10 e))
+  go false e rest (suc k) h = omega (arith, rest k (n / 10) (omega arith))
+
+word-bound : (label : List ℕ) (k n : ℕ) → n < 10 ^ suc k → length (numberWord label n) ≤ length label + suc k
+unfolding numberWord decimal decimalSize
+word-bound label k n l = omega (arith, length-append label (decimal n), length-digits 10 (decimalSize n) n, few n k n l)
 
 -- ---- a line
 
--- figures of 32 bits
 record Small (g : Given) : Type 0 where
-  number : g .number < 4294967296
-  field : g .field < 4294967296
+  number : g .number < 100
+  field : g .field < 10
   offset : g .head .offset < 4294967296
-  len : g .head .len < 4294967296
-  message : g .message < 4294967296
-  at : g .at < 4294967296
-  id : g .id < 4294967296
-  size : g .size < 4294967296
+  len : g .head .len < 65536
+  message : g .message ≤ 65536
+  at : g .at < 65536
+  id : g .id < 65536
+  size : g .size < 65536
 
-word-bound : (label : List ℕ) (n : ℕ) → n < 4294967296 → length (numberWord label n) ≤ length label + 20
-unfolding numberWord
-word-bound label n l = omega (arith, length-append label (decimal n), decimal-small n (length (decimal n)) refl (omega arith))
-
-pair-bound : (g : Given) → Small g → length (pairWords g) ≤ 74
+pair-bound : (g : Given) → Small g → length (pairWords g) ≤ 29
 unfolding pairWords pairText
 pair-bound g w = go (aboutPair (g .number)) where
-  go : (t : Bool) → length (cond t (numberWord (ascii " at=") (g .at) ++ (numberWord (ascii " id=") (g .id) ++ numberWord (ascii " size=") (g .size))) []) ≤ 74
-  go true = simp length-append (omega (arith, word-bound (ascii " at=") (g .at) (w .at), word-bound (ascii " id=") (g .id) (w .id), word-bound (ascii " size=") (g .size) (w .size)))
+  go : (t : Bool) → length (cond t (numberWord (ascii " at=") (g .at) ++ (numberWord (ascii " id=") (g .id) ++ numberWord (ascii " size=") (g .size))) []) ≤ 29
+  go true =
+      simp length-append
+      (omega (arith, word-bound (ascii " at=") 4 (g .at) (omega (arith, w .at)), word-bound (ascii " id=") 4 (g .id) (omega (arith, w .id)), word-bound (ascii " size=") 4 (g .size) (omega (arith, w .size))))
   go false = omega arith
 
-failed-bound : (g : Given) → Small g → length (failedWords g) ≤ 219
+failed-bound : (g : Given) → Small g → length (failedWords g) ≤ 97
 unfolding failedWords figureWords messageWords
 failed-bound g w =
     simp length-append
     (omega (
       arith,
-      word-bound (ascii "check ") (g .number) (w .number),
-      word-bound (ascii " failed field=") (g .field) (w .field),
-      word-bound (ascii " offset=") (g .head .offset) (w .offset),
-      word-bound (ascii " length=") (g .head .len) (w .len),
-      word-bound (ascii " message=") (g .message) (w .message),
+      word-bound (ascii "check ") 1 (g .number) (omega (arith, w .number)),
+      word-bound (ascii " failed field=") 0 (g .field) (omega (arith, w .field)),
+      word-bound (ascii " offset=") 9 (g .head .offset) (omega (arith, w .offset)),
+      word-bound (ascii " length=") 4 (g .head .len) (omega (arith, w .len)),
+      word-bound (ascii " message=") 4 (g .message) (omega (arith, w .message)),
       pair-bound g w,
     ))
 
@@ -76,16 +93,21 @@ held-bound : (g : Given) (n : ℕ) → eqb n (g .number) ≡ false → length (l
 unfolding lineOf wordsOf plainWords
 held-bound g n h = simp (h, length-append) (omega arith)
 
-failed-line : (g : Given) (n : ℕ) → Small g → eqb n (g .number) ≡ true → length (lineOf true g n) ≤ 220
+failed-line : (g : Given) (n : ℕ) → Small g → eqb n (g .number) ≡ true → length (lineOf true g n) ≤ 98
 unfolding lineOf wordsOf
 failed-line g n w h = simp (h, length-append) (omega (arith, failed-bound g w))
 
-lines-bound : (g : Given) (cs : List ℕ) → Small g → length (linesFrom true g cs) ≤ 220 + length (linesFrom false g cs)
+-- that line has at least 20 bytes
+unreached-size : (g : Given) (n : ℕ) → 20 ≤ length (lineOf false g n)
+unfolding lineOf wordsOf plainWords numberWord
+unreached-size g n = simp length-append (omega (arith, decimal-has-value n .some))
+
+lines-bound : (g : Given) (cs : List ℕ) → Small g → length (linesFrom true g cs) ≤ 78 + length (linesFrom false g cs)
 lines-bound g [] w = omega arith
 lines-bound g (c ∷ cs) w = go (eqb c (g .number)) refl (lines-bound g cs w) where
-  go : (t : Bool) → eqb c (g .number) ≡ t → length (linesFrom true g cs) ≤ 220 + length (linesFrom false g cs) →
-      length (lineOf true g c ++ linesFrom (true && not (eqb c (g .number))) g cs) ≤ 220 + length (lineOf false g c ++ linesFrom false g cs)
-  go true p rest = rw p (simp length-append (omega (arith, failed-line g c w p)))
+  go : (t : Bool) → eqb c (g .number) ≡ t → length (linesFrom true g cs) ≤ 78 + length (linesFrom false g cs) →
+      length (lineOf true g c ++ linesFrom (true && not (eqb c (g .number))) g cs) ≤ 78 + length (lineOf false g c ++ linesFrom false g cs)
+  go true p rest = rw p (simp length-append (omega (arith, failed-line g c w p, unreached-size g c)))
   go false p rest = rw p (simp length-append (omega (arith, held-bound g c p, rest)))
 
 -- ---- the figures of a message
@@ -98,21 +120,21 @@ module _ (s : List ℕ) (bytes : (i : ℕ) → getD s i 0 < 256) where
   small32 : (at : ℕ) → u32At s at < 4294967296
   small32 at = omega (arith, small16 at, small16 (at + 2))
 
-  of-pair : (n at : ℕ) → ofPair n (u16At s at) < 4294967296
+  of-pair : (n at : ℕ) → ofPair n (u16At s at) < 65536
   of-pair n at = go (hasPair n) where
-    go : (t : Bool) → cond t (u16At s at) 0 < 4294967296
+    go : (t : Bool) → cond t (u16At s at) 0 < 65536
     go true = omega (arith, small16 at)
     go false = omega arith
 
   head-small : (k : Kind) (i : ℕ) → (0 < i → Nonempty (formatOf k) s i) →
-      (i < 4294967296) × (numbered i (fieldsOf k s) .offset < 4294967296) × (numbered i (fieldsOf k s) .len < 4294967296)
+      (i < 10) × (numbered i (fieldsOf k s) .offset < 4294967296) × (numbered i (fieldsOf k s) .len < 65536)
   head-small k i h = go (ltb 0 i) refl where
     last : (k : Kind) → formatOf k .last ≤ 6
     last Negotiate = omega arith
     last Challenge = omega arith
     last Authenticate = omega arith
 
-    go : (t : Bool) → ltb 0 i ≡ t → (i < 4294967296) × (numbered i (fieldsOf k s) .offset < 4294967296) × (numbered i (fieldsOf k s) .len < 4294967296)
+    go : (t : Bool) → ltb 0 i ≡ t → (i < 10) × (numbered i (fieldsOf k s) .offset < 4294967296) × (numbered i (fieldsOf k s) .len < 65536)
     go true p =
         let w = h (ltb-true 0 i p) in
         let x = head-is k s i w in
@@ -171,3 +193,9 @@ unfolding explanation explainedAs checkLines
 explained-short s bytes =
     let k = kindOf s in
     omega (arith, lines-bound (figuresAs k s) (checksOf k) (given-small s bytes k), none-reached k (figuresAs k s))
+
+pub explained-tells : ExplainedTells
+explained-tells s out bytes = go (leb (length (explanation s)) (length out)) refl where
+  go : (t : Bool) → leb (length (explanation s)) (length out) ≡ t → TellsWritten (writtenNumber (bytesAnswer (explanation s) out)) (bytesAnswer (explanation s) out)
+  go true p = rw (explained-answered s out .0 (leb-true (length (explanation s)) (length out) p)) (tells-length (length (explanation s)) (omega (arith, explained-short s bytes)))
+  go false p = rw (explained-answered s out .1 (leb-false (length (explanation s)) (length out) p)) (tells-refusal NoRoom (omega arith))
