@@ -309,7 +309,7 @@ uint64_t dialtable_nl_auth_program_line(const uint8_t *msg, dialtable_len msg_le
  * CHALLENGE: the order in which they are made. No line has a byte of a secret. A refused message is no refusal here.
  * Answers the print's length, or 33. */
 
-#define DIALTABLE_EXPLAIN_ROOM 279 /* always suffices: what follows check 1 of a CHALLENGE over 65,535 bytes */
+#define DIALTABLE_EXPLAIN_ROOM 322 /* always suffices, which is proved; the longest print that is known has 279 bytes */
 uint64_t dialtable_explain(const uint8_t *msg, dialtable_len msg_len, uint8_t *out, dialtable_len out_len);
 
 /* ---- Writing. Answers the message's length. */

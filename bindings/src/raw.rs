@@ -30,7 +30,7 @@ pub const DECISION_NUMBERS: usize = 3;
 pub const RESPONSE_NUMBERS: usize = 2;
 
 /// Room that suffices for every print of [`explain`].
-pub const EXPLAIN_ROOM: usize = 279;
+pub const EXPLAIN_ROOM: usize = 322;
 
 /// The setting "128-bit demanded".
 pub const DEMAND_128: u32 = 1;

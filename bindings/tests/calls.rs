@@ -461,16 +461,16 @@ fn the_checks_of_a_message() {
     let seven = format!("{held}check 6 held\ncheck 7 held\n");
     assert_eq!(explain(&negotiate(), &mut room), Ok(seven.as_bytes()));
 
-    // The longest print has exactly this room, and no less.
+    // The longest print that is known needs exactly 279 bytes.
     let mut long = challenge();
     long.resize(70_000, 0);
     let told = explain(&long, &mut room).expect("room");
     assert!(told.starts_with(b"check 1 failed field=0 offset=0 length=0 message=65536\n"));
-    assert_eq!(told.len(), EXPLAIN_ROOM);
-    let mut short = [0xEE; EXPLAIN_ROOM - 1];
+    assert_eq!(told.len(), 279);
+    let mut short = [0xEE; 278];
     assert_eq!(refusal(explain(&long, &mut short)), (33, 0));
     assert_eq!(refusal(explain(&long, &mut [])), (33, 0));
-    assert_eq!(short, [0xEE; EXPLAIN_ROOM - 1]);
+    assert_eq!(short, [0xEE; 278]);
 }
 
 #[test]

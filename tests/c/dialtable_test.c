@@ -562,7 +562,7 @@ static void explains(const message_t *p1, const message_t *challenge)
                     "check 12 not reached\ncheck 10 not reached\ncheck 13 not reached\n");
 }
 
-/* The room that always suffices is that of a CHALLENGE which is too long. */
+/* The longest print that is known is that of a CHALLENGE which is too long. */
 static void explains_the_longest(void)
 {
     static uint8_t message[65537];
@@ -570,7 +570,7 @@ static void explains_the_longest(void)
     unsigned type;
 
     for (type = 1; type <= 3; type++) {
-        static const unsigned lens[] = {175, DIALTABLE_EXPLAIN_ROOM, 215};
+        static const unsigned lens[] = {175, 279, 215};
         message[8] = (uint8_t)type;
         EQUAL(dialtable_explain(message, sizeof message, out, sizeof out), lens[type - 1]);
         CHECK(memcmp(out, "check 1 failed field=0 offset=0 length=0 message=65536\ncheck 2 not reached\n", 75) == 0);
