@@ -202,7 +202,11 @@ fn a_bad_pair_list_says_where() {
         let mut room = [0; 300];
         let answer = respond(&mut room, &message, Settings::default(), CLOCK, &parts());
         assert_eq!(refusal_at(answer), expected);
-        for call in [respond_for_bench, respond_to_old_server, respond_for_relay] {
+        for demand in [false, true] {
+            let answer = respond_for_bench(&mut room, &message, CLOCK, demand, &parts());
+            assert_eq!(refusal_at(answer), expected);
+        }
+        for call in [respond_to_old_server, respond_for_relay] {
             let answer = call(&mut room, &message, CLOCK, &parts());
             assert_eq!(refusal_at(answer), expected);
         }

@@ -29,6 +29,7 @@ struct text {
 struct program {
     const char *name;
     const char *of_none, *of_too_much;
+    const char *of_no_room; /* what it says where its print can't be written whole */
     char path[ROOM];
     struct text message;
     struct text line;
@@ -180,6 +181,8 @@ static const char not_read[] =
     "standard input could not be read to its end, so nothing was printed; give it the whole message again";
 static const char not_written[] =
     "the line could not be written whole; what was printed does not count: make room for it and run this again";
+static const char checks_not_written[] =
+    "the checks could not be written whole; what was printed does not count: make room for them and run this again";
 
 /* A program's standard error: a pipe, which no limit on files reaches. */
 static void listen_to(int err[2])
@@ -228,7 +231,7 @@ static void cannot_write(const struct program *program, const char *what, const 
     int in = holding(program->message.bytes, program->message.len), err[2], right;
     listen_to(err);
     right = ended(begin(program, start, in, out, err[1])) == 0;
-    note(program, what, heard(program, err, not_written) && right);
+    note(program, what, heard(program, err, program->of_no_room) && right);
     close(in);
 }
 
@@ -418,12 +421,13 @@ int main(int argc, char **argv)
     "check 8 not reached\ncheck 9 not reached\n"
     static const char refused_2[] = "refused 2 field=0 at=0\n", refused_1[] = "refused 1 field=0 at=0\n";
     static const struct {
-        const char *name, *of_none, *of_too_much;
+        const char *name, *of_none, *of_too_much, *of_no_room;
     } programs[] = {
-        {"ntlm_line", refused_2, refused_1},
-        {"nl_auth_line", refused_2, refused_1},
+        {"ntlm_line", refused_2, refused_1, not_written},
+        {"nl_auth_line", refused_2, refused_1, not_written},
         {"ntlm_explain", "check 1 held\ncheck 2 failed field=0 offset=0 length=0 message=0\n" NOT_REACHED_3_TO_9,
-         "check 1 failed field=0 offset=0 length=0 message=65536\ncheck 2 not reached\n" NOT_REACHED_3_TO_9}};
+         "check 1 failed field=0 offset=0 length=0 message=65536\ncheck 2 not reached\n" NOT_REACHED_3_TO_9,
+         checks_not_written}};
     size_t i;
     int fd;
     if (argc != 4) {
@@ -440,6 +444,7 @@ int main(int argc, char **argv)
         program.name = programs[i].name;
         program.of_none = programs[i].of_none;
         program.of_too_much = programs[i].of_too_much;
+        program.of_no_room = programs[i].of_no_room;
         snprintf(program.path, sizeof program.path, "%s/%s", argv[1], program.name);
         get_file(argv[2], program.name, "stdin", &program.message);
         get_file(argv[2], program.name, "stdout", &program.line);
