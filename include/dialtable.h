@@ -229,7 +229,7 @@ uint64_t dialtable_read_nl_auth(const uint8_t *msg, dialtable_len msg_len, uint6
  * stop inside a label as \x2E. which is the string's number, A = 1 to E = 5; a string that isn't there, and any other
  * number, has an empty text. Refuses as reading does, then 33. Room: four bytes for each of A or B; for C, D and E the
  * number below always suffices. Answers the text's length. */
-#define DIALTABLE_NL_AUTH_NAME_ROOM 1003
+#define DIALTABLE_NL_AUTH_NAME_ROOM 1020 /* which is proved; the longest text that is known has 1003 bytes */
 uint64_t dialtable_nl_auth_name(const uint8_t *msg, dialtable_len msg_len, uint32_t which, uint8_t *out,
                                 dialtable_len out_len);
 

@@ -325,7 +325,7 @@ static void reads_nl_auth_names(void)
     CHECK(refused(dialtable_read_nl_auth(jumps, sizeof jumps, numbers, DIALTABLE_NL_AUTH_NUMBERS), 52, 4));
 }
 
-/* The longest name reads back, its text in the most room that a name wants; one byte more is 53. */
+/* The longest name reads back, with the longest text that is known; one byte more is 53. */
 static void writes_the_longest_name(void)
 {
     static uint8_t text[255], out[300], shown[DIALTABLE_NL_AUTH_NAME_ROOM];
@@ -333,7 +333,7 @@ static void writes_the_longest_name(void)
     memset(text, 0xFF, sizeof text);
     text[63] = text[127] = text[191] = '.';
     EQUAL(dialtable_write_nl_auth_request(out, sizeof out, 16, NULL, 0, NULL, 0, NULL, 0, NULL, 0, text, 253), 8 + 255);
-    EQUAL(dialtable_nl_auth_name(out, 8 + 255, 5, shown, sizeof shown), DIALTABLE_NL_AUTH_NAME_ROOM);
+    EQUAL(dialtable_nl_auth_name(out, 8 + 255, 5, shown, sizeof shown), 1003);
     CHECK(memcmp(shown, "\\xFF\\xFF", 8) == 0 && shown[4 * 63] == '.');
     memset(out, FILL, sizeof out);
     CHECK(refused(dialtable_write_nl_auth_request(out, sizeof out, 16, NULL, 0, NULL, 0, NULL, 0, NULL, 0, text, 254),

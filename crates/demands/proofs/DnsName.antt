@@ -9,8 +9,9 @@ use Rattle.dns_name.specs.declared.Reading.{Reading}
 use Rattle.dns_name.specs.declared.Reading.the-variants.{Taken, Refused}
 use Rattle.dns_name.specs.DnsName.{readName, labelsAt, numberOf}
 use Rattle.dns_name.specs.Rfc1035.{NameAt, FirstFault}
+use Rattle.dns_name_text.proofs.Names.{text-bound}
 use Rattle.dns_name.proofs.Exact.{taken, is-taken, refused, is-refused, next-inside, next-after}
-use Rattle.demands.specs.DnsName.{NameRefusedWith, NameIsTaken, NameIsRefused, NameOrFault, OneName, NameNoFault}
+use Rattle.demands.specs.DnsName.{NameRefusedWith, NameIsTaken, NameIsRefused, NameOrFault, OneName, NameNoFault, NameShort}
 
 pub name-taken : NameIsTaken
 name-taken s start ls jumps next = (
@@ -75,3 +76,6 @@ module _ (s : List ℕ) (start : ℕ) where
 
 pub name-no-fault : NameNoFault
 name-no-fault s start ls jumps next n a f = name-or-fault s start ls jumps next n a f
+
+pub name-short : NameShort
+name-short = text-bound

@@ -76,7 +76,7 @@ nl-auth-example =
 
 nl-names-example : NlNamesExample
 unfolding readNlAuth readRequest readUtf8 stringUnder nlNameUnder nlNameAt readName labelsAt steps nameStep labelOf jumpAt jumpTo nameLeft utf8Text dnsText joined partText labelText byteText unitText escape hexDigit hex decimalSize decimal numberWord flagsWord stringWord nlStart nlOem nlUtf8 nlText nlAuthLine nlHeadBytes nameUnder utf8Bytes requestBytes checkZeros labelsUnder checkLabels codedUnder checkCoded checkTexts checkRequest requestAnswer requestOut bytesUnder pieces labelsOf labelBytes coded nameBytes labelsHold textHolds codedHolds le16 le32
-nl-names-example = record { names-line = refl; names-jumps = refl; name-written = refl; empty-label = refl }
+nl-names-example = record { names-line = refl; names-jumps = refl; name-written = refl; stop-in-label = refl; empty-label = refl }
 
 pub examples-hold : ExamplesHold
 examples-hold = (challenge-example, negotiate-example, authenticate-example, answer-example, pair-list-example, nl-auth-example, nl-names-example)

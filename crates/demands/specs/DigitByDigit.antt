@@ -1,6 +1,6 @@
 -- Request 6/12: "work out each digit of a log line from its number .. for each of 0 to 15 the digit is proved to be the
--- definition's". `hex_digit` (`crates/word`) makes every digit of a line, and its contract gives hexDigit n for each n below 16. Here
--- stands which sixteen digits these are, how each comes from its number, and that each digit of H, T, D and an escape is such a one.
+-- definition's". `hex_digit` (`crates/word`) makes every digit of H, T, D and an escape, and its contract gives hexDigit n for each n
+-- below 16; B, and the figure in K, are letters of fixed words. Here stands which sixteen digits these are, how each comes from its number, and that each digit of H, T, D and an escape is such a one.
 use Prim.Native.Nat.{ℕ, _+_, _-_, _/_, _%_, _^_, _≤_, _<_}
 use Prim.Native.String.{String}
 use mathlib.Core.Path.{_≡_}

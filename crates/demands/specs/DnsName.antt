@@ -11,6 +11,7 @@ use Rattle.dns_name.specs.declared.Reading.{Reading}
 use Rattle.dns_name.specs.declared.Reading.the-variants.{Taken, Refused}
 use Rattle.dns_name.specs.DnsName.{readName, labelsAt, numberOf}
 use Rattle.dns_name.specs.Rfc1035.{NameAt, FirstFault}
+use Rattle.dns_name_text.specs.DnsNameText.{nameText}
 
 abbrev pub NameRefusedWith : Reading → ℕ → Type 0
 NameRefusedWith (Taken m) n = ⊥
@@ -38,6 +39,10 @@ OneName =
 abbrev pub NameNoFault : Type 0
 NameNoFault =
     (s : List ℕ) (start : ℕ) (ls : List (List ℕ)) (jumps next n : ℕ) → NameAt s start ls jumps next → FirstFault s start n → ⊥
+
+-- so many bytes always suffice for the text of one
+abbrev pub NameShort : Type 0
+NameShort = (s : List ℕ) (start : ℕ) → length (nameText (labelsAt s start)) ≤ 1020
 
 -- ---- "We write without jumps, from text split at full stops; empty text is the zero byte alone."
 

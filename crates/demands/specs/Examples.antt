@@ -261,6 +261,9 @@ pub record NlNamesExample : Type 0 where
   pub names-jumps : readNlAuth controllerNames ≡ NlTaken controllerAnswer
   pub name-written : requestOut (replicate 19 0xFF) flags04 passed passed (ascii "corp.test") passed passed
       ≡ (0x00 ∷ 0x00 ∷ 0x00 ∷ 0x00 ∷ 0x04 ∷ 0x00 ∷ 0x00 ∷ 0x00 ∷ []) ++ ((0x04 ∷ ascii "corp") ++ ((0x04 ∷ ascii "test") ++ (0x00 ∷ [])))
+  -- a label `a.b`: its full stop is shown as `\x2E`
+  pub stop-in-label : nlAuthLine ((0x00 ∷ 0x00 ∷ 0x00 ∷ 0x00 ∷ 0x04 ∷ 0x00 ∷ 0x00 ∷ 0x00 ∷ []) ++ ((0x03 ∷ ascii "a.b") ++ (0x00 ∷ [])))
+      ≡ ascii "nl type=0 flags=00000004 c=a" ++ (0x5C ∷ (ascii "x2Eb" ++ (0x0A ∷ [])))
   pub empty-label : requestAnswer 19 flags04 passed passed (ascii "corp..test") passed passed ≡ Refused (WrongLabel 3)
 
 -- all of them

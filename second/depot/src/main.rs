@@ -52,6 +52,7 @@ fn fail(status: u8, message: &dyn fmt::Display) -> ExitCode {
 enum Failure {
     NoFolder(NoFolder),
     NoFile(PathBuf, NotRead),
+    NotNtlm(PathBuf),
     CannotRun(CannotRun),
     Print(io::Error),
 }
@@ -84,6 +85,11 @@ impl fmt::Display for Failure {
                 path.display()
             ),
             Self::NoFile(path, why) => write!(f, "{} is not read: {why}", path.display()),
+            Self::NotNtlm(path) => write!(
+                f,
+                "{} is an NL_AUTH message: make explain is for NTLM messages, make run prints its line",
+                path.display()
+            ),
             Self::CannotRun(why) => write!(f, "{why}; make run builds it"),
             Self::Print(error) => write!(f, "what the bench found can't be printed: {error}"),
         }
@@ -109,6 +115,9 @@ fn read(file: &Path) -> Result<Vec<u8>, Failure> {
 /// same.
 fn explain_file(pair: &Pair, file: &Path) -> Result<bool, Failure> {
     let message = read(file)?;
+    if Kind::of(&message) == Kind::NlAuth {
+        return Err(Failure::NotNtlm(file.to_owned()));
+    }
     let (proved, second) = pair.run(&message)?;
     let mut out = BufWriter::new(io::stdout().lock());
     let same = proved.is_same(&second);
