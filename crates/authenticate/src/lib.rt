@@ -43,8 +43,7 @@ pub struct Answer {
     pub mic: [u8; 16],
 }
 
-// The fields by their heads, as the flags make them count; checks 6 on are not made.
-pub fn fields_at(msg: &[u8], flags: NegotiateFlags) -> Fields
+fn fields_at(msg: &[u8], flags: NegotiateFlags) -> Fields
     requires { ⌜ 64 ≤ length (now msg) ⌝ }
     ensures { λ r. ⌜ r ≡ fieldsAt (now (msg .entry)) flags ⌝ }
 {

@@ -11,28 +11,23 @@ use Rattle.wire.specs.declared.refusal.Refusal.{Refusal}
 use Rattle.wire.specs.Number.{u16At}
 use Rattle.wire.specs.Refusal.{numberOf, fieldOf, placeOf}
 use Rattle.field.specs.declared.Field.{Field}
-use Rattle.field.specs.Field.{noField}
+use Rattle.field.specs.Field.{fieldAt}
 use Rattle.negotiate_flags.specs.declared.NegotiateFlags.{NegotiateFlags}
+use Rattle.negotiate_flags.specs.Flags.{requestTarget, oemDomainSupplied, oemWorkstationSupplied, targetInfo, keyExch}
 use Rattle.head.specs.declared.Kind.{Kind}
 use Rattle.head.specs.declared.Kind.the-variants.{Negotiate, Challenge, Authenticate}
 use Rattle.head.specs.Head.{flagsAt, kindOf}
-use Rattle.negotiate.specs.declared.Fields.{Fields as NegoFields}
 use Rattle.negotiate.specs.declared.Negotiate.{Negotiate as NegoMessage}
 use Rattle.negotiate.specs.declared.Reading.{Reading as NegoReading}
 use Rattle.negotiate.specs.declared.Reading.the-variants.{Taken as NegoTaken, Refused as NegoRefused}
-use Rattle.negotiate.specs.Negotiate as N
 use Rattle.negotiate.specs.Negotiate.{readNegotiate}
 use Rattle.authenticate.specs.declared.Answer.{Answer as AuthAnswer}
 use Rattle.authenticate.specs.declared.Authenticate.{Authenticate as AuthMessage}
-use Rattle.authenticate.specs.declared.Fields.{Fields as AuthFields}
 use Rattle.authenticate.specs.declared.Reading.the-variants.{Taken as AuthTaken, Refused as AuthRefused}
-use Rattle.authenticate.specs.Authenticate as A
 use Rattle.authenticate.specs.Authenticate.{readAuthenticate}
 use Rattle.challenge.specs.declared.Answer.{Answer as ChalAnswer}
 use Rattle.challenge.specs.declared.Challenge.{Challenge as ChalMessage}
-use Rattle.challenge.specs.declared.Fields.{Fields as ChalFields}
 use Rattle.challenge.specs.declared.Reading.the-variants.{Taken as ChalTaken, Refused as ChalRefused}
-use Rattle.challenge.specs.Challenge as C
 use Rattle.challenge.specs.Challenge.{readChallenge}
 use Rattle.line_checks.specs.declared.Figures.{Figures}
 use Rattle.line_checks.specs.Checks.{aboutPair, checkLines}
@@ -40,25 +35,26 @@ use Rattle.explain.specs.Explain.{fieldsOf, numbered, ofPair, figuresOf,
 
 -- ---- the head of a field
 
-pub in-fixed : (k fixed field n : ℕ) → FixedPart fixed field n → (field ≡ 0 → ⊥) → T (leb k fixed) → k ≤ n
-in-fixed k fixed field n p h t = le-trans (leb→le k fixed t) (p .there h)
+pub in-fixed : (k fixed field i n : ℕ) → FixedPart fixed field n → field ≡ i → T (leb 1 i) → T (leb k fixed) → k ≤ n
+in-fixed k fixed field i n p h u t = le-trans (leb→le k fixed t) (p .there (λ z. omega (arith, leb→le 1 i u)))
 
-pub no-head : (kind : Kind) (s : List ℕ) (i : ℕ) → i ≡ 0 → noField ≡ numbered i (fieldsOf kind s)
-no-head Negotiate s i h = rw h
-no-head Challenge s i h = rw h
-no-head Authenticate s i h = rw h
+-- one that counts only with a flag
+module _ (s : List ℕ) (w : NegotiateFlags) (b : Bool) (r : Field) where
+  pub domain-head : w ≡ flagsAt s 12 → b ≡ oemDomainSupplied w → r ≡ fieldAt s 16 b → r ≡ fieldAt s 16 (oemDomainSupplied (flagsAt s 12))
+  domain-head p q h = rw (q, p) at h
 
-module _ (s : List ℕ) (w : NegotiateFlags) (i : ℕ) (r : Field) where
-  pub nego-head : (f : NegoFields) → w ≡ flagsAt s 12 → f ≡ N.fieldsAt s w → r ≡ numbered i ((1, f .domain) ∷ (2, f .workstation) ∷ []) →
-      r ≡ numbered i (fieldsOf Negotiate s)
-  nego-head f p q h = rw (q, p) at h
+  pub workstation-head : w ≡ flagsAt s 12 → b ≡ oemWorkstationSupplied w → r ≡ fieldAt s 24 b →
+      r ≡ fieldAt s 24 (oemWorkstationSupplied (flagsAt s 12))
+  workstation-head p q h = rw (q, p) at h
 
-  pub chal-head : (f : ChalFields) → w ≡ flagsAt s 20 → f ≡ C.fieldsAt s w → r ≡ numbered i ((1, f .«target_name») ∷ (2, f .«target_info») ∷ []) →
-      r ≡ numbered i (fieldsOf Challenge s)
-  chal-head f p q h = rw (q, p) at h
+  pub name-head : w ≡ flagsAt s 20 → b ≡ requestTarget w → r ≡ fieldAt s 12 b → r ≡ fieldAt s 12 (requestTarget (flagsAt s 20))
+  name-head p q h = rw (q, p) at h
 
-  pub auth-head : (f : AuthFields) → w ≡ flagsAt s 60 → f ≡ A.fieldsAt s w → r ≡ numbered i (A.allFields f) → r ≡ numbered i (fieldsOf Authenticate s)
-  auth-head f p q h = rw (q, p) at h
+  pub info-head : w ≡ flagsAt s 20 → b ≡ targetInfo w → r ≡ fieldAt s 40 b → r ≡ fieldAt s 40 (targetInfo (flagsAt s 20))
+  info-head p q h = rw (q, p) at h
+
+  pub key-head : w ≡ flagsAt s 60 → b ≡ keyExch w → r ≡ fieldAt s 52 b → r ≡ fieldAt s 52 (keyExch (flagsAt s 60))
+  key-head p q h = rw (q, p) at h
 
 -- ---- the figures
 

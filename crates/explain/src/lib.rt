@@ -1,17 +1,15 @@
 // Why a message is refused: the checks of its kind, one to a line, with the figures of the one that failed.
 ghost use mathlib.Core.Path.{_≡_};
-ghost use mathlib.Core.List.{[], _∷_};
 ghost use Prim.Native.Nat.{min};
 ghost use lib.ListN.{length};
 ghost use Rattle.wire.specs.Number.{u16At};
 ghost use Rattle.head.specs.declared.Kind.the-variants.{Negotiate, Challenge, Authenticate};
-ghost use Rattle.authenticate.specs.Authenticate.{allFields};
 ghost use Rattle.place.specs.Written.{bytesAnswer, bytesAfter};
 ghost use Rattle.explain.specs.Explain.{fieldsOf, numbered, ofPair, figuresOf, noFigures, figuresAs, explanation, FixedPart, NumberThere, Placed};
-use authenticate::Fields;
 use authenticate::Reading as AuthenticateReading;
 use challenge::Reading as ChallengeReading;
 use field::Field;
+use field::field_at;
 use head::Kind;
 use head::flags_at;
 use head::kind_of;
@@ -24,72 +22,55 @@ use wire::refusal::Refusal;
 
 // ---- the head of the field that a check failed at; none for field 0
 
-fn one_of_two(field: u8, first: Field, second: Field) -> Field
-    ensures { λ r. ⌜ r ≡ numbered field ((1, first) ∷ (2, second) ∷ []) ⌝ }
-{
-    if field == 1 {
-        return first;
-    }
-    if field == 2 {
-        return second;
-    }
-    Field { offset: 0, len: 0 }
-}
-
-fn one_of_six(field: u8, f: Fields) -> Field
-    ensures { λ r. ⌜ r ≡ numbered field (allFields f) ⌝ }
-{
-    if field == 1 {
-        return f.lm;
-    }
-    if field == 2 {
-        return f.nt;
-    }
-    if field == 3 {
-        return f.domain;
-    }
-    if field == 4 {
-        return f.user;
-    }
-    if field == 5 {
-        return f.workstation;
-    }
-    if field == 6 {
-        return f.key;
-    }
-    Field { offset: 0, len: 0 }
-}
-
 fn negotiate_head(msg: &[u8], field: u8) -> Field
     requires { ⌜ FixedPart 32 field (length (now msg)) ⌝ }
     ensures { λ r. ⌜ r ≡ numbered field (fieldsOf Negotiate (now (msg .entry))) ⌝ }
 {
-    if field == 0 {
-        return Field { offset: 0, len: 0 };
+    if field == 1 {
+        return field_at(msg, 16, flags_at(msg, 12).oem_domain_supplied());
     }
-    let f = negotiate::fields_at(msg, flags_at(msg, 12));
-    one_of_two(field, f.domain, f.workstation)
+    if field == 2 {
+        return field_at(msg, 24, flags_at(msg, 12).oem_workstation_supplied());
+    }
+    Field { offset: 0, len: 0 }
 }
 
 fn challenge_head(msg: &[u8], field: u8) -> Field
     requires { ⌜ FixedPart 48 field (length (now msg)) ⌝ }
     ensures { λ r. ⌜ r ≡ numbered field (fieldsOf Challenge (now (msg .entry))) ⌝ }
 {
-    if field == 0 {
-        return Field { offset: 0, len: 0 };
+    if field == 1 {
+        return field_at(msg, 12, flags_at(msg, 20).request_target());
     }
-    let f = challenge::fields_at(msg, flags_at(msg, 20));
-    one_of_two(field, f.target_name, f.target_info)
+    if field == 2 {
+        return field_at(msg, 40, flags_at(msg, 20).target_info());
+    }
+    Field { offset: 0, len: 0 }
 }
 
 fn authenticate_head(msg: &[u8], field: u8) -> Field
     requires { ⌜ FixedPart 64 field (length (now msg)) ⌝ }
     ensures { λ r. ⌜ r ≡ numbered field (fieldsOf Authenticate (now (msg .entry))) ⌝ }
 {
-    if field == 0 {
-        return Field { offset: 0, len: 0 };
+    if field == 1 {
+        return field_at(msg, 12, true);
     }
-    one_of_six(field, authenticate::fields_at(msg, flags_at(msg, 60)))
+    if field == 2 {
+        return field_at(msg, 20, true);
+    }
+    if field == 3 {
+        return field_at(msg, 28, true);
+    }
+    if field == 4 {
+        return field_at(msg, 36, true);
+    }
+    if field == 5 {
+        return field_at(msg, 44, true);
+    }
+    if field == 6 {
+        return field_at(msg, 52, flags_at(msg, 60).key_exch());
+    }
+    Field { offset: 0, len: 0 }
 }
 
 // ---- the figures

@@ -29,8 +29,7 @@ pub enum Reading {
     Refused(Refusal),
 }
 
-// The fields by their heads, as the flags make them count; checks 6 on are not made.
-pub fn fields_at(msg: &[u8], flags: NegotiateFlags) -> Fields
+fn fields_at(msg: &[u8], flags: NegotiateFlags) -> Fields
     requires { ⌜ 32 ≤ length (now msg) ⌝ }
     ensures { λ r. ⌜ r ≡ fieldsAt (now (msg .entry)) flags ⌝ }
 {
