@@ -195,9 +195,9 @@ fn put(out: &mut [u8], checks: &[u8], f: Figures) -> Place
     let mut reached = true;
     let mut i: usize = 0;
     while i < checks.len() {
-        let n = checks[i];
-        p = put_line(p, out, reached, f, n);
-        reached = reached & (n != f.number);
+        let check = checks[i];
+        p = put_line(p, out, reached, f, check);
+        reached = reached & (check != f.number);
         i = i + 1;
     }
     p
