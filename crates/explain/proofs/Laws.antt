@@ -11,7 +11,7 @@ use Rattle.wire.specs.declared.refusal.Refusal.{Refusal}
 use Rattle.wire.specs.Number.{u16At}
 use Rattle.wire.specs.Refusal.{numberOf, fieldOf, placeOf}
 use Rattle.field.specs.declared.Field.{Field}
-use Rattle.field.specs.Field.{fieldAt}
+use Rattle.field.specs.Field.{noField, fieldAt}
 use Rattle.negotiate_flags.specs.declared.NegotiateFlags.{NegotiateFlags}
 use Rattle.negotiate_flags.specs.Flags.{requestTarget, oemDomainSupplied, oemWorkstationSupplied, targetInfo, keyExch}
 use Rattle.head.specs.declared.Kind.{Kind}
@@ -37,6 +37,11 @@ use Rattle.explain.specs.Explain.{fieldsOf, numbered, ofPair, figuresOf,
 
 pub in-fixed : (k fixed field i n : ℕ) → FixedPart fixed field n → field ≡ i → T (leb 1 i) → T (leb k fixed) → k ≤ n
 in-fixed k fixed field i n p h u t = le-trans (leb→le k fixed t) (p .there (λ z. omega (arith, leb→le 1 i u)))
+
+pub no-head : (kind : Kind) (s : List ℕ) (i : ℕ) → i ≡ 0 → noField ≡ numbered i (fieldsOf kind s)
+no-head Negotiate s i h = rw h
+no-head Challenge s i h = rw h
+no-head Authenticate s i h = rw h
 
 -- one that counts only with a flag
 module _ (s : List ℕ) (w : NegotiateFlags) (b : Bool) (r : Field) where
