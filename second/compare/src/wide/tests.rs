@@ -159,7 +159,7 @@ fn another_field_of_a_refusal_is_found() {
         "DIFFERENT",
         "read_authenticate",
         planted(|call, answer, _, _| match (call, refusal(answer)) {
-            (Call::ReadAuthenticate { .. }, Some((6, 4))) => refused(6, 3),
+            (Call::ReadAuthenticate { .. }, Some((6, field))) => refused(6, field % 6 + 1),
             _ => answer,
         }),
     );
