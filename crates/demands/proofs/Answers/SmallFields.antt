@@ -7,15 +7,13 @@ use native.Mathlib.Omega.{arith}
 use lib.Dec.{leb, eqb}
 use lib.ListN.{length}
 use borrow.Author.Tests.{leb-true, leb-false}
-use Rattle.wire.specs.declared.check.Checked.{Checked}
-use Rattle.wire.specs.declared.check.Checked.the-variants.{Held, Failed}
 use Rattle.wire.specs.declared.check.Verdict.{Verdict}
 use Rattle.wire.specs.declared.check.Verdict.the-variants.{Clear, Refused as Not}
 use Rattle.wire.specs.declared.refusal.Refusal.{Refusal}
 use Rattle.wire.specs.declared.refusal.Refusal.the-variants.{PairMissing, No128Bit, NoServerNames, OddNameToWrite, NoRoom, ZeroInString, WrongLabel, NameTooLong}
 use Rattle.wire.specs.Check.{after, onClear}
 use Rattle.wire.specs.Number.{u16At}
-use Rattle.wire.proofs.Places.{moved-number}
+use Rattle.wire.proofs.Places.{moved-number, of-after}
 use Rattle.challenge.specs.declared.Challenge.{Challenge}
 use Rattle.wire.specs.Refusal.{numberOf, fieldOf}
 use Rattle.place.specs.declared.written.Written.{Written}
@@ -64,8 +62,8 @@ use Rattle.demands.specs.Answers.{Writing, write-negotiate, write-authen
 use Rattle.demands.specs.FromC.{Call, read-negotiate, read-timestamp, read-server-names, read-nl-auth, count-pairs, find-pair, next-pair, decide, outcome, TwoArrayCall, read-authenticate, read-challenge, twoArrayOutcome}
 use Rattle.demands.specs.Message.{Format, negotiate, authenticate, challenge, Fails}
 use Rattle.demands.specs.NlAuth.{NlFails}
-use Rattle.demands.specs.Order.{row}
 use Rattle.demands.specs.TakenExactly.{AuthenticateRefusedWith, NegotiateRefusedWith, NlRefusedWith}
+use Rattle.demands.proofs.Order.{on-row}
 use Rattle.demands.proofs.Message.Chain.{by-row}
 use Rattle.demands.proofs.TakenExactly.Challenge.{JudgedF, fields-of-judged, JudgedP, pairs-judged}
 use Rattle.demands.proofs.TakenExactly.Negotiate.{negotiate-refused}
@@ -96,23 +94,19 @@ negotiate-small s e h =
           (negotiate-refused s (numberOf e) (fieldOf e) .0 (subst (λ (r : NegotiateReading). NegotiateRefusedWith r (numberOf e) (fieldOf e)) (sym h) (refl, refl)) .fails),
     )
 
-in-row : (b : Bool) (P rest Q : Type 0) → (P → Q) → (rest → Q) → row b P rest → Q
-in-row true P rest Q f g h = f h
-in-row false P rest Q f g h = g h
-
 nl-fails-field : (s : List ℕ) (n i : ℕ) → NlFails s n i → i ≤ 5
 nl-fails-field s n i w =
-    in-row (eqb n 1) _ _ (i ≤ 5) (λ x. omega (arith, x .0)) (
-    in-row (eqb n 2) _ _ (i ≤ 5) (λ x. omega (arith, x .0)) (
-    in-row (eqb n 4) _ _ (i ≤ 5) (λ x. omega (arith, x .0)) (
-    in-row (eqb n 14) _ _ (i ≤ 5) (λ x. omega (arith, x .0)) (
-    in-row (eqb n 15) _ _ (i ≤ 5) (λ x. x .1) (
-    in-row (eqb n 50) _ _ (i ≤ 5) (λ x. x .1) (
-    in-row (eqb n 51) _ _ (i ≤ 5) (λ x. x .1) (
-    in-row (eqb n 52) _ _ (i ≤ 5) (λ x. x .1) (
-    in-row (eqb n 53) _ _ (i ≤ 5) (λ x. x .1) (
-    in-row (eqb n 16) _ _ (i ≤ 5) (λ x. omega (arith, x .0)) (
-    in-row (eqb n 17) _ _ (i ≤ 5) (λ x. omega (arith, x .0)) (λ x. absurd x))))))))))) w
+    on-row 1 n _ _ (i ≤ 5) (λ e x. omega (arith, x .0)) (
+    on-row 2 n _ _ (i ≤ 5) (λ e x. omega (arith, x .0)) (
+    on-row 4 n _ _ (i ≤ 5) (λ e x. omega (arith, x .0)) (
+    on-row 14 n _ _ (i ≤ 5) (λ e x. omega (arith, x .0)) (
+    on-row 15 n _ _ (i ≤ 5) (λ e x. x .1) (
+    on-row 50 n _ _ (i ≤ 5) (λ e x. x .1) (
+    on-row 51 n _ _ (i ≤ 5) (λ e x. x .1) (
+    on-row 52 n _ _ (i ≤ 5) (λ e x. x .1) (
+    on-row 53 n _ _ (i ≤ 5) (λ e x. x .1) (
+    on-row 16 n _ _ (i ≤ 5) (λ e x. omega (arith, x .0)) (
+    on-row 17 n _ _ (i ≤ 5) (λ e x. omega (arith, x .0)) (λ x. absurd x))))))))))) w
 
 pub nl-auth-small : (s : List ℕ) (e : Refusal) → readNlAuth s ≡ NlRefused e → Small e
 nl-auth-small s e h =
@@ -139,11 +133,7 @@ SmallS (Pair p) = Unit
 SmallS End = Unit
 SmallS (Faulty e) = Small e
 
--- either answer of a check, and either branch, is small
-small-after : {A : Type 0} (P : A → Type 0) (c : Checked) (e x : A) → P e → P x → P (after c e x)
-small-after P Held e x f g = g
-small-after P Failed e x f g = f
-
+-- either branch is small
 small-cond : {A : Type 0} (P : A → Type 0) (b : Bool) (x y : A) → P x → P y → P (cond b x y)
 small-cond P true x y f g = f
 small-cond P false x y f g = g
@@ -170,16 +160,16 @@ challenge-small s = go (fieldsOf s) (fields-of-judged s) where
 small-pair : (id : AvId) (len at left : ℕ) → SmallS (pairOf id len at left)
 unfolding pairOf
 small-pair id len at left =
-    small-after SmallS (endPairHolds id len left) _ _ (omega arith)
-    (small-after SmallS (valueInside len left) _ _ (omega arith)
-    (small-after SmallS (sizeHolds id len) _ _ (omega arith)
+    of-after SmallS (endPairHolds id len left) _ _ (omega arith)
+    (of-after SmallS (valueInside len left) _ _ (omega arith)
+    (of-after SmallS (sizeHolds id len) _ _ (omega arith)
     (small-cond SmallS (isEnd id) End (Pair (record { id = id; at = at + 4; len = len })) tt tt)))
 
 pub step-small : (s : List ℕ) (at : ℕ) → SmallS (stepAt s at)
 unfolding stepAt
 step-small s at =
     small-cond SmallS (eqb (length s) 0) End _ tt
-    (small-after SmallS (pairThere (left s at)) (Faulty (PairMissing at)) _ (omega arith) (small-pair (idAt s at) (u16At s (at + 2)) at (left s at)))
+    (of-after SmallS (pairThere (left s at)) (Faulty (PairMissing at)) _ (omega arith) (small-pair (idAt s at) (u16At s (at + 2)) at (left s at)))
 
 -- ---- the decision
 
@@ -196,8 +186,8 @@ decision-small settings s = go (readingOf s) (challenge-small s) where
       after (serverNamesHold settings (serverNamesIn (infoOf s c))) (Declines NoServerNames)
       (Decides (record { flags = c .flags; timestamp = timestampIn (infoOf s c) })))))
   go (ChallengeTaken c) w =
-      small-after SmallD (strengthHolds settings (c .flags)) (Declines No128Bit) _ (omega arith)
-      (small-after SmallD (serverNamesHold settings (serverNamesIn (infoOf s c))) (Declines NoServerNames) (Decides (record { flags = c .flags; timestamp = timestampIn (infoOf s c) })) (omega arith) tt)
+      of-after SmallD (strengthHolds settings (c .flags)) (Declines No128Bit) _ (omega arith)
+      (of-after SmallD (serverNamesHold settings (serverNamesIn (infoOf s c))) (Declines NoServerNames) (Decides (record { flags = c .flags; timestamp = timestampIn (infoOf s c) })) (omega arith) tt)
   go (ChallengeRefused e) w = w
 
 -- ---- writing
@@ -209,57 +199,57 @@ small-clear (Not e) x f g = f
 negotiate-checks : (room : ℕ) (flags : NegotiateFlags) (domain workstation : List ℕ) → SmallV (negotiateChecks room flags domain workstation)
 unfolding negotiateChecks
 negotiate-checks room flags domain workstation =
-    small-after SmallV (charsetHolds flags) _ _ (omega arith)
-    (small-after SmallV (sizeToHold (negotiateSize domain workstation)) _ _ (omega arith)
-    (small-after SmallV (roomHolds (negotiateSize domain workstation) room) (Not NoRoom) Clear (omega arith) tt))
+    of-after SmallV (charsetHolds flags) _ _ (omega arith)
+    (of-after SmallV (sizeToHold (negotiateSize domain workstation)) _ _ (omega arith)
+    (of-after SmallV (roomHolds (negotiateSize domain workstation) room) (Not NoRoom) Clear (omega arith) tt))
 
 names-small : (unicode : Bool) (domain user workstation : List ℕ) → SmallV (checkNamesToWrite unicode domain user workstation)
 unfolding checkNamesToWrite
 names-small unicode domain user workstation =
-    small-after SmallV (evenToWrite unicode domain) _ _ (omega arith)
-    (small-after SmallV (evenToWrite unicode user) _ _ (omega arith)
-    (small-after SmallV (evenToWrite unicode workstation) (Not (OddNameToWrite 5)) Clear (omega arith) tt))
+    of-after SmallV (evenToWrite unicode domain) _ _ (omega arith)
+    (of-after SmallV (evenToWrite unicode user) _ _ (omega arith)
+    (of-after SmallV (evenToWrite unicode workstation) (Not (OddNameToWrite 5)) Clear (omega arith) tt))
 
 authenticate-checks : (room : ℕ) (flags : NegotiateFlags) (lm nt domain user workstation key : List ℕ) → SmallV (checkToWrite room flags lm nt domain user workstation key)
 unfolding checkToWrite
 authenticate-checks room flags lm nt domain user workstation key =
-    small-after SmallV (charsetHolds flags) _ _ (omega arith)
+    of-after SmallV (charsetHolds flags) _ _ (omega arith)
     (small-clear (checkNamesToWrite (unicode flags) domain user workstation) _ (names-small (unicode flags) domain user workstation)
-    (small-after SmallV (keyHolds flags key) _ _ (omega arith)
-    (small-after SmallV (sizeToHold (sizeToWrite lm nt domain user workstation key)) _ _ (omega arith)
-    (small-after SmallV (roomHolds (sizeToWrite lm nt domain user workstation key) room) (Not NoRoom) Clear (omega arith) tt))))
+    (of-after SmallV (keyHolds flags key) _ _ (omega arith)
+    (of-after SmallV (sizeToHold (sizeToWrite lm nt domain user workstation key)) _ _ (omega arith)
+    (of-after SmallV (roomHolds (sizeToWrite lm nt domain user workstation key) room) (Not NoRoom) Clear (omega arith) tt))))
 
 zeros-small : (flags : NlAuthFlags) (a b c d e : List ℕ) → SmallV (checkZeros flags a b c d e)
 unfolding checkZeros
 zeros-small flags a b c d e =
-    small-after SmallV (noZero (nbDomain flags, a)) _ _ (omega arith)
-    (small-after SmallV (noZero (nbComputer flags, b)) _ _ (omega arith)
-    (small-after SmallV (noZero (dnsDomain flags, c)) _ _ (omega arith)
-    (small-after SmallV (noZero (dnsHost flags, d)) _ _ (omega arith)
-    (small-after SmallV (noZero (utf8Computer flags, e)) (Not (ZeroInString 5)) Clear (omega arith) tt))))
+    of-after SmallV (noZero (nbDomain flags, a)) _ _ (omega arith)
+    (of-after SmallV (noZero (nbComputer flags, b)) _ _ (omega arith)
+    (of-after SmallV (noZero (dnsDomain flags, c)) _ _ (omega arith)
+    (of-after SmallV (noZero (dnsHost flags, d)) _ _ (omega arith)
+    (of-after SmallV (noZero (utf8Computer flags, e)) (Not (ZeroInString 5)) Clear (omega arith) tt))))
 
 labels-small : (flags : NlAuthFlags) (c d e : List ℕ) → SmallV (checkLabels flags c d e)
 unfolding checkLabels
 labels-small flags c d e =
-    small-after SmallV (labelsUnder (dnsDomain flags, c)) _ _ (omega arith)
-    (small-after SmallV (labelsUnder (dnsHost flags, d)) _ _ (omega arith)
-    (small-after SmallV (labelsUnder (utf8Computer flags, e)) (Not (WrongLabel 5)) Clear (omega arith) tt))
+    of-after SmallV (labelsUnder (dnsDomain flags, c)) _ _ (omega arith)
+    (of-after SmallV (labelsUnder (dnsHost flags, d)) _ _ (omega arith)
+    (of-after SmallV (labelsUnder (utf8Computer flags, e)) (Not (WrongLabel 5)) Clear (omega arith) tt))
 
 coded-small : (flags : NlAuthFlags) (c d e : List ℕ) → SmallV (checkCoded flags c d e)
 unfolding checkCoded
 coded-small flags c d e =
-    small-after SmallV (codedUnder (dnsDomain flags, c)) _ _ (omega arith)
-    (small-after SmallV (codedUnder (dnsHost flags, d)) _ _ (omega arith)
-    (small-after SmallV (codedUnder (utf8Computer flags, e)) (Not (NameTooLong 5)) Clear (omega arith) tt))
+    of-after SmallV (codedUnder (dnsDomain flags, c)) _ _ (omega arith)
+    (of-after SmallV (codedUnder (dnsHost flags, d)) _ _ (omega arith)
+    (of-after SmallV (codedUnder (utf8Computer flags, e)) (Not (NameTooLong 5)) Clear (omega arith) tt))
 
 request-checks : (room : ℕ) (flags : NlAuthFlags) (a b c d e : List ℕ) → SmallV (checkRequest room flags a b c d e)
 unfolding checkRequest checkNames
 request-checks room flags a b c d e =
-    small-after SmallV (stringsHold flags) _ _ (omega arith)
+    of-after SmallV (stringsHold flags) _ _ (omega arith)
     (small-clear (checkZeros flags a b c d e) _ (zeros-small flags a b c d e)
     (small-clear (onClear Not (checkLabels flags c d e) (checkCoded flags c d e)) _ (small-clear (checkLabels flags c d e) _ (labels-small flags c d e) (coded-small flags c d e))
-    (small-after SmallV (sizeToHold (length (requestBytes flags a b c d e))) _ _ (omega arith)
-    (small-after SmallV (roomHolds (length (requestBytes flags a b c d e)) room) (Not NoRoom) Clear (omega arith) tt))))
+    (of-after SmallV (sizeToHold (length (requestBytes flags a b c d e))) _ _ (omega arith)
+    (of-after SmallV (roomHolds (length (requestBytes flags a b c d e)) room) (Not NoRoom) Clear (omega arith) tt))))
 
 abbrev pub SmallW : Written → Type 0
 SmallW (Length n) = Unit
@@ -278,9 +268,9 @@ authenticate-written-small room flags v mic lm nt domain user workstation key =
 list-checks : (room : ℕ) (name : List ℕ) (size : ℕ) → SmallV (checkList room name size)
 unfolding checkList
 list-checks room name size =
-    small-after SmallV (evenName name) _ _ (omega arith)
-    (small-after SmallV (sizeToHold size) _ _ (omega arith)
-    (small-after SmallV (roomHolds size room) (Not NoRoom) Clear (omega arith) tt))
+    of-after SmallV (evenName name) _ _ (omega arith)
+    (of-after SmallV (sizeToHold size) _ _ (omega arith)
+    (of-after SmallV (roomHolds size room) (Not NoRoom) Clear (omega arith) tt))
 
 response-pairs-small : (room : ℕ) (s name : List ℕ) (unverified : Bool) (bindings : List ℕ) → SmallW (pairsAnswer room s name unverified bindings)
 unfolding pairsAnswer listAnswer
@@ -301,13 +291,13 @@ writing-small (write-authenticate room flags v mic lm nt domain user workstation
 writing-small (write-nl-auth-request room flags a b c d e) =
     answered-small (checkRequest room (known flags) a b c d e) (requestBytes (known flags) a b c d e) (request-checks room (known flags) a b c d e)
 writing-small (write-nl-auth-response room) =
-    small-after SmallW (roomHolds (length responseBytes) room) (Unwritten NoRoom) (Length (length responseBytes)) (omega arith) tt
+    of-after SmallW (roomHolds (length responseBytes) room) (Unwritten NoRoom) (Length (length responseBytes)) (omega arith) tt
 writing-small (write-response-pairs room s name unverified bindings) = response-pairs-small room s name unverified bindings
 
 pub bytes-small : (bytes out : List ℕ) → SmallW (bytesAnswer bytes out)
 unfolding bytesAnswer
 bytes-small bytes out =
-    answered-small (bytesHold bytes out) bytes (small-after SmallV (roomHolds (length bytes) (length out)) (Not NoRoom) Clear (omega arith) tt)
+    answered-small (bytesHold bytes out) bytes (of-after SmallV (roomHolds (length bytes) (length out)) (Not NoRoom) Clear (omega arith) tt)
 
 -- ---- the calls from C that hand out numbers
 
