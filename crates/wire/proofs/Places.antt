@@ -8,7 +8,7 @@ use mir.Val.{Fits}
 use types.Run.{OneOf, miss}
 use denote.Enum.Declared.{tagOf}
 use Rattle.wire.specs.declared.refusal.Refusal.{Refusal}
-use Rattle.wire.specs.declared.refusal.Refusal.the-variants.{TooLong, TooShort, WrongSignature, WrongType, NoCharset, PastEnd, InFixedPart, OddName, NameOverSecret, PairPastEnd, PairMissing, WrongEndPair, WrongPairSize, NoStrings, Unterminated, BytesLeft, WrongResponse, No128Bit, NoServerNames, TooLongToWrite, OddNameToWrite, WrongKey, NoRoom, ZeroInString, WrongLabel, PlaceNotBefore, TooManyJumps, NameTooLong}
+use Rattle.wire.specs.declared.refusal.Refusal.the-variants.{TooLong, TooShort, WrongSignature, WrongType, NoCharset, PastEnd, InFixedPart, OddName, NameOverSecret, PairPastEnd, PairMissing, WrongEndPair, WrongPairSize, NoStrings, Unterminated, BytesLeft, WrongResponse, No128Bit, NoServerNames, TooLongToWrite, OddNameToWrite, WrongKey, NoRoom, ZeroInString, WrongLabel, PlaceNotBefore, TooManyJumps, NameTooLong, PlaceOutside, WrongSessionKey, NoMic, WrongScheme, WrongBase64}
 use Rattle.wire.specs.declared.check.Checked.{Checked}
 use Rattle.wire.specs.declared.check.Checked.the-variants.{Held, Failed}
 use Rattle.wire.specs.declared.check.Verdict.{Verdict}
@@ -35,7 +35,7 @@ pub ruleset moving = (fits-10, fits-11, fits-12, fits-13)
 
 -- what has no place stays as it is
 abbrev placeless : List ℕ
-placeless = 0 ∷ 1 ∷ 2 ∷ 3 ∷ 4 ∷ 5 ∷ 6 ∷ 7 ∷ 8 ∷ 13 ∷ 14 ∷ 15 ∷ 16 ∷ 17 ∷ 18 ∷ 19 ∷ 20 ∷ 21 ∷ 22 ∷ 23 ∷ 24 ∷ 25 ∷ 26 ∷ 27 ∷ []
+placeless = 0 ∷ 1 ∷ 2 ∷ 3 ∷ 4 ∷ 5 ∷ 6 ∷ 7 ∷ 8 ∷ 13 ∷ 14 ∷ 15 ∷ 16 ∷ 17 ∷ 18 ∷ 19 ∷ 20 ∷ 21 ∷ 22 ∷ 23 ∷ 24 ∷ 25 ∷ 26 ∷ 27 ∷ 28 ∷ 29 ∷ 30 ∷ 31 ∷ 32 ∷ []
 
 pub stays : (e : Refusal) (n : ℕ) → OneOf placeless (tagOf the-type e) → e ≡ movedBy n e
 stays TooLong n m = refl
@@ -66,6 +66,11 @@ stays (WrongLabel f) n m = refl
 stays (PlaceNotBefore f) n m = refl
 stays (TooManyJumps f) n m = refl
 stays (NameTooLong f) n m = refl
+stays PlaceOutside n m = refl
+stays WrongSessionKey n m = refl
+stays NoMic n m = refl
+stays WrongScheme n m = refl
+stays WrongBase64 n m = refl
 
 -- a place moves by no more
 pub moved-place : (n : ℕ) (e : Refusal) → placeOf (movedBy n e) ≤ n + placeOf e
@@ -97,6 +102,11 @@ moved-place n (WrongLabel f) = omega arith
 moved-place n (PlaceNotBefore f) = omega arith
 moved-place n (TooManyJumps f) = omega arith
 moved-place n (NameTooLong f) = omega arith
+moved-place n PlaceOutside = omega arith
+moved-place n WrongSessionKey = omega arith
+moved-place n NoMic = omega arith
+moved-place n WrongScheme = omega arith
+moved-place n WrongBase64 = omega arith
 
 -- its number and field stay
 pub moved-number : (n : ℕ) (e : Refusal) → (numberOf (movedBy n e) ≡ numberOf e) × (fieldOf (movedBy n e) ≡ fieldOf e)
@@ -128,6 +138,11 @@ moved-number n (WrongLabel f) = (refl, refl)
 moved-number n (PlaceNotBefore f) = (refl, refl)
 moved-number n (TooManyJumps f) = (refl, refl)
 moved-number n (NameTooLong f) = (refl, refl)
+moved-number n PlaceOutside = (refl, refl)
+moved-number n WrongSessionKey = (refl, refl)
+moved-number n NoMic = (refl, refl)
+moved-number n WrongScheme = (refl, refl)
+moved-number n WrongBase64 = (refl, refl)
 
 -- and where there is a place, it moves
 pub moved-at : (n : ℕ) (e : Refusal) → (10 ≤ numberOf e) × (numberOf e ≤ 13) → placeOf (movedBy n e) ≡ n + placeOf e
@@ -159,6 +174,11 @@ moved-at n (WrongLabel f) h = absurd (omega (arith, h .0, h .1))
 moved-at n (PlaceNotBefore f) h = absurd (omega (arith, h .0, h .1))
 moved-at n (TooManyJumps f) h = absurd (omega (arith, h .0, h .1))
 moved-at n (NameTooLong f) h = absurd (omega (arith, h .0, h .1))
+moved-at n PlaceOutside h = absurd (omega (arith, h .0, h .1))
+moved-at n WrongSessionKey h = absurd (omega (arith, h .0, h .1))
+moved-at n NoMic h = absurd (omega (arith, h .0, h .1))
+moved-at n WrongScheme h = absurd (omega (arith, h .0, h .1))
+moved-at n WrongBase64 h = absurd (omega (arith, h .0, h .1))
 
 -- only 10 to 13 have one
 pub placeless-number : (e : Refusal) → ((10 ≤ numberOf e) × (numberOf e ≤ 13) → ⊥) → placeOf e ≡ 0
@@ -190,6 +210,11 @@ placeless-number (WrongLabel f) h = refl
 placeless-number (PlaceNotBefore f) h = refl
 placeless-number (TooManyJumps f) h = refl
 placeless-number (NameTooLong f) h = refl
+placeless-number PlaceOutside h = refl
+placeless-number WrongSessionKey h = refl
+placeless-number NoMic h = refl
+placeless-number WrongScheme h = refl
+placeless-number WrongBase64 h = refl
 
 -- ---- refusals without a place
 

@@ -3,12 +3,12 @@ use Prim.Native.Nat.{ℕ, _≤_, _<_}
 use mathlib.Core.Path.{refl}
 use native.Mathlib.Omega.{arith}
 use Rattle.wire.specs.declared.refusal.Refusal.{Refusal}
-use Rattle.wire.specs.declared.refusal.Refusal.the-variants.{TooLong, TooShort, WrongSignature, WrongType, NoCharset, PastEnd, InFixedPart, OddName, NameOverSecret, PairPastEnd, PairMissing, WrongEndPair, WrongPairSize, NoStrings, Unterminated, BytesLeft, WrongResponse, No128Bit, NoServerNames, TooLongToWrite, OddNameToWrite, WrongKey, NoRoom, ZeroInString, WrongLabel, PlaceNotBefore, TooManyJumps, NameTooLong}
+use Rattle.wire.specs.declared.refusal.Refusal.the-variants.{TooLong, TooShort, WrongSignature, WrongType, NoCharset, PastEnd, InFixedPart, OddName, NameOverSecret, PairPastEnd, PairMissing, WrongEndPair, WrongPairSize, NoStrings, Unterminated, BytesLeft, WrongResponse, No128Bit, NoServerNames, TooLongToWrite, OddNameToWrite, WrongKey, NoRoom, ZeroInString, WrongLabel, PlaceNotBefore, TooManyJumps, NameTooLong, PlaceOutside, WrongSessionKey, NoMic, WrongScheme, WrongBase64}
 use Rattle.wire.specs.Refusal.{numberOf, fieldOf}
 use Rattle.c_number.specs.Number.{refusalNumber}
 use Rattle.demands.specs.Answers.{TellsLength, TellsRefusal}
 
-pub number-small : (e : Refusal) → numberOf e ≤ 53
+pub number-small : (e : Refusal) → numberOf e ≤ 58
 number-small TooLong = omega arith
 number-small TooShort = omega arith
 number-small WrongSignature = omega arith
@@ -37,6 +37,11 @@ number-small (WrongLabel f) = omega arith
 number-small (PlaceNotBefore f) = omega arith
 number-small (TooManyJumps f) = omega arith
 number-small (NameTooLong f) = omega arith
+number-small PlaceOutside = omega arith
+number-small WrongSessionKey = omega arith
+number-small NoMic = omega arith
+number-small WrongScheme = omega arith
+number-small WrongBase64 = omega arith
 
 -- a field is at most 6
 abbrev pub Small : Refusal → Type 0
