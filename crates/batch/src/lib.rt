@@ -99,7 +99,7 @@ fn authenticate_answer(msg: &[u8]) -> Answer
 }
 
 // A message read as a kind, whatever its own type says.
-pub fn read_as(kind: Kind, msg: &[u8]) -> Answer
+fn read_as(kind: Kind, msg: &[u8]) -> Answer
     ensures { λ r. ⌜ r ≡ answerOf (readAs kind (now (msg .entry))) ⌝ }
 {
     match kind {
@@ -110,7 +110,7 @@ pub fn read_as(kind: Kind, msg: &[u8]) -> Answer
 }
 
 // The same by a number; one that is no kind's gets 4.
-pub fn read_marked(mark: u32, msg: &[u8]) -> Answer
+fn read_marked(mark: u32, msg: &[u8]) -> Answer
     ensures { λ r. ⌜ r ≡ answerOf (readMarked mark (now (msg .entry))) ⌝ }
 {
     if mark == 1 {
@@ -128,7 +128,7 @@ pub fn read_marked(mark: u32, msg: &[u8]) -> Answer
 // ---- a place in a buffer
 
 // Check 54, for a buffer of `n` bytes. No sum is taken, so that none can wrap.
-pub fn place_inside(n: u64, start: u64, length: u64) -> Checked
+fn place_inside(n: u64, start: u64, length: u64) -> Checked
     ensures { λ r. ⌜ r ≡ placeInside n start length ⌝ }
 {
     if n < length {
@@ -138,7 +138,7 @@ pub fn place_inside(n: u64, start: u64, length: u64) -> Checked
 }
 
 // The message at a place, read as a kind.
-pub fn check_message(buffer: &[u8], start: u64, length: u64, kind: Kind) -> Answer
+fn check_message(buffer: &[u8], start: u64, length: u64, kind: Kind) -> Answer
     ensures { λ r. ⌜ r ≡ answerOf (atPlace (now (buffer .entry)) start length (readAs kind)) ⌝ }
 {
     let Checked::Held = place_inside(buffer.len() as u64, start, length) else {
@@ -149,7 +149,7 @@ pub fn check_message(buffer: &[u8], start: u64, length: u64, kind: Kind) -> Answ
     read_as(kind, &buffer[at..end])
 }
 
-pub fn check_marked(buffer: &[u8], start: u64, length: u64, mark: u32) -> Answer
+fn check_marked(buffer: &[u8], start: u64, length: u64, mark: u32) -> Answer
     ensures { λ r. ⌜ r ≡ answerOf (atPlace (now (buffer .entry)) start length (readMarked mark)) ⌝ }
 {
     let Checked::Held = place_inside(buffer.len() as u64, start, length) else {
@@ -162,7 +162,7 @@ pub fn check_marked(buffer: &[u8], start: u64, length: u64, mark: u32) -> Answer
 
 // ---- an entry with its answer; nothing else of it changes
 
-pub fn answered(buffer: &[u8], e: Entry) -> Entry
+fn answered(buffer: &[u8], e: Entry) -> Entry
     ensures { λ r. ⌜ r ≡ answered (now (buffer .entry)) e ⌝ }
 {
     let mark = e.mark;
