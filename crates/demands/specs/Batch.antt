@@ -188,12 +188,17 @@ nightList = entryAt 0 100 2 ∷ entryAt 100 120 3 ∷ []
 abbrev pub otherNight : List ℕ
 otherNight = set night 196 0xBB
 
+-- another MaxLen of the challenge's first field
+abbrev pub ignoredNight : List ℕ
+ignoredNight = set night 14 0xFF
+
 -- the challenge with length 5 in its second pair, at 76 of the message, after one byte
 abbrev faulty : List ℕ
 faulty = 0 ∷ set challengeMessage 78 5
 
 pub record BatchExample : Type 0 where
   pub differ : DifferInListedSecrets ofCEntry nightList night otherNight × (night ≡ otherNight → ⊥)
+  pub ignored : DifferInListedIgnored ofCEntry nightList night ignoredNight × (night ≡ ignoredNight → ⊥)
   -- both taken; P1 read as a challenge, which it isn't; a place past the end by one; the end itself with no bytes; a mark of 4
   pub answers : filledFromC night (nightList ++ (entryAt 100 120 2 ∷ entryAt 100 121 3 ∷ entryAt 220 0 3 ∷ entryAt 0 100 4 ∷ [])) ≡
       (answeredAs (entryAt 0 100 2) 0 0 0 ∷ answeredAs (entryAt 100 120 3) 0 0 0 ∷ answeredAs (entryAt 100 120 2) 4 0 0

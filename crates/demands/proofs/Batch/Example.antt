@@ -1,6 +1,6 @@
 -- The examples of a night's messages.
 use Prim.Native.Nat.{ℕ, _≤_, _<_}
-use mathlib.Core.Path.{_≡_, refl, sym, ap, subst}
+use mathlib.Core.Path.{_≡_, refl, sym, ap, subst, _∙_}
 use mathlib.Core.Logic.{_⊎_, inl, inr}
 use mathlib.Core.Bool.{Bool, true, false}
 use mathlib.Core.List.{List}
@@ -19,10 +19,13 @@ use Rattle.authenticate.specs.Authenticate.{fieldsAt, checkEnds, checkBegins, c
 use Rattle.batch.specs.declared.CEntry.{CEntry}
 use Rattle.batch.specs.Batch.{answeredFromC}
 use Rattle.demands.specs.Bench.{p1}
+use Rattle.demands.specs.Examples.{challengeMessage}
+use Rattle.demands.specs.Hypotheses.{otherChallenge}
 use Rattle.demands.specs.Explained.{formatOf}
-use Rattle.demands.specs.Message.{authenticate, Covers}
+use Rattle.demands.specs.Message.{authenticate, Covers, DifferInIgnored}
 use Rattle.demands.specs.Secret.{Secret, secret-field}
-use Rattle.demands.specs.Batch.{ofCEntry, markOf, message, Inside, Within, NameOf, Open, in-name, in-first-64, in-challenge, Listed, ListedSecret, DifferInListedSecrets, night, nightList, otherNight, BatchExample}
+use Rattle.demands.proofs.Hypotheses.{hypotheses-met}
+use Rattle.demands.specs.Batch.{ofCEntry, markOf, message, Inside, Within, NameOf, DifferInListedIgnored, ignoredNight, Open, in-name, in-first-64, in-challenge, Listed, ListedSecret, DifferInListedSecrets, night, nightList, otherNight, BatchExample}
 
 abbrev second : CEntry
 second = record { start = 100; length = 120; mark = 3; number = 7; field = 8; place = 9 }
@@ -64,6 +67,17 @@ not-open e (inr (inl h)) w o = go (subst (λ (y : CEntry). Open night (ofCEntry 
     of Authenticate m n c = by-name (eqb i 3) (eqb i 4) refl refl n c
 not-open e (inr (inr h)) w o = absurd h
 
+-- its first message differs in MaxLen, and its second in nothing
+in-ignored : (e : CEntry) → Listed e nightList → (k : Kind) → e .mark ≡ markOf k →
+    DifferInIgnored (formatOf k) (message night (ofCEntry e)) (message ignoredNight (ofCEntry e))
+in-ignored e (inl h) k m = rw h (first k (sym (ap (λ (y : CEntry). y .mark) h) ∙ m)) where
+  first : (k : Kind) → _≡_ {A = ℕ} 2 (markOf k) → DifferInIgnored (formatOf k) challengeMessage otherChallenge
+  first Negotiate m = absurd (omega (arith, m))
+  first Challenge m = hypotheses-met .challenge-ignored .0
+  first Authenticate m = absurd (omega (arith, m))
+in-ignored e (inr (inl h)) k m = rw h (record { length-same = refl; bytes-same = λ p. inl refl })
+in-ignored e (inr (inr h)) k m = absurd h
+
 pub batch-example : BatchExample
 unfolding answeredFromC readHead signatureHolds fieldAt fieldBytes readAuthenticate readingOf fieldsAt checkEnds checkBegins checkNames checkShared checkFields micPresent readChallenge challengeReadingOf checkInfo fieldsOf challengeFieldsAt challengeEnds challengeBegins challengeNames challengeChecks checkPairs stepAt pairOf left
 batch-example =
@@ -76,6 +90,7 @@ batch-example =
         },
         λ e. two (ap (λ (l : List ℕ). getD l 196 0) e),
       );
+      ignored = (record { length-same = refl; messages = λ e l i k m. in-ignored e l k m }, λ e. six (ap (λ (l : List ℕ). getD l 14 0) e));
       answers = refl;
       in-message = refl;
     }
@@ -91,3 +106,6 @@ batch-example =
 
     two : _≡_ {A = ℕ} 0xAA 0xBB → ⊥
     two e = omega arith
+
+    six : _≡_ {A = ℕ} 8 0xFF → ⊥
+    six e = omega arith
