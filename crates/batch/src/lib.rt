@@ -214,8 +214,8 @@ pub fn to_fill(buffer: &[u8], n: usize) -> usize
 
 // Fills each entry's answer; a buffer over 65,535 bytes is refused, and no entry changes.
 pub fn check_messages(buffer: &[u8], entries: &mut [Entry]) -> Verdict
-    ensures { λ r. ⌜ (r ≡ bufferVerdict (now (buffer .entry)))
-        × (now (entries .exit) ≡ filled (now (buffer .entry)) (now (entries .entry))) ⌝ }
+    ensures answer { λ r. ⌜ r ≡ bufferVerdict (now (buffer .entry)) ⌝ }
+    ensures content { λ _. ⌜ now (entries .exit) ≡ filled (now (buffer .entry)) (now (entries .entry)) ⌝ }
 {
     let n = to_fill(buffer, entries.len());
     let mut i: usize = 0;

@@ -471,8 +471,8 @@ fn buffer_number(buffer: &[u8]) -> u64
 
 #[no_mangle]
 pub extern "C" fn dialtable_check_messages(buffer: &[u8], entries: &mut [CEntry]) -> u64
-    ensures { λ r. ⌜ (r ≡ verdictNumber (bufferVerdict (now (buffer .entry))))
-        × (now (entries .exit) ≡ filledFromC (now (buffer .entry)) (now (entries .entry))) ⌝ }
+    ensures answer { λ r. ⌜ r ≡ verdictNumber (bufferVerdict (now (buffer .entry))) ⌝ }
+    ensures content { λ _. ⌜ now (entries .exit) ≡ filledFromC (now (buffer .entry)) (now (entries .entry)) ⌝ }
 {
     let n = to_fill(buffer, entries.len());
     let mut i: usize = 0;
