@@ -37,7 +37,7 @@ use Rattle.explain.proofs.Refusals.{nego-placed, chal-placed, auth-placed}
 use Rattle.batch.specs.declared.Answer.{Answer}
 use Rattle.batch.specs.declared.Entry.{Entry}
 use Rattle.batch.specs.declared.CEntry.{CEntry}
-use Rattle.batch.specs.Batch.{answerOf, placeInside, messageAt, atPlace, readMarked, answered, withAnswer, answeredFromC}
+use Rattle.batch.specs.Batch.{answerOf, placeInside, atPlace, readMarked, answered, withAnswer, answeredFromC}
 
 -- ---- an answer
 

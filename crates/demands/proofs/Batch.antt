@@ -1,9 +1,9 @@
 -- A night's messages: what each place is answered, and what the answers depend on.
 pub mod First64
 pub mod Example
-use Prim.Native.Nat.{ℕ, zero, suc, _+_, _-_, _≤_, _<_}
+use Prim.Native.Nat.{ℕ, zero, suc, _+_, _≤_, _<_}
 use mathlib.Core.Path.{_≡_, refl, sym, ap, _∙_}
-use mathlib.Core.Logic.{_⊎_, inl, inr, ⊎-elim}
+use mathlib.Core.Logic.{_⊎_, inl, inr}
 use mathlib.Core.Bool.{Bool, true, false}
 use mathlib.Core.List.{List, [], _∷_, map}
 use native.Mathlib.Omega.{arith}
@@ -12,27 +12,22 @@ use lib.ListN.{length, take, drop, getD, length-take, length-drop}
 use lib.Seq.{getD-take, getD-drop}
 use borrow.Author.Tests.{leb-true, leb-false, le-leb, lt-leb, eqb-true, eqb-false, ne-eqb}
 use Rattle.wire.specs.declared.check.Verdict.{Verdict}
-use Rattle.wire.specs.declared.check.Verdict.the-variants.{Clear, Refused as Not}
-use Rattle.wire.specs.declared.refusal.Refusal.{Refusal}
+use Rattle.wire.specs.declared.check.Verdict.the-variants.{Refused as Not}
 use Rattle.wire.specs.declared.refusal.Refusal.the-variants.{WrongType, PlaceOutside}
 use Rattle.wire.specs.Check.{checked, after}
-use Rattle.wire.specs.Refusal.{numberOf, fieldOf, placeOf}
 use Rattle.head.specs.declared.Kind.{Kind}
 use Rattle.head.specs.declared.Kind.the-variants.{Negotiate, Challenge, Authenticate}
 use Rattle.challenge.specs.declared.Answer.{Answer as ChalAnswer}
-use Rattle.challenge.specs.Challenge.{readChallenge}
 use Rattle.authenticate.specs.declared.Answer.{Answer as AuthAnswer}
 use Rattle.explain.specs.Explain.{checksOf, readAs, negoVerdict, chalVerdict, authVerdict}
-use Rattle.batch.specs.declared.Answer.{Answer}
 use Rattle.batch.specs.declared.CEntry.{CEntry}
 use Rattle.batch.specs.declared.Entry.{Entry}
-use Rattle.batch.specs.Batch.{answerOf, atPlace, readMarked, withAnswer, answered, answeredFromC, filled, filledFromC, bufferVerdict}
-use Rattle.c_number.specs.Number.{verdictNumber}
+use Rattle.batch.specs.Batch.{answerOf, atPlace, readMarked, withAnswer, answered, answeredFromC}
 use Rattle.demands.specs.Explained.{formatOf, TakenAs, RefusedAs, OneOf}
-use Rattle.demands.specs.Message.{negotiate, authenticate, challenge, DifferInIgnored}
-use Rattle.demands.specs.Batch.{Place, ofEntry, ofCEntry, markOf, Passes, Inside, message, PlaceAnswered, EntryAnswered, CEntryAnswered, Each, TellsTooLong, BatchAnswers, BatchAnswersFromC, Listed, Within, Open, in-first-64, in-challenge, DifferInListedSecrets, DifferInListedIgnored, SameBatch, SameBatchFromC, SecretBatch, BatchIgnored}
+use Rattle.demands.specs.Message.{DifferInIgnored}
+use Rattle.demands.specs.Batch.{Place, ofEntry, ofCEntry, markOf, Passes, Inside, message, PlaceAnswered, EntryAnswered, CEntryAnswered, Each, BatchAnswers, BatchAnswersFromC, Listed, in-first-64, in-challenge, DifferInListedSecrets, SameBatch, SameBatchFromC, SecretBatch, BatchIgnored}
 use Rattle.demands.proofs.Alike.{same-part}
-use Rattle.demands.proofs.Explained.{taken-clear, refused-not, Either, either, refused-is, refused-as}
+use Rattle.demands.proofs.Explained.{taken-clear, refused-not, Either, either, refused-is}
 use Rattle.demands.proofs.Explained.Reasons.{why}
 use Rattle.demands.proofs.TakenExactly.Negotiate.{negotiate-ignored}
 use Rattle.demands.proofs.Ignored.ChallengeIgnored.{challenge-ignored}

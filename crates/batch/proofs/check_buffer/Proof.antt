@@ -1,6 +1,5 @@
 -- `check_buffer` is check 1 of the buffer.
 use borrow.Author.Needs.{needs}
-use mathlib.Core.Path.{refl}
 use Rattle.wire.proofs.Laws.{chain}
 use Rattle.batch.proofs.check_buffer.Statement.{statement}
 use Rattle.batch.proofs.check_buffer.Tie as tie

@@ -1,6 +1,5 @@
 -- `to_fill` is how many entries are filled.
 use borrow.Author.Needs.{needs}
-use mathlib.Core.Path.{refl}
 use Rattle.wire.proofs.Laws.{chain}
 use Rattle.batch.proofs.to_fill.Statement.{statement}
 use Rattle.batch.proofs.to_fill.Tie as tie

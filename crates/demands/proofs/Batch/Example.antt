@@ -23,9 +23,9 @@ use Rattle.demands.specs.Examples.{challengeMessage}
 use Rattle.demands.specs.Hypotheses.{otherChallenge}
 use Rattle.demands.specs.Explained.{formatOf}
 use Rattle.demands.specs.Message.{authenticate, Covers, DifferInIgnored}
-use Rattle.demands.specs.Secret.{Secret, secret-field}
+use Rattle.demands.specs.Secret.{secret-field}
 use Rattle.demands.proofs.Hypotheses.{hypotheses-met}
-use Rattle.demands.specs.Batch.{ofCEntry, markOf, message, Inside, Within, NameOf, DifferInListedIgnored, ignoredNight, Open, in-name, in-first-64, in-challenge, Listed, ListedSecret, DifferInListedSecrets, night, nightList, otherNight, BatchExample}
+use Rattle.demands.specs.Batch.{ofCEntry, markOf, message, Within, NameOf, ignoredNight, Open, in-name, in-first-64, in-challenge, Listed, ListedSecret, night, nightList, otherNight, BatchExample}
 
 abbrev second : CEntry
 second = record { start = 100; length = 120; mark = 3; number = 7; field = 8; place = 9 }

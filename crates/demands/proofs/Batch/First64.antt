@@ -1,6 +1,6 @@
 -- A NEGOTIATE or an AUTHENTICATE is taken or refused by its length and its first 64 bytes.
 use Prim.Native.Nat.{ℕ, _+_, _≤_, _<_}
-use mathlib.Core.Path.{_≡_, ap}
+use mathlib.Core.Path.{_≡_}
 use mathlib.Core.Bool.{Bool, true}
 use mathlib.Core.List.{List}
 use native.Mathlib.Omega.{arith}
@@ -19,7 +19,7 @@ use Rattle.demands.proofs.Alike.{same16, same32}
 module _ (s t : List ℕ) (long : length s ≡ length t) (same : (p : ℕ) → p < 64 → getD s p 0 ≡ getD t p 0) where
   field-same : (at : ℕ) (c : Bool) → at + 8 ≤ 64 → fieldAt s at c ≡ fieldAt t at c
   unfolding fieldAt
-  field-same at c l = simp (same16 s t at (λ p a b. same p (omega arith)), same32 s t (at + 4) (λ p a b. same p (omega arith)))
+  field-same at c l = simp (same16 s t at (λ p a b. same p (omega arith)), same16 s t (at + 2) (λ p a b. same p (omega arith)), same32 s t (at + 4) (λ p a b. same p (omega arith)))
 
   head-same : (l : Layout) → l .flags + 4 ≤ 64 → readHead l s ≡ readHead l t
   unfolding readHead signatureHolds
