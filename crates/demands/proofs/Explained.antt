@@ -59,7 +59,7 @@ use Rattle.demands.proofs.Explained.Reasons.{Why, why, taken-holds, one
 no-place : (e : Refusal) → numberOf e ≤ 9 → placeOf e ≡ 0
 no-place e h = placeless-number e (λ b. omega (arith, b .0))
 
-taken-clear : (k : Kind) (s : List ℕ) → TakenAs k s → readAs k s ≡ Clear
+pub taken-clear : (k : Kind) (s : List ℕ) → TakenAs k s → readAs k s ≡ Clear
 taken-clear Negotiate s t = go (readNegotiate s) t where
   go : (r : NegoReading) → IsTakenNegotiate r → negoVerdict r ≡ Clear
   go (NegoTaken m) t = refl
@@ -73,7 +73,7 @@ taken-clear Authenticate s t = go (readAuthenticate s .reading) t where
   go (AuthTaken m) t = refl
   go (AuthRefused e) t = absurd t
 
-refused-not : (k : Kind) (s : List ℕ) (n i p : ℕ) → RefusedAs k s n i p → (e : Refusal) × (readAs k s ≡ Not e) × RefusalIs e n i p
+pub refused-not : (k : Kind) (s : List ℕ) (n i p : ℕ) → RefusedAs k s n i p → (e : Refusal) × (readAs k s ≡ Not e) × RefusalIs e n i p
 refused-not Negotiate s n i p t = go (readNegotiate s) (t .0) where
   small : n ≤ 9
   small = up-to-9 negotiate s n i (negotiate-refused s n i .0 (t .0) .fails)
@@ -94,10 +94,10 @@ refused-not Authenticate s n i p t = go (readAuthenticate s .reading) (t .0) whe
   go (AuthRefused e) x = (e, refl, (x .0, x .1, no-place e (omega (arith, small, x .0)) ∙ sym (t .1)))
 
 -- and every message is taken or refused
-abbrev Either : Kind → List ℕ → Type 0
+abbrev pub Either : Kind → List ℕ → Type 0
 Either k s = TakenAs k s ⊎ ((e : Refusal) × RefusedAs k s (numberOf e) (fieldOf e) (placeOf e))
 
-either : (k : Kind) (s : List ℕ) → Either k s
+pub either : (k : Kind) (s : List ℕ) → Either k s
 either Negotiate s = go (readNegotiate s) refl where
   go : (r : NegoReading) → readNegotiate s ≡ r → Either Negotiate s
   go (NegoTaken m) h = inl (rw h tt)
@@ -115,7 +115,7 @@ either Authenticate s = go (readAuthenticate s .reading) refl where
       let x : AuthenticateRefusedWith (readAuthenticate s .reading) (numberOf e) (fieldOf e) = rw h (refl, refl) in
       inr (e, (x, no-place e (up-to-9 authenticate s (numberOf e) (fieldOf e) (authenticate-refused s (numberOf e) (fieldOf e) .0 x .fails))))
 
-refused-is : (k : Kind) (s : List ℕ) (m j q n i p : ℕ) → m ≡ n → j ≡ i → q ≡ p → RefusedAs k s m j q → RefusedAs k s n i p
+pub refused-is : (k : Kind) (s : List ℕ) (m j q n i p : ℕ) → m ≡ n → j ≡ i → q ≡ p → RefusedAs k s m j q → RefusedAs k s n i p
 refused-is k s m j q n i p a b c r =
     subst (λ (x : ℕ). RefusedAs k s x i p) a (subst (λ (x : ℕ). RefusedAs k s m x p) b (subst (λ (x : ℕ). RefusedAs k s m j x) c r))
 
