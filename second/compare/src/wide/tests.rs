@@ -1,5 +1,6 @@
 mod dns_names;
 mod explain;
+mod night;
 mod response_pairs;
 
 use std::io::sink;
