@@ -112,7 +112,8 @@ enum {
     DIALTABLE_REFUSED_WRONG_LABEL = 50,       /* a length byte of other top bits; to write: a label empty or over 63 */
     DIALTABLE_REFUSED_PLACE_NOT_BEFORE = 51,  /* a jump to a place that is not before its run of labels */
     DIALTABLE_REFUSED_TOO_MANY_JUMPS = 52,    /* a seventeenth jump in one name */
-    DIALTABLE_REFUSED_NAME_TOO_LONG = 53      /* a name, read or to write, whose coded length is over 255 */
+    DIALTABLE_REFUSED_NAME_TOO_LONG = 53,     /* a name, read or to write, whose coded length is over 255 */
+    DIALTABLE_REFUSED_PLACE_OUTSIDE = 54      /* an entry of a night whose message passes the end of the buffer */
 };
 
 /* Flags of MS-NLMP 2.2.2.5: those that the library goes by. The others are read and written as they are. UNICODE wins
@@ -311,6 +312,22 @@ uint64_t dialtable_nl_auth_program_line(const uint8_t *msg, dialtable_len msg_le
 
 #define DIALTABLE_EXPLAIN_ROOM 322 /* always suffices, which is proved; the longest print that is known has 279 bytes */
 uint64_t dialtable_explain(const uint8_t *msg, dialtable_len msg_len, uint8_t *out, dialtable_len out_len);
+
+/* ---- A night's messages in one call: a buffer of messages, and a list of places in it with room for their answers. */
+
+enum { DIALTABLE_NEGOTIATE = 1, DIALTABLE_CHALLENGE = 2, DIALTABLE_AUTHENTICATE = 3 };
+struct dialtable_entry {
+    uint64_t start, length; /* where the message stands in the buffer */
+    uint32_t mark;          /* as which kind it is read, whatever its own type is */
+    uint32_t number, field, place; /* the answer */
+};
+/* Reads the message of each entry by its mark, and writes the answer there: number, field and place of the refusal that
+ * a single call on these bytes gives, or three zeros if it is taken. The place is counted from the start of the entry's
+ * message. An entry whose start plus length is more than buffer_len, added without wrapping, has 54; one with another
+ * mark, inside the buffer, has 4. Nothing else of an entry changes, and no answer hangs on another entry: places may
+ * overlap or repeat. Answers 0, or the refusal of 1 for a buffer over 65,535 bytes, and then no entry changes. */
+uint64_t dialtable_check_messages(const uint8_t *buffer, dialtable_len buffer_len, struct dialtable_entry *entries,
+                                  dialtable_len entries_len);
 
 /* ---- Writing. Answers the message's length. */
 

@@ -29,6 +29,7 @@ compile_error!("the bindings are for targets whose usize has 64 bits");
 
 mod answering;
 mod lines;
+mod night;
 mod pairs;
 pub mod raw;
 mod reading;
@@ -43,6 +44,7 @@ pub use lines::{
     authenticate_line, challenge_line, explain, negotiate_line, nl_auth_line, nl_auth_program_line,
     ntlm_line, ntlm_program_line,
 };
+pub use night::{check_messages, Entry, Mark};
 pub use pairs::{check_pairs, count_pairs, find_pair, Pair, Walk};
 pub use raw::{Parts, EXPLAIN_ROOM};
 pub use reading::{

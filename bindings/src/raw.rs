@@ -62,6 +62,25 @@ pub struct Parts<'a> {
     pub key: &'a [u8],
 }
 
+/// A message of a night's buffer and room for its answer, laid out as the header
+/// has it.
+#[derive(Clone, Copy, Debug, Default, PartialEq, Eq, Hash)]
+#[repr(C)]
+pub struct Entry {
+    /// Where the message begins in the buffer.
+    pub start: u64,
+    /// How many bytes it has.
+    pub length: u64,
+    /// As which kind it is read: 1 NEGOTIATE, 2 CHALLENGE, 3 AUTHENTICATE.
+    pub mark: u32,
+    /// The refusal's number, 0 for a message that is taken.
+    pub number: u32,
+    /// The refusal's field.
+    pub field: u32,
+    /// The refusal's place, from the start of the message.
+    pub place: u32,
+}
+
 /// The declarations of the header, in its order and layout.
 #[rustfmt::skip]
 mod c {
@@ -95,6 +114,9 @@ mod c {
         pub fn dialtable_nl_auth_program_line(msg: *const u8, msg_len: usize, out: *mut u8, out_len: usize) -> u64;
 
         pub fn dialtable_explain(msg: *const u8, msg_len: usize, out: *mut u8, out_len: usize) -> u64;
+
+        pub fn dialtable_check_messages(buffer: *const u8, buffer_len: usize, entries: *mut super::Entry,
+                                        entries_len: usize) -> u64;
 
         pub fn dialtable_write_authenticate(out: *mut u8, out_len: usize, flags: u32, version: *const u8,
                                             mic: *const u8, lm: *const u8, lm_len: usize, nt: *const u8,
@@ -233,6 +255,18 @@ line_calls! {
     nl_auth_program_line => dialtable_nl_auth_program_line;
     /// The checks of a message read as the NTLM program does.
     explain => dialtable_explain;
+}
+
+/// Reads the message of each entry by its mark, and puts the answer there.
+pub fn check_messages(buffer: &[u8], entries: &mut [Entry]) -> u64 {
+    unsafe {
+        c::dialtable_check_messages(
+            buffer.as_ptr(),
+            buffer.len(),
+            entries.as_mut_ptr(),
+            entries.len(),
+        )
+    }
 }
 
 /// The text of one string of an NL_AUTH message, as its line shows it.

@@ -70,6 +70,7 @@ reasons! {
     51 JumpNotBack "a jump to a place that is not before its run of labels";
     52 TooManyJumps "a seventeenth jump in one name";
     53 NameTooLong "a name whose coded length is over 255";
+    54 PlaceOutside "a message that passes the end of the night's buffer";
 }
 
 /// A refused call. It changed no byte that it was lent.

@@ -3,13 +3,14 @@
 use std::fs;
 
 use dialtable::{
-    authenticate_line, challenge_line, check_pairs, count_pairs, decide, domain_to_send, explain,
-    find_pair, negotiate_line, nl_auth_line, nl_auth_name, nl_auth_program_line, ntlm_line,
-    ntlm_program_line, raw, read_authenticate, read_challenge, read_negotiate, read_nl_auth,
-    read_server_names, read_timestamp, respond, respond_for_bench, respond_for_relay,
-    respond_to_old_server, write_authenticate, write_negotiate, write_nl_auth_request,
-    write_nl_auth_response, write_response_pairs, Answer, Decision, Field, Negotiate, NlAuth,
-    NlAuthString, Pair, Parts, Reason, Refusal, ServerNames, Settings, Walk, EXPLAIN_ROOM,
+    authenticate_line, challenge_line, check_messages, check_pairs, count_pairs, decide,
+    domain_to_send, explain, find_pair, negotiate_line, nl_auth_line, nl_auth_name,
+    nl_auth_program_line, ntlm_line, ntlm_program_line, raw, read_authenticate, read_challenge,
+    read_negotiate, read_nl_auth, read_server_names, read_timestamp, respond, respond_for_bench,
+    respond_for_relay, respond_to_old_server, write_authenticate, write_negotiate,
+    write_nl_auth_request, write_nl_auth_response, write_response_pairs, Answer, Decision, Entry,
+    Field, Mark, Negotiate, NlAuth, NlAuthString, Pair, Parts, Reason, Refusal, ServerNames,
+    Settings, Walk, EXPLAIN_ROOM,
 };
 
 const UNICODE: u32 = 0x1;
@@ -475,6 +476,100 @@ fn the_checks_of_a_message() {
     assert_eq!(refusal(explain(&long, &mut short)), (33, 0));
     assert_eq!(refusal(explain(&long, &mut [])), (33, 0));
     assert_eq!(short, [0xEE; 278]);
+}
+
+/// P1, a NEGOTIATE and a CHALLENGE that is refused 13, one after the other.
+fn night() -> Vec<u8> {
+    let bad = file("messages/challenge-timestamp-short.bin");
+    [p1(), negotiate(), bad].concat()
+}
+
+#[test]
+fn a_night_is_checked() {
+    let buffer = night();
+    assert_eq!(buffer.len(), 306);
+    let cases = [
+        (0, 120, Mark::Authenticate, None),
+        (120, 52, Mark::Negotiate, None),
+        (172, 134, Mark::Challenge, Some((13, 2, 118))),
+        // Marks that are not the message's type, and places that overlap.
+        (0, 120, Mark::Challenge, Some((4, 0, 0))),
+        (0, 119, Mark::Authenticate, Some((6, 2, 0))),
+        (1, 120, Mark::Authenticate, Some((3, 0, 0))),
+        (0, 120, Mark::Authenticate, None),
+        (306, 0, Mark::Negotiate, Some((2, 0, 0))),
+        (307, 0, Mark::Negotiate, Some((54, 0, 0))),
+        (306, 1, Mark::Authenticate, Some((54, 0, 0))),
+        (u64::MAX, 121, Mark::Authenticate, Some((54, 0, 0))),
+        (1 << 32, 120, Mark::Authenticate, Some((54, 0, 0))),
+    ];
+    let listed = cases.map(|(start, length, mark, _)| Entry {
+        number: 7,
+        field: 8,
+        place: 9,
+        ..Entry::new(start, length, mark)
+    });
+    let mut entries = listed;
+    assert_eq!(check_messages(&buffer, &mut entries), Ok(()));
+    for ((entry, before), (_, _, _, expected)) in entries.iter().zip(listed).zip(cases) {
+        let answer = entry.answer();
+        let told = answer.err().map(|e| (e.number(), e.field, e.place));
+        assert_eq!(told, expected);
+        let (number, field, place) = expected.unwrap_or_default();
+        let after = Entry {
+            number: u32::from(number),
+            field: u32::from(field),
+            place: place as u32,
+            ..before
+        };
+        assert_eq!(*entry, after);
+    }
+    assert_eq!(Reason::of(54), Reason::PlaceOutside);
+}
+
+#[test]
+fn a_night_that_is_too_long_or_empty_changes_no_entry() {
+    let mut buffer = night();
+    buffer.resize(65_535, 0);
+    let mut entries = [Entry::new(0, 120, Mark::Authenticate); 3];
+    entries[1].number = 77;
+    assert_eq!(check_messages(&buffer, &mut []), Ok(()));
+    assert_eq!(check_messages(&buffer, &mut entries[..1]), Ok(()));
+    assert_eq!(entries[1].number, 77);
+    buffer.push(0);
+    let before = entries;
+    assert_eq!(refusal(check_messages(&buffer, &mut entries)), (1, 0));
+    assert_eq!(refusal(check_messages(&buffer, &mut [])), (1, 0));
+    assert_eq!(entries, before);
+    // A mark that is none, which only the fields can give.
+    for mark in [0, 4, 0x103, u32::MAX] {
+        entries[2].mark = mark;
+        assert_eq!(check_messages(&night(), &mut entries), Ok(()));
+        assert_eq!(refusal(entries[2].answer()), (4, 0));
+    }
+}
+
+/// An entry's answer is the single call's on its bytes.
+#[test]
+fn a_night_of_a_thousand_entries() {
+    let buffer = night();
+    let marks = [Mark::Negotiate, Mark::Challenge, Mark::Authenticate];
+    let entry = |i: u64| Entry::new(i * 7 % 300, i * 13 % 310, marks[i as usize % 3]);
+    let mut entries: Vec<Entry> = (0..1_000).map(entry).collect();
+    assert_eq!(check_messages(&buffer, &mut entries), Ok(()));
+    for entry in &entries {
+        let (start, length) = (entry.start as usize, entry.length as usize);
+        let Some(message) = buffer.get(start..start + length) else {
+            assert_eq!(refusal(entry.answer()), (54, 0));
+            continue;
+        };
+        let single = match entry.mark {
+            1 => read_negotiate(message).map(drop),
+            2 => read_challenge(message).map(drop),
+            _ => read_authenticate(message).map(drop),
+        };
+        assert_eq!(entry.answer(), single);
+    }
 }
 
 #[test]

@@ -577,6 +577,79 @@ static void explains_the_longest(void)
     }
 }
 
+/* P1 at 0, a NEGOTIATE at 120 and a CHALLENGE whose timestamp is too short at 172, 306 bytes: an entry for each, then
+ * places that overlap, repeat, end at the buffer's end or pass it, and marks that aren't the message's type, or none. */
+static const struct dialtable_entry night[] = {
+    {0, 120, DIALTABLE_AUTHENTICATE, 0, 0, 0}, {120, 52, DIALTABLE_NEGOTIATE, 0, 0, 0},
+    {172, 134, DIALTABLE_CHALLENGE, 13, 2, 118}, {0, 120, DIALTABLE_NEGOTIATE, 4, 0, 0},
+    {0, 119, DIALTABLE_AUTHENTICATE, 6, 2, 0}, {120, 51, DIALTABLE_NEGOTIATE, 6, 2, 0},
+    {120, 186, DIALTABLE_NEGOTIATE, 0, 0, 0}, {60, 120, DIALTABLE_AUTHENTICATE, 3, 0, 0},
+    {0, 120, DIALTABLE_AUTHENTICATE, 0, 0, 0}, {172, 133, DIALTABLE_CHALLENGE, 6, 2, 0},
+    {306, 0, DIALTABLE_CHALLENGE, 2, 0, 0}, {306, 1, DIALTABLE_CHALLENGE, 54, 0, 0},
+    {307, 0, DIALTABLE_NEGOTIATE, 54, 0, 0}, {0, 307, DIALTABLE_AUTHENTICATE, 54, 0, 0},
+    {UINT64_MAX, 1, DIALTABLE_AUTHENTICATE, 54, 0, 0}, {UINT64_MAX, 121, DIALTABLE_AUTHENTICATE, 54, 0, 0},
+    {1, UINT64_MAX, DIALTABLE_CHALLENGE, 54, 0, 0}, {UINT64_MAX, UINT64_MAX, DIALTABLE_NEGOTIATE, 54, 0, 0},
+    {0x100000000u, 120, DIALTABLE_AUTHENTICATE, 54, 0, 0}, {0, 0x100000078u, DIALTABLE_AUTHENTICATE, 54, 0, 0},
+    {0, 120, 0, 4, 0, 0}, {0, 120, 4, 4, 0, 0}, {0, 120, 0x103, 4, 0, 0}, {0, 120, 0x80000003u, 4, 0, 0},
+    {0, 0, 0, 4, 0, 0}, {307, 0, 4, 54, 0, 0}, {0, 120, DIALTABLE_AUTHENTICATE, 0, 0, 0}};
+#define NIGHT (sizeof night / sizeof *night)
+
+/* The entries with an answer of their own before the call, one more before them and one after. */
+static void lay_out(struct dialtable_entry *entries)
+{
+    size_t i;
+
+    memset(entries, FILL, (NIGHT + 2) * sizeof *entries);
+    for (i = 0; i < NIGHT; i++) {
+        entries[i + 1].start = night[i].start;
+        entries[i + 1].length = night[i].length;
+        entries[i + 1].mark = night[i].mark;
+    }
+}
+
+static void checks_a_night(const message_t *p1, const message_t *challenge)
+{
+    static struct dialtable_entry entries[NIGHT + 2], before[NIGHT + 2];
+    static uint8_t buffer[65536];
+    size_t i, listed;
+
+    EQUAL(sizeof(struct dialtable_entry), 32);
+    memcpy(buffer, p1->bytes, 120);
+    memcpy(buffer + 120, nego, NEGO_LEN);
+    memcpy(buffer + 172, challenge->bytes, 134);
+    buffer[172 + 120] = 4; /* the length of the timestamp */
+    lay_out(before);
+    for (listed = 0; listed <= NIGHT; listed++) {
+        lay_out(entries);
+        EQUAL(dialtable_check_messages(buffer, 306, entries + 1, listed), 0);
+        CHECK(memcmp(entries + 1, night, listed * sizeof *entries) == 0);
+        CHECK(memcmp(entries, before, sizeof *entries) == 0);
+        CHECK(memcmp(entries + 1 + listed, before + 1 + listed, (NIGHT + 1 - listed) * sizeof *entries) == 0);
+    }
+    for (i = 0; i < NIGHT; i++) {
+        EQUAL(entries[i + 1].number, night[i].number);
+        EQUAL(entries[i + 1].field, night[i].field);
+        EQUAL(entries[i + 1].place, night[i].place);
+    }
+
+    /* The longest buffer, and one that is too long: no entry changes, and an empty list is no way round it. */
+    lay_out(entries);
+    EQUAL(dialtable_check_messages(buffer, 65535, entries + 1, NIGHT), 0);
+    EQUAL(entries[1].number, 0);
+    EQUAL(entries[12].number, 2); /* the byte at 306, as a CHALLENGE */
+    lay_out(entries);
+    CHECK(refused(dialtable_check_messages(buffer, 65536, entries + 1, NIGHT), 1, 0));
+    CHECK(memcmp(entries, before, sizeof entries) == 0);
+    CHECK(refused(dialtable_check_messages(buffer, 65536, NULL, 0), 1, 0));
+    /* Nothing at all. */
+    EQUAL(dialtable_check_messages(NULL, 0, NULL, 0), 0);
+    EQUAL(dialtable_check_messages(buffer, 306, NULL, 0), 0);
+    entries[0].start = entries[0].length = 0;
+    entries[0].mark = DIALTABLE_AUTHENTICATE;
+    EQUAL(dialtable_check_messages(NULL, 0, entries, 1), 0);
+    EQUAL(entries[0].number, 2);
+}
+
 static const uint8_t version[8] = {10, 0, 0x61, 0x4A, 0, 0, 0, 15};
 static const uint8_t mic[16] = {1, 2, 3, 4, 5, 6, 7, 8, 9, 10, 11, 12, 13, 14, 15, 16};
 static const uint8_t lm[24] = {0x11, 0x12};
@@ -967,7 +1040,7 @@ static void takes_numbers_in_wide_registers(const message_t *p1, const message_t
     CHECK(memcmp(out, "d.com", 5) == 0);
 }
 
-/* The names of refusals, flags, pair ids and NL_AUTH's bits have the numbers of document 01. */
+/* The names of refusals, flags, pair ids, NL_AUTH's bits and marks have the numbers of document 01. */
 static void names_numbers(void)
 {
     static const uint32_t named[] = {
@@ -980,18 +1053,19 @@ static void names_numbers(void)
         DIALTABLE_REFUSED_NO_SERVER_NAMES, DIALTABLE_REFUSED_TOO_LONG_TO_WRITE, DIALTABLE_REFUSED_ODD_NAME_TO_WRITE,
         DIALTABLE_REFUSED_WRONG_KEY, DIALTABLE_REFUSED_NO_ROOM, DIALTABLE_REFUSED_ZERO_IN_STRING,
         DIALTABLE_REFUSED_WRONG_LABEL, DIALTABLE_REFUSED_PLACE_NOT_BEFORE, DIALTABLE_REFUSED_TOO_MANY_JUMPS,
-        DIALTABLE_REFUSED_NAME_TOO_LONG,
+        DIALTABLE_REFUSED_NAME_TOO_LONG, DIALTABLE_REFUSED_PLACE_OUTSIDE,
         DIALTABLE_FLAG_UNICODE, DIALTABLE_FLAG_OEM, DIALTABLE_FLAG_REQUEST_TARGET, DIALTABLE_FLAG_SIGN,
         DIALTABLE_FLAG_SEAL, DIALTABLE_FLAG_DOMAIN_SUPPLIED, DIALTABLE_FLAG_WORKSTATION_SUPPLIED,
         DIALTABLE_FLAG_TARGET_INFO, DIALTABLE_FLAG_VERSION, DIALTABLE_FLAG_128, DIALTABLE_FLAG_KEY_EXCH,
         DIALTABLE_PAIR_NB_COMPUTER, DIALTABLE_PAIR_NB_DOMAIN, DIALTABLE_PAIR_DNS_COMPUTER, DIALTABLE_PAIR_DNS_DOMAIN,
         DIALTABLE_PAIR_DNS_TREE, DIALTABLE_PAIR_FLAGS, DIALTABLE_PAIR_TIMESTAMP, DIALTABLE_PAIR_SINGLE_HOST,
         DIALTABLE_PAIR_TARGET_NAME, DIALTABLE_PAIR_CHANNEL_BINDINGS, DIALTABLE_NL_AUTH_BIT_A, DIALTABLE_NL_AUTH_BIT_B,
-        DIALTABLE_NL_AUTH_BIT_C, DIALTABLE_NL_AUTH_BIT_D, DIALTABLE_NL_AUTH_BIT_E};
+        DIALTABLE_NL_AUTH_BIT_C, DIALTABLE_NL_AUTH_BIT_D, DIALTABLE_NL_AUTH_BIT_E, DIALTABLE_NEGOTIATE,
+        DIALTABLE_CHALLENGE, DIALTABLE_AUTHENTICATE};
     static const uint32_t expected[] = {
-        1, 2, 3, 4, 5, 6, 7, 8, 9, 10, 11, 12, 13, 14, 15, 16, 17, 20, 21, 30, 31, 32, 33, 34, 50, 51, 52, 53,
+        1, 2, 3, 4, 5, 6, 7, 8, 9, 10, 11, 12, 13, 14, 15, 16, 17, 20, 21, 30, 31, 32, 33, 34, 50, 51, 52, 53, 54,
         0x1, 0x2, 0x4, 0x10, 0x20, 0x1000, 0x2000, 0x800000, 0x2000000, 0x20000000, 0x40000000,
-        1, 2, 3, 4, 5, 6, 7, 8, 9, 10, 0x1, 0x2, 0x4, 0x8, 0x10};
+        1, 2, 3, 4, 5, 6, 7, 8, 9, 10, 0x1, 0x2, 0x4, 0x8, 0x10, 1, 2, 3};
     unsigned i;
 
     EQUAL(sizeof named, sizeof expected);
@@ -1024,6 +1098,7 @@ int main(int argc, char **argv)
     prints_lines(&p1, &challenge);
     explains(&p1, &challenge);
     explains_the_longest();
+    checks_a_night(&p1, &challenge);
     writes_and_reads_back();
     writes_negotiate();
     writes_the_longest_negotiate();

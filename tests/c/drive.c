@@ -28,6 +28,7 @@ static uint32_t draw_32(void)
  * call. */
 static uint8_t out[1024], bytes[24];
 static uint64_t numbers[16];
+static struct dialtable_entry entries[5];
 static uint64_t all = 1469598103934665603u;
 static unsigned long refusals[256];
 
@@ -131,6 +132,26 @@ static void prints(unsigned room)
     CALL(dialtable_explain(msg, len, out, room));
 }
 
+/* Places in the message as if it were a night's buffer: whole, a part, or past its end; the last entry is not lent. */
+static void nights(void)
+{
+    unsigned i, listed = draw(5);
+
+    memset(entries, 0xEE, sizeof entries);
+    for (i = 0; i < listed; i++) {
+        uint32_t start = draw(3) ? 0 : draw(len + 2), rest = start < len ? len - start : 0;
+
+        entries[i].start = draw(16) ? start : ~(uint64_t)0 - start;
+        entries[i].length = draw(3) ? rest : draw(len + 2);
+        entries[i].mark = draw(8) ? draw(3) + 1 : draw_32();
+    }
+    CALL(dialtable_check_messages(msg, len, entries, listed));
+    for (i = 0; i < listed; i++)
+        if (entries[i].number != 0)
+            refusals[entries[i].number & 0xFF]++;
+    mix(entries, sizeof entries);
+}
+
 static const uint8_t version[8] = {6, 1, 0xB1, 0x1D, 0, 0, 0, 15};
 static uint8_t mic[16];
 /* Names with labels of 1 to 3 bytes, then one of 70. */
@@ -186,6 +207,7 @@ int main(void)
         reads(room, places, bytes_room);
         walks(places);
         prints(room);
+        nights();
         writes(room);
         answers(room, places);
         mix(msg, sizeof msg);

@@ -12,6 +12,7 @@
 
 static uint8_t out[1024], bytes[16], zeros[24];
 static uint64_t numbers[16];
+static struct dialtable_entry entries[3];
 
 static struct {
     const char *name;
@@ -39,8 +40,12 @@ static struct {
 /* A caller's arguments that have no register lie in its own frame. */
 static void measure(const uint8_t *msg, dialtable_len len)
 {
-    unsigned place = 0;
+    unsigned place = 0, i;
 
+    for (i = 0; i < 3; i++) {
+        entries[i].length = len;
+        entries[i].mark = i + 1;
+    }
     STACK(read_authenticate, msg, len, numbers, 16, bytes, 16);
     STACK(read_challenge, msg, len, numbers, 16, bytes, 16);
     STACK(read_timestamp, msg, len, numbers, 16);
@@ -61,6 +66,7 @@ static void measure(const uint8_t *msg, dialtable_len len)
     STACK(ntlm_program_line, msg, len, out, sizeof out);
     STACK(nl_auth_program_line, msg, len, out, sizeof out);
     STACK(explain, msg, len, out, sizeof out);
+    STACK(check_messages, msg, len, entries, 3);
     STACK(write_authenticate, out, sizeof out, 0xE28A8215u, zeros, zeros, zeros, 24, zeros, 24, NAMES, zeros, 16);
     STACK(write_negotiate, out, sizeof out, 0xA2088207u, zeros, zeros, 5, zeros, 5);
     STACK(write_nl_auth_request, out, sizeof out, 31, msg, 1, msg, 1, msg, 1, msg, 1, msg, 1);

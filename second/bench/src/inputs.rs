@@ -288,3 +288,33 @@ pub fn captured(folder: &Path, file: &str) -> Result<Vec<u8>, String> {
     let (_, message) = depot::form::read(content).map_err(|error| format!("{file}: {error}"))?;
     Ok(message)
 }
+
+/// A night of so many entries: NEGOTIATE, CHALLENGE and AUTHENTICATE as boxes have
+/// them, one after the other while 65,535 bytes have room for all three. Entries
+/// go round.
+pub struct Night {
+    pub buffer: Vec<u8>,
+    /// Start, length and mark.
+    pub places: Vec<(usize, usize, u32)>,
+}
+
+impl Night {
+    pub fn of(entries: usize) -> Self {
+        let messages = [
+            Opening::usual().message(FLAGS),
+            challenge(&six_pairs()),
+            Account::usual().message(FLAGS),
+        ];
+        let round: usize = messages.iter().map(Vec::len).sum();
+        let mut buffer = Vec::new();
+        let mut standing = Vec::new();
+        while buffer.len() + round <= MAX_MESSAGE && standing.len() < entries {
+            for (message, mark) in messages.iter().zip(1..) {
+                standing.push((buffer.len(), message.len(), mark));
+                buffer.extend(message);
+            }
+        }
+        let places = standing.iter().cycle().take(entries).copied().collect();
+        Self { buffer, places }
+    }
+}

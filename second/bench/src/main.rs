@@ -12,17 +12,21 @@ use std::time::{Duration, Instant};
 
 use dialtable::raw;
 use reader::{
-    answer_for_bench, authenticate_line, challenge_line, explain, negotiate_line, nl_auth_line,
-    nl_auth_name, write_authenticate, write_negotiate, write_nl_auth_request, write_response_pairs,
-    Authenticate, AvId, Challenge, Negotiate, NlAuth, NlAuthFlags, Refusal, Secrets, TargetInfo,
+    answer_for_bench, authenticate_line, challenge_line, check_messages, explain, negotiate_line,
+    nl_auth_line, nl_auth_name, write_authenticate, write_negotiate, write_nl_auth_request,
+    write_response_pairs, Authenticate, AvId, Challenge, Negotiate, NlAuth, NlAuthFlags, Refusal,
+    Secrets, TargetInfo,
 };
 
-use inputs::{Account, Opening, Target, BEFORE_LIST, FLAGS, TIMESTAMP};
+use inputs::{Account, Night, Opening, Target, BEFORE_LIST, FLAGS, TIMESTAMP};
 
 const USAGE: &str = "usage: bench time | round | calls MESSAGES, or bench once MESSAGES PLACE";
 
 /// Sizes of messages, up to the longest.
 const SIZES: [usize; 4] = [100, 1_000, 10_000, 65_535];
+
+/// The entries of the nights that are checked.
+const NIGHTS: [usize; 4] = [1, 10, 100, 1_000];
 
 /// One call as both sides make it, so many times.
 struct Measured {
@@ -78,13 +82,21 @@ fn fail(message: &str) -> ExitCode {
 /// The calls that instructions are counted of: its place, its name, and what it
 /// is given.
 fn calls(out: &mut impl Write, captured: Vec<Measured>) -> io::Result<()> {
-    let mut calls = usual().into_iter().chain(captured).enumerate();
+    let mut calls = counted(captured).enumerate();
     calls.try_for_each(|(place, call)| writeln!(out, "{place} {} {}", call.name, call.on))
+}
+
+fn counted(captured: Vec<Measured>) -> impl Iterator<Item = Measured> {
+    let nights = [
+        night(1_000, &BESIDE_SECOND),
+        night(1_000, &BESIDE_SINGLE_CALLS),
+    ];
+    usual().into_iter().chain(captured).chain(nights)
 }
 
 /// Makes exactly one call of each side, for a program that counts instructions.
 fn once(captured: Vec<Measured>, place: &str) -> ExitCode {
-    let mut calls = usual().into_iter().chain(captured);
+    let mut calls = counted(captured);
     let Some(mut call) = place.parse().ok().and_then(|place| calls.nth(place)) else {
         return fail(USAGE);
     };
@@ -101,20 +113,40 @@ extern "C" fn bench_second_once(call: &mut Box<dyn FnMut(u64)>) {
 }
 
 /// All calls that are timed, under the names of their tables.
-fn tables(captured: Vec<Measured>) -> [(&'static str, Vec<Measured>); 3] {
+fn tables(captured: Vec<Measured>) -> [Table; 4] {
+    let table = |what, calls| Table {
+        what,
+        sides: ["proved", "second"],
+        calls,
+    };
     [
-        (
+        table(
             "the usual messages, as our own writer lays them out",
             usual(),
         ),
-        ("captured messages", captured),
-        ("how time grows with the message", growing()),
+        table("captured messages", captured),
+        table("how time grows with the message", growing()),
+        Table {
+            what: "a night in one call of the library, and in as many as it has entries",
+            sides: ["one", "single"],
+            calls: NIGHTS
+                .map(|entries| night(entries, &BESIDE_SINGLE_CALLS))
+                .into(),
+        },
     ]
+}
+
+/// Calls under the name of their table, and what its two sides are.
+struct Table {
+    what: &'static str,
+    sides: [&'static str; 2],
+    calls: Vec<Measured>,
 }
 
 fn time(out: &mut impl Write, folder: &str, captured: Vec<Measured>) -> io::Result<()> {
     let tables = tables(captured);
-    let mut least = vec![[f64::INFINITY; 2]; tables.iter().map(|(_, calls)| calls.len()).sum()];
+    let all = tables.iter().map(|table| table.calls.len()).sum();
+    let mut least = vec![[f64::INFINITY; 2]; all];
     for _ in 0..PROCESSES {
         for (least, found) in least.iter_mut().zip(another_process(folder)?) {
             *least = [least[0].min(found[0]), least[1].min(found[1])];
@@ -123,9 +155,9 @@ fn time(out: &mut impl Write, folder: &str, captured: Vec<Measured>) -> io::Resu
     writeln!(out, "nanoseconds for one call, both on the same input: the least of {ROUNDS} rounds in each of {PROCESSES} processes, in which")?;
     writeln!(out, "both sides of all calls take turns. Outputs are lent as the call before left them. The aim is a ratio of at most 1.0.")?;
     let mut least = least.into_iter();
-    for (what, calls) in &tables {
-        heading(out, what)?;
-        for (call, least) in calls.iter().zip(&mut least) {
+    for table in &tables {
+        heading(out, table)?;
+        for (call, least) in table.calls.iter().zip(&mut least) {
             row(out, call, least)?;
         }
     }
@@ -155,16 +187,16 @@ fn another_process(folder: &str) -> io::Result<Vec<[f64; 2]>> {
 /// Measures in this process, and prints both sides of each call.
 fn round(out: &mut impl Write, captured: Vec<Measured>) -> io::Result<()> {
     let mut tables = tables(captured);
-    let calls = tables.iter_mut().flat_map(|(_, calls)| calls);
+    let calls = tables.iter_mut().flat_map(|table| &mut table.calls);
     measure(calls)
         .iter()
         .try_for_each(|[proved, second]| writeln!(out, "{proved} {second}"))
 }
 
-fn heading(out: &mut impl Write, what: &str) -> io::Result<()> {
-    let columns = ["proved", "second", "ratio"];
-    write!(out, "\n  {what:<68}")?;
-    for column in columns {
+fn heading(out: &mut impl Write, table: &Table) -> io::Result<()> {
+    let [one, other] = table.sides;
+    write!(out, "\n  {:<68}", table.what)?;
+    for column in [one, other, "ratio"] {
         write!(out, "{column:>10}")?;
     }
     writeln!(out)
@@ -316,6 +348,8 @@ fn growing() -> Vec<Measured> {
         let list = inputs::long_list(len - BEFORE_LIST);
         checks_of(inputs::challenge(&list), "of pairs")
     });
+    calls.extend(NIGHTS.map(|entries| night(entries, &BESIDE_SECOND)));
+    let mut each = |call: fn(usize) -> Measured| calls.extend(SIZES.map(call));
     each(|len| find_pair(inputs::long_list(len), "the last pair"));
     each(|len| write(Account::of_message(len)));
     each(|len| open(Opening::of_message(len)));
@@ -470,6 +504,63 @@ fn line(
         proved: repeat!(proved(black_box(&message), &mut out)),
         second: repeat!(second(black_box(&other), &mut other_out)),
     }
+}
+
+/// What a night in one call of the library stands beside: what that is called, and
+/// the other side.
+type Beside = (&'static str, fn(Night) -> Box<dyn FnMut(u64)>);
+
+const BESIDE_SECOND: Beside = ("", second_night);
+const BESIDE_SINGLE_CALLS: Beside = ("and single calls ", single_calls);
+
+/// The library's entries of a night.
+fn entries(night: &Night) -> Vec<raw::Entry> {
+    let entry = |&(start, length, mark): &(usize, usize, u32)| raw::Entry {
+        start: start as u64,
+        length: length as u64,
+        mark,
+        ..raw::Entry::default()
+    };
+    night.places.iter().map(entry).collect()
+}
+
+fn night(size: usize, (what, other): &Beside) -> Measured {
+    let night = Night::of(size);
+    let mut entries = entries(&night);
+    let on = format!("{size} entries {what}{}", bytes(&night.buffer));
+    Measured {
+        name: "check_messages",
+        on,
+        proved: repeat!(raw::check_messages(black_box(&night.buffer), &mut entries)),
+        second: other(Night::of(size)),
+    }
+}
+
+fn second_night(night: Night) -> Box<dyn FnMut(u64)> {
+    let entry = |&(start, length, mark): &(usize, usize, u32)| {
+        reader::Entry::new(start as u64, length as u64, mark)
+    };
+    let mut entries: Vec<_> = night.places.iter().map(entry).collect();
+    repeat!(check_messages(black_box(&night.buffer), &mut entries))
+}
+
+/// A call of the library for each entry, by its mark; the answer goes to a list.
+fn single_calls(night: Night) -> Box<dyn FnMut(u64)> {
+    let mut numbers = [0; raw::AUTHENTICATE_NUMBERS];
+    let mut array = [0; 16];
+    let mut answers = vec![0; night.places.len()];
+    repeat!({
+        let buffer = black_box(&night.buffer);
+        for (&(start, length, mark), answer) in night.places.iter().zip(&mut answers) {
+            let message = &buffer[start..start + length];
+            *answer = match mark {
+                1 => raw::read_negotiate(message, &mut numbers),
+                2 => raw::read_challenge(message, &mut numbers, &mut array),
+                _ => raw::read_authenticate(message, &mut numbers, &mut array),
+            };
+        }
+        black_box(&answers).len()
+    })
 }
 
 fn find_pair(list: Vec<u8>, what: &str) -> Measured {
@@ -662,6 +753,17 @@ mod tests {
         assert_eq!(jumps, Ok([0, 0, 0, 1, 0]));
         let host = nl_auth_name(&names, 4, &mut out).map(|len| &out[..len]);
         assert_eq!(host, Ok(inputs::STRINGS[3]));
+        for entries in NIGHTS {
+            let night = Night::of(entries);
+            assert_eq!(night.places.len(), entries);
+            assert!(night.buffer.len() <= reader::MAX_MESSAGE);
+            let entry = |&(start, length, mark): &(usize, usize, u32)| {
+                reader::Entry::new(start as u64, length as u64, mark)
+            };
+            let mut listed: Vec<_> = night.places.iter().map(entry).collect();
+            assert_eq!(check_messages(&night.buffer, &mut listed), Ok(()));
+            assert!(listed.iter().all(|entry| entry.number == 0));
+        }
         for len in SIZES {
             let opening = Opening::of_message(len).message(FLAGS);
             assert_eq!(opening.len(), len);

@@ -17,7 +17,7 @@ const MAX_FILE: u64 = 1 << 24;
 pub struct Folder {
     /// Each is to hold a message.
     pub messages: Vec<MessageFile>,
-    /// The names of files that tell about the messages.
+    /// The names of files that tell about the messages, and of nights.
     pub passed_over: Vec<String>,
 }
 
@@ -51,8 +51,9 @@ pub enum NotRead {
 
 impl Folder {
     /// Every file counts as a message but those whose names begin with a dot or
-    /// end in .md or .json. A folder inside is kept as a file that can't be
-    /// read, so that nothing in it is left out without a word.
+    /// end in .md or .json, and those of a night (.night, .index), which is run by
+    /// itself. A folder inside is kept as a file that can't be read, so that
+    /// nothing in it is left out without a word.
     pub fn list(path: &Path) -> Result<Self, NoFolder> {
         let failed = |error: io::Error| match error.kind() {
             io::ErrorKind::NotFound => NoFolder::Missing(path.to_owned()),
@@ -86,7 +87,8 @@ impl Folder {
 fn tells_about(name: &OsStr) -> bool {
     let hidden = name.as_encoded_bytes().starts_with(b".");
     let extension = Path::new(name).extension().unwrap_or_default();
-    hidden || extension.eq_ignore_ascii_case("md") || extension.eq_ignore_ascii_case("json")
+    let beside = ["md", "json", "night", "index"];
+    hidden || beside.iter().any(|end| extension.eq_ignore_ascii_case(end))
 }
 
 /// A name without characters that would upset a terminal or a line.
@@ -108,6 +110,11 @@ impl MessageFile {
 
     /// The message and the form that it has in the file.
     pub fn read(&self) -> Result<(Form, Vec<u8>), NotRead> {
+        form::read(self.content()?).map_err(NotRead::NoMessage)
+    }
+
+    /// All bytes of the file.
+    pub fn content(&self) -> Result<Vec<u8>, NotRead> {
         let about = fs::metadata(&self.path).map_err(|error| match error.kind() {
             io::ErrorKind::NotFound => NotRead::Missing,
             _ => NotRead::Unreadable(error),
@@ -122,8 +129,7 @@ impl MessageFile {
         if about.len() > MAX_FILE {
             return Err(NotRead::TooLarge);
         }
-        let content = fs::read(&self.path).map_err(NotRead::Unreadable)?;
-        form::read(content).map_err(NotRead::NoMessage)
+        fs::read(&self.path).map_err(NotRead::Unreadable)
     }
 }
 
@@ -185,10 +191,20 @@ mod tests {
 
     #[test]
     fn files_beside_the_messages_go_by_their_names() {
-        for name in ["README.md", "index.json", ".gitignore", "a.MD", "b.Json"] {
+        for name in [
+            "README.md",
+            "index.json",
+            ".gitignore",
+            "a.MD",
+            "b.Json",
+            "a.night",
+            "a.index",
+        ] {
             assert!(tells_about(OsStr::new(name)), "{name}");
         }
-        for name in ["box31", "a.bin", "md", "a.md.bin", "json", "a.txt", "a."] {
+        for name in [
+            "box31", "a.bin", "md", "a.md.bin", "json", "a.txt", "a.", "night",
+        ] {
             assert!(!tells_about(OsStr::new(name)), "{name}");
         }
     }

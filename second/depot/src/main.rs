@@ -1,11 +1,12 @@
 //! The depot bench: runs every message of a folder through the proved program
 //! and through the second, prints the line of each, and why an NTLM message is
-//! refused, and says where the two differ. It also does the last for one file.
+//! refused, and says where the two differ. It also does the last for one file, and
+//! runs a night's messages through both in one call.
 
 #![forbid(unsafe_code)]
 
 use std::env;
-use std::ffi::OsString;
+use std::ffi::{OsStr, OsString};
 use std::fmt;
 use std::io::{self, BufWriter, Write};
 use std::path::{Path, PathBuf};
@@ -13,11 +14,13 @@ use std::process::ExitCode;
 
 use depot::folder::{Folder, MessageFile, NoFolder, NotRead};
 use depot::form::Kind;
+use night::{index_of, read_index, NoNight};
 use programs::{Answer, CannotRun, Program, Text};
 
 const USAGE: &str =
     "usage: depot look FOLDER | depot run FOLDER NTLM_LINE NL_AUTH_LINE NTLM_EXPLAIN SECOND \
-                     | depot read FILE | depot explain FILE NTLM_EXPLAIN SECOND";
+                     | depot read FILE | depot explain FILE NTLM_EXPLAIN SECOND \
+                     | depot look-night FILE | depot night FILE NIGHT SECOND";
 
 fn main() -> ExitCode {
     let args: Vec<OsString> = env::args_os().skip(1).collect();
@@ -31,6 +34,11 @@ fn main() -> ExitCode {
         [command, file, explain, second] if command == "explain" => {
             let pair = Pair::explain(Path::new(explain), Path::new(second));
             explain_file(&pair, Path::new(file))
+        }
+        [command, file] if command == "look-night" => Night::read(Path::new(file)).map(|_| true),
+        [command, file, night, second] if command == "night" => {
+            let night_and_second = [night, second].map(Path::new);
+            Night::read(Path::new(file)).and_then(|night| night.run(night_and_second))
         }
         _ => return fail(2, &USAGE),
     };
@@ -53,6 +61,8 @@ enum Failure {
     NoFolder(NoFolder),
     NoFile(PathBuf, NotRead),
     NotNtlm(PathBuf),
+    NoBuffer(PathBuf, NotRead),
+    NoNight(NoNight),
     CannotRun(CannotRun),
     Print(io::Error),
 }
@@ -60,6 +70,12 @@ enum Failure {
 impl From<NoFolder> for Failure {
     fn from(why: NoFolder) -> Self {
         Self::NoFolder(why)
+    }
+}
+
+impl From<NoNight> for Failure {
+    fn from(why: NoNight) -> Self {
+        Self::NoNight(why)
     }
 }
 
@@ -90,7 +106,14 @@ impl fmt::Display for Failure {
                 "{} is an NL_AUTH message: make explain is for NTLM messages, make run prints its line",
                 path.display()
             ),
-            Self::CannotRun(why) => write!(f, "{why}; make run builds it"),
+            Self::NoBuffer(path, NotRead::Missing) => write!(
+                f,
+                "there is no file {}: name a night's buffer, as make night FILE=messages/two-boxes.night",
+                path.display()
+            ),
+            Self::NoBuffer(path, why) => write!(f, "{} is not read: {why}", path.display()),
+            Self::NoNight(why) => why.fmt(f),
+            Self::CannotRun(why) => write!(f, "{why}; make run builds it, or make night"),
             Self::Print(error) => write!(f, "what the bench found can't be printed: {error}"),
         }
     }
@@ -126,10 +149,55 @@ fn explain_file(pair: &Pair, file: &Path) -> Result<bool, Failure> {
             writeln!(out, "{}", Text(line))?;
         }
     } else {
-        write_parted(&proved, &second, "", &mut out)?;
+        write_parted(&proved, &second, "checks", "", &mut out)?;
     }
     out.flush()?;
     Ok(same)
+}
+
+/// A night's messages: the buffer, and the file that lists them.
+struct Night {
+    index: PathBuf,
+    entries: usize,
+    buffer: Vec<u8>,
+}
+
+impl Night {
+    /// The night whose buffer is in a file, with its index beside it.
+    fn read(file: &Path) -> Result<Self, Failure> {
+        let buffer = MessageFile::at(file)
+            .content()
+            .map_err(|why| Failure::NoBuffer(file.to_owned(), why))?;
+        let index = index_of(file);
+        let entries = read_index(&index)?.len();
+        Ok(Self {
+            index,
+            entries,
+            buffer,
+        })
+    }
+
+    /// Runs the buffer through both programs, and prints the answer of each entry.
+    /// True where both give the same.
+    fn run(&self, [night, second]: [&Path; 2]) -> Result<bool, Failure> {
+        let index = self.index.as_os_str();
+        let proved = Program::of_lines(night, &[index]).run(&self.buffer)?;
+        let second = Program::of_lines(second, &[OsStr::new("night"), index]).run(&self.buffer)?;
+        let mut out = BufWriter::new(io::stdout().lock());
+        let same = proved.is_same(&second);
+        if same {
+            for line in lines(&proved) {
+                writeln!(out, "{}", Text(line))?;
+            }
+        } else {
+            write_parted(&proved, &second, "answers", "", &mut out)?;
+        }
+        let found = if same { "the same" } else { "DIFFERENT" };
+        let (bytes, entries) = (self.buffer.len(), self.entries);
+        writeln!(out, "{bytes} bytes, {entries} entries: {found}")?;
+        out.flush()?;
+        Ok(same)
+    }
 }
 
 /// A proved program and the second one for the same kind of message.
@@ -210,6 +278,13 @@ impl Bench {
         }
         if !folder.passed_over.is_empty() {
             writeln!(out, "passed over: {}", folder.passed_over.join(", "))?;
+            if folder
+                .passed_over
+                .iter()
+                .any(|name| name.ends_with(".night"))
+            {
+                writeln!(out, "a night is run by itself, as make night FILE=file")?;
+            }
         }
         writeln!(out, "{counts}")?;
         out.flush()?;
@@ -277,7 +352,7 @@ impl Bench {
     fn explain(&self, message: &[u8], out: &mut impl Write) -> Result<bool, Failure> {
         let (proved, second) = self.explain.run(message)?;
         if !proved.is_same(&second) {
-            write_parted(&proved, &second, "    ", out)?;
+            write_parted(&proved, &second, "checks", "    ", out)?;
             return Ok(false);
         }
         let failed = lines(&proved).find(|line| is_failed_check(line));
@@ -304,22 +379,23 @@ fn is_failed_check(line: &[u8]) -> bool {
     words.next() == Some(b"check") && words.nth(1) == Some(b"failed")
 }
 
-/// Prints where two prints of checks part: the first line of each that the other
+/// Prints where two prints of `what` part: the first line of each that the other
 /// hasn't there, or the fault.
 fn write_parted(
     proved: &Answer,
     second: &Answer,
+    what: &str,
     indent: &str,
     out: &mut impl Write,
 ) -> io::Result<()> {
     if matches!((proved, second), (Answer::Printed(_), Answer::Printed(_))) {
         let alike = lines(proved).zip(lines(second)).take_while(|(a, b)| a == b);
         let at = alike.count();
-        writeln!(out, "{indent}DIFFERENT: the checks part at line {}", at + 1)?;
+        writeln!(out, "{indent}DIFFERENT: the {what} part at line {}", at + 1)?;
         for (name, answer) in [("proved", proved), ("second", second)] {
             match lines(answer).nth(at) {
                 Some(line) => writeln!(out, "{indent}{name}: {}", Text(line))?,
-                None => writeln!(out, "{indent}{name}: [no more checks]")?,
+                None => writeln!(out, "{indent}{name}: [no more {what}]")?,
             }
         }
         return Ok(());

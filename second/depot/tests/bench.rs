@@ -40,6 +40,11 @@ fn program(name: &str) -> PathBuf {
                 "echo check 1 held; echo check 2 failed field=0 offset=0 length=0 message=9",
             ),
             ("explains_less", "echo check 1 held"),
+            ("answers", "echo 0 8 NEGOTIATE taken; echo 1 entries"),
+            (
+                "answers_otherwise",
+                "echo 0 8 NEGOTIATE refused 2 field=0 at=0; echo 1 entries",
+            ),
             (
                 "holds_all",
                 "case \"$1\" in ntlm) echo refused 2 field=0 at=0 ;; *) echo check 1 held ;; esac",
@@ -71,7 +76,10 @@ fn fresh_folder(name: &str) -> PathBuf {
     path
 }
 
-fn folder_of(name: &str, files: &[(&str, &[u8])]) -> PathBuf {
+/// Names and contents.
+type Files<'a> = &'a [(&'a str, &'a [u8])];
+
+fn folder_of(name: &str, files: Files<'_>) -> PathBuf {
     let folder = fresh_folder(name);
     for (name, content) in files {
         fs::write(folder.join(name), content).expect("a file");
@@ -246,6 +254,89 @@ fn a_file_that_gives_no_message_is_one_plain_line() {
             assert!(err.starts_with(start), "{err}");
         }
     }
+}
+
+/// Runs a night: a folder with a buffer and its index.
+fn night(folder: &Path, night: &str, second: &str) -> (Option<i32>, String, String) {
+    let (night, second) = (program(night), program(second));
+    let file = folder.join("a.night");
+    told(&depot(&[Path::new("night"), &file, &night, &second]))
+}
+
+#[test]
+fn a_night_is_run_through_both_programs() {
+    let files: [(&str, &[u8]); 2] = [("a.night", b"NTLMSSP\0"), ("a.index", b"0 8 NEGOTIATE\n")];
+    let folder = folder_of("night", &files);
+    let looked = told(&depot(&[Path::new("look-night"), &folder.join("a.night")]));
+    assert_eq!(looked, (Some(0), String::new(), String::new()));
+    let (status, out, err) = night(&folder, "answers", "answers");
+    let answers = "0 8 NEGOTIATE taken\n1 entries\n";
+    assert_eq!(out, format!("{answers}8 bytes, 1 entries: the same\n"));
+    assert_eq!((status, err.as_str()), (Some(0), ""));
+    let (status, out, _) = night(&folder, "answers", "answers_otherwise");
+    assert_eq!(
+        out,
+        "DIFFERENT: the answers part at line 1\nproved: 0 8 NEGOTIATE taken\n\
+         second: 0 8 NEGOTIATE refused 2 field=0 at=0\n8 bytes, 1 entries: DIFFERENT\n"
+    );
+    assert_eq!(status, Some(1));
+    for (proved, second) in [("fails", "answers"), ("prints_nothing", "prints_nothing")] {
+        let (status, out, _) = night(&folder, proved, second);
+        assert!(out.starts_with("DIFFERENT: ") && out.ends_with(": DIFFERENT\n"));
+        assert_eq!(status, Some(1));
+    }
+}
+
+#[test]
+fn both_programs_are_given_the_buffer_and_the_index() {
+    // Raw, also where it could be text, and of any length.
+    let buffer = vec![b'A'; 70_000];
+    let folder = folder_of("night_given", &[("a.night", &buffer), ("a.index", b"")]);
+    let (status, out, _) = night(&folder, "counts", "counts");
+    assert_eq!(out, "70000\n70000 bytes, 0 entries: the same\n");
+    assert_eq!(status, Some(0));
+    let (_, out, _) = night(&folder, "says_its_word", "says_its_word");
+    let index = folder.join("a.index");
+    assert!(out.contains(&format!("proved: read as {}\n", index.display())));
+    assert!(out.contains("second: read as night\n"));
+}
+
+#[test]
+fn a_night_that_cannot_be_run_is_one_plain_line() {
+    let cases: [(&str, Files<'_>, &str); 4] = [
+        ("no_buffer", &[("a.index", b"")], "there is no file "),
+        ("no_index", &[("a.night", b"")], "the index "),
+        (
+            "bad_index",
+            &[("a.night", b""), ("a.index", b"\n")],
+            "line 1 of the index ",
+        ),
+        ("no_files", &[], "there is no file "),
+    ];
+    for (name, files, start) in cases {
+        let folder = folder_of(name, files);
+        let looked = told(&depot(&[Path::new("look-night"), &folder.join("a.night")]));
+        for (status, out, err) in [looked, night(&folder, "answers", "answers")] {
+            assert_eq!((status, out.as_str()), (Some(1), ""));
+            assert_eq!(err.lines().count(), 1, "{err}");
+            assert!(err.starts_with(start), "{err}");
+        }
+    }
+    let files: [(&str, &[u8]); 2] = [("a.night", b""), ("a.index", b"")];
+    let folder = folder_of("night_without_program", &files);
+    let (status, out, err) = night(&folder, "not_there", "answers");
+    assert_eq!((status, out.as_str()), (Some(1), ""));
+    assert!(err.contains("not_there can't be run: No such file"));
+}
+
+#[test]
+fn a_night_in_a_folder_is_passed_over_with_a_word() {
+    let files: [(&str, &[u8]); 3] = [("a.bin", P12), ("a.night", b"x"), ("a.index", b"")];
+    let folder = folder_of("with_night", &files);
+    let (status, out, _) = run(&folder, "takes", "takes", "takes");
+    let told = "passed over: a.index, a.night\na night is run by itself, as make night FILE=file\n";
+    assert!(out.contains(told), "{out}");
+    assert_eq!(status, Some(0));
 }
 
 #[test]
@@ -435,6 +526,9 @@ fn wrong_words_are_status_2() {
         &["read"],
         &["explain", "a", "b"],
         &["walk", "a"],
+        &["look-night"],
+        &["night", "a"],
+        &["night", "a", "b"],
     ] {
         let args: Vec<&Path> = args.iter().map(Path::new).collect();
         let (status, out, err) = told(&depot(&args));

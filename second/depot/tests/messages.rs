@@ -5,7 +5,7 @@ use std::path::Path;
 
 use depot::folder::Folder;
 use depot::form::Kind;
-use reader::{Program, LINE_LIMIT};
+use reader::{check_messages, Entry, Program, LINE_LIMIT};
 
 const MESSAGES: &str = concat!(env!("CARGO_MANIFEST_DIR"), "/../../messages");
 
@@ -49,4 +49,34 @@ fn each_file_stands_in_the_table_with_its_line() {
     told.sort();
     assert!(found.len() >= 12);
     assert_eq!(told, found);
+}
+
+/// The night's answers stand in the README as the second reader gives them.
+#[test]
+fn the_night_stands_there_with_its_answers() {
+    let file = Path::new(MESSAGES).join("two-boxes.night");
+    let buffer = fs::read(&file).expect("a buffer");
+    let mut out = Vec::new();
+    let check = |buffer: &[u8], places: &[night::Place]| {
+        let entry = |place: &night::Place| Entry::new(place.start, place.length, place.mark as u32);
+        let mut entries: Vec<Entry> = places.iter().map(entry).collect();
+        check_messages(buffer, &mut entries).expect("a night");
+        let answer = |entry: &Entry| {
+            (entry.number > 0).then_some(night::Refused {
+                number: entry.number,
+                field: entry.field,
+                place: entry.place,
+            })
+        };
+        Ok(entries.iter().map(answer).collect())
+    };
+    let index = night::index_of(&file);
+    night::run(&index, &mut buffer.as_slice(), &mut out, check).expect("a night");
+    let answers = String::from_utf8(out).expect("text");
+    let readme = fs::read_to_string(Path::new(MESSAGES).join("README.md")).expect("a README");
+    let indented: String = answers
+        .lines()
+        .map(|line| format!("    {line}\n"))
+        .collect();
+    assert!(readme.contains(&indented), "{indented}");
 }

@@ -1,7 +1,8 @@
 //! NTLM and NL_AUTH messages by the rules of document 01, with those of
 //! document 02 that have landed: reading NEGOTIATE, CHALLENGE, AUTHENTICATE,
 //! NL_AUTH and TargetInfo, the log line of each message, why one is refused,
-//! answering a challenge, and writing NEGOTIATE, AUTHENTICATE, NL_AUTH and the pair list of an answer.
+//! answering a challenge, and writing NEGOTIATE, AUTHENTICATE, NL_AUTH and the pair list of an answer;
+//! and a night's messages in one call.
 //!
 //! Reading borrows from the message and allocates nothing. Every call ends
 //! for any input, takes time linear in what it is lent, and does not panic.
@@ -26,6 +27,7 @@ mod kind;
 mod layout;
 mod line;
 mod negotiate;
+mod night;
 mod nl_auth;
 mod nl_auth_name;
 mod output;
@@ -48,6 +50,7 @@ pub use explain::explain;
 pub use flags::{CharacterSet, NegotiateFlags, NlAuthFlags};
 pub use line::{authenticate_line, challenge_line, negotiate_line, nl_auth_line, ntlm_line};
 pub use negotiate::Negotiate;
+pub use night::{check_messages, Entry};
 pub use nl_auth::{NlAuth, NlAuthString, NlAuthType};
 pub use nl_auth_name::nl_auth_name;
 pub use program::{Program, LINE_LIMIT};

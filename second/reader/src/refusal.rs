@@ -65,6 +65,8 @@ pub enum Reason {
     TooManyJumps = 52,
     /// "over 255"
     NameTooLong = 53,
+    /// "start plus length passes the buffer's end"
+    PlaceOutside = 54,
 }
 
 impl Reason {

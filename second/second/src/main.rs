@@ -1,5 +1,5 @@
 //! Reads NTLM or NL_AUTH messages from standard input and prints the log line
-//! of each, or why an NTLM message is refused.
+//! of each, or why an NTLM message is refused; or checks a night's messages.
 
 #![forbid(unsafe_code)]
 
@@ -9,11 +9,14 @@ use std::env;
 use std::ffi::OsString;
 use std::fmt;
 use std::io::{self, BufRead, BufReader, BufWriter, Read, Write};
+use std::path::{Path, PathBuf};
 use std::process::ExitCode;
 
-use reader::{Program, LINE_LIMIT, MAX_MESSAGE};
+use night::{Answers, NoNight, Place, Refused};
+use reader::{check_messages, Entry, Program, Refusal, LINE_LIMIT, MAX_MESSAGE};
 
-const USAGE: &str = "usage: second [batch] ntlm | second [batch] nl | second [batch] explain";
+const USAGE: &str =
+    "usage: second [batch] ntlm | second [batch] nl | second [batch] explain | second night INDEX";
 
 /// How many bytes of input and output a batch holds at a time.
 const BATCH_BUFFER: usize = 1 << 18;
@@ -26,6 +29,7 @@ fn main() -> ExitCode {
     let done = match command {
         Command::One(program) => print_one(program),
         Command::Batch(program) => print_batch(program),
+        Command::Night(index) => print_night(&index),
     };
     match done {
         Ok(()) => ExitCode::SUCCESS,
@@ -43,6 +47,7 @@ fn fail(status: u8, message: &dyn fmt::Display) -> ExitCode {
 enum Command {
     One(Program),
     Batch(Program),
+    Night(PathBuf),
 }
 
 impl Command {
@@ -50,6 +55,7 @@ impl Command {
         match args {
             [program] => Some(Self::One(parse_program(program)?)),
             [batch, program] if batch == "batch" => Some(Self::Batch(parse_program(program)?)),
+            [night, index] if night == "night" => Some(Self::Night(PathBuf::from(index))),
             _ => None,
         }
     }
@@ -67,6 +73,7 @@ fn parse_program(name: &OsString) -> Option<Program> {
 enum Failure {
     Io(io::Error),
     NotHex { line: usize },
+    Night(NoNight),
 }
 
 impl From<io::Error> for Failure {
@@ -80,6 +87,7 @@ impl fmt::Display for Failure {
         match self {
             Self::Io(error) => write!(f, "second: {error}"),
             Self::NotHex { line } => write!(f, "second: line {line} is not a message in hex"),
+            Self::Night(why) => write!(f, "second: {why}"),
         }
     }
 }
@@ -125,4 +133,34 @@ fn print_batch(program: Program) -> Result<(), Failure> {
 fn without_line_end(line: &[u8]) -> &[u8] {
     let line = line.strip_suffix(b"\n").unwrap_or(line);
     line.strip_suffix(b"\r").unwrap_or(line)
+}
+
+/// Takes standard input as a night's buffer, whose index is in a file.
+fn print_night(index: &Path) -> Result<(), Failure> {
+    let mut output = BufWriter::new(io::stdout().lock());
+    let input = &mut io::stdin().lock();
+    night::run(index, input, &mut output, check).map_err(Failure::Night)
+}
+
+fn check(buffer: &[u8], places: &[Place]) -> Answers {
+    let entry = |place: &Place| Entry::new(place.start, place.length, place.mark as u32);
+    let mut entries: Vec<Entry> = places.iter().map(entry).collect();
+    check_messages(buffer, &mut entries).map_err(refused)?;
+    let answer = |entry: &Entry| {
+        (entry.number != 0).then_some(Refused {
+            number: entry.number,
+            field: entry.field,
+            place: entry.place,
+        })
+    };
+    Ok(entries.iter().map(answer).collect())
+}
+
+/// The refusal of a whole night, which is none of a pair.
+fn refused(refusal: Refusal) -> Refused {
+    Refused {
+        number: u32::from(refusal.number()),
+        field: u32::from(refusal.field),
+        place: 0,
+    }
 }

@@ -162,9 +162,58 @@ fn a_line_that_is_not_hex_ends_the_batch() {
     }
 }
 
+/// A file of this name with this content.
+fn index(name: &str, content: &str) -> String {
+    let path = std::path::Path::new(env!("CARGO_TARGET_TMPDIR")).join(name);
+    std::fs::write(&path, content).expect("a file");
+    path.to_str().expect("a name").to_owned()
+}
+
+#[test]
+fn night_prints_the_answer_of_each_entry() {
+    let message = bytes(P1_HEX);
+    let twice = [message.clone(), message].concat();
+    let listed = "120 120 AUTHENTICATE\n0 119 AUTHENTICATE\n0 120 CHALLENGE\n1 240 NEGOTIATE\n";
+    let index = index("night.index", listed);
+    assert_eq!(
+        printed(&["night", &index], &twice),
+        "120 120 AUTHENTICATE taken\n\
+         0 119 AUTHENTICATE refused 6 field=2 at=0\n\
+         0 120 CHALLENGE refused 4 field=0 at=0\n\
+         1 240 NEGOTIATE refused 54 field=0 at=0\n\
+         4 entries: 1 taken, 3 refused\n"
+    );
+    for more in [65_536, 5_000_000] {
+        let long = vec![0; more];
+        let refused = "refused 1 field=0 at=0\n";
+        assert_eq!(printed(&["night", &index], &long), refused);
+    }
+}
+
+#[test]
+fn night_of_an_empty_index() {
+    let index = index("empty.index", "");
+    let none = "0 entries: 0 taken, 0 refused\n";
+    assert_eq!(printed(&["night", &index], b""), none);
+    assert_eq!(printed(&["night", &index], &[0; 65_535]), none);
+}
+
+#[test]
+fn night_without_an_index_is_one_plain_line() {
+    let bad = index("bad.index", "0 120 AUTHENTICATE\n0 secret\n");
+    for index in ["/no/such.index", &bad] {
+        let output = run(&["night", index], b"secret");
+        assert_eq!(output.status.code(), Some(1));
+        assert!(output.stdout.is_empty());
+        let error = String::from_utf8(output.stderr).expect("ASCII");
+        assert_eq!(error.lines().count(), 1);
+        assert!(error.starts_with("second: ") && !error.contains("secret"));
+    }
+}
+
 #[test]
 fn wrong_arguments() {
-    let cases: [&[&str]; 9] = [
+    let cases: [&[&str]; 11] = [
         &[],
         &["other"],
         &["batch"],
@@ -174,6 +223,8 @@ fn wrong_arguments() {
         &["batch", "ntlm", "nl"],
         &["NTLM"],
         &["explain", "ntlm"],
+        &["night"],
+        &["night", "a", "b"],
     ];
     for args in cases {
         let output = run(args, b"");

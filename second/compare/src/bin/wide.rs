@@ -7,6 +7,7 @@ use std::process::ExitCode;
 
 use compare::command::{fail, finish, seed_and_count, NOT_NUMBERS};
 use compare::wide::call::{Call, Line, Parts, Respond, Thin};
+use compare::wide::night::WORDS;
 use compare::wide::run;
 use depot::folder::Folder;
 use dialtable::raw;
@@ -69,6 +70,7 @@ fn library(call: &Call<'_>, out: &mut [u8], numbers: &mut [u64]) -> u64 {
             Line::NlAuthProgram => raw::nl_auth_program_line(message, out),
             Line::Explain => raw::explain(message, out),
         },
+        Call::CheckMessages { buffer, .. } => raw::check_messages(buffer, as_entries(numbers)),
         Call::WriteAuthenticate { flags, ref parts } => {
             raw::write_authenticate(out, flags, &lent(parts))
         }
@@ -120,6 +122,17 @@ fn library(call: &Call<'_>, out: &mut [u8], numbers: &mut [u64]) -> u64 {
             }
         }
     }
+}
+
+/// The same memory as the header's entries, which lie in it as `night` says.
+fn as_entries(numbers: &mut [u64]) -> &mut [raw::Entry] {
+    const {
+        assert!(cfg!(target_endian = "little"));
+        assert!(size_of::<raw::Entry>() == WORDS * size_of::<u64>());
+        assert!(align_of::<raw::Entry>() == align_of::<u64>());
+    }
+    // An entry is numbers alone, of the same alignment and of four times the size.
+    unsafe { std::slice::from_raw_parts_mut(numbers.as_mut_ptr().cast(), numbers.len() / WORDS) }
 }
 
 const fn lent<'a>(parts: &Parts<'a>) -> raw::Parts<'a> {

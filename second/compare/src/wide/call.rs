@@ -4,6 +4,7 @@ use std::fmt::{self, Write};
 
 use reader::{Account, NegotiateParts, Secrets};
 
+use super::night::{Place, WORDS};
 use crate::hex::Hex;
 
 /// What an AUTHENTICATE message is written from, beside its flags.
@@ -147,6 +148,10 @@ pub enum Call<'a> {
         line: Line,
         message: &'a [u8],
     },
+    CheckMessages {
+        buffer: &'a [u8],
+        places: &'a [Place],
+    },
     WriteAuthenticate {
         flags: u32,
         parts: Parts<'a>,
@@ -183,7 +188,7 @@ pub enum Call<'a> {
 
 /// The names of the calls, without `dialtable_`, by [`Call::index`]; those of
 /// `crates/thin_calls` last.
-pub const NAMES: [&str; 34] = [
+pub const NAMES: [&str; 35] = [
     "read_authenticate",
     "read_challenge",
     "read_timestamp",
@@ -204,6 +209,7 @@ pub const NAMES: [&str; 34] = [
     "ntlm_program_line",
     "nl_auth_program_line",
     "explain",
+    "check_messages",
     "write_authenticate",
     "write_negotiate",
     "write_nl_auth_request",
@@ -255,6 +261,7 @@ impl Call<'_> {
             Self::FindPair { .. } => const { place_of("find_pair") },
             Self::NextPair { .. } => const { place_of("next_pair") },
             Self::Line { line, .. } => line.index(),
+            Self::CheckMessages { .. } => const { place_of("check_messages") },
             Self::WriteAuthenticate { .. } => const { place_of("write_authenticate") },
             Self::WriteNegotiate { .. } => const { place_of("write_negotiate") },
             Self::WriteNlAuthRequest { .. } => const { place_of("write_nl_auth_request") },
@@ -281,6 +288,8 @@ impl Call<'_> {
             Self::FindPair { .. } | Self::Decide { .. } => 3,
             Self::NextPair { .. } => 5,
             Self::Respond { .. } => 2,
+            // Its entries lie in them.
+            Self::CheckMessages { places, .. } => WORDS * places.len(),
             _ => 0,
         }
     }
@@ -323,6 +332,7 @@ impl Call<'_> {
             | Self::CountPairs { list }
             | Self::FindPair { list, .. }
             | Self::NextPair { list, .. } => vec![("list", list)],
+            Self::CheckMessages { buffer, .. } => vec![("buffer", buffer)],
             Self::WriteAuthenticate { parts, .. } => parts.inputs(),
             Self::WriteNegotiate { parts } => vec![
                 ("version", &parts.version),
@@ -359,6 +369,17 @@ impl Call<'_> {
             Self::FieldBytes { offset, len, .. } => format!(" offset={offset} len={len}"),
             Self::FindPair { id, .. } => format!(" id={id}"),
             Self::NextPair { at, .. } => format!(" at={at}"),
+            Self::CheckMessages { places, .. } => {
+                let shown = places.iter().map(|place| {
+                    let Place {
+                        start,
+                        length,
+                        mark,
+                    } = place;
+                    format!(" {start}+{length}:{mark:X}")
+                });
+                shown.collect()
+            }
             Self::WriteNegotiate { parts } => format!(" flags={:08X}", parts.flags.0),
             Self::WriteAuthenticate { flags, .. } | Self::WriteNlAuthRequest { flags, .. } => {
                 format!(" flags={flags:08X}")

@@ -2,6 +2,7 @@
 //! holds the answers and the whole memory against each other.
 
 use super::call::{place, refusal, Call};
+use super::night::{entries, lay_out, MOST_ENTRIES, WORDS};
 use super::second::second;
 use super::tally::Tally;
 use crate::hex::Hex;
@@ -22,8 +23,9 @@ const STIRRED: usize = 512;
 /// each escaped.
 const LONGEST: usize = 800_000;
 
-/// More numbers than any call gives, with some to spare.
-pub const MOST_NUMBERS: usize = 20;
+/// More numbers than any call gives, with some to spare. The entries of a night lie
+/// in them.
+pub const MOST_NUMBERS: usize = (MOST_ENTRIES + 2) * WORDS;
 
 /// Lent memory. What stands in it before a call is the same for both sides.
 struct Memory {
@@ -140,11 +142,16 @@ impl<L: Library> Holder<L> {
 
     /// Makes the call on both sides and notes every difference.
     pub fn hold(&mut self, call: &Call<'_>, lent: Lent) {
+        self.give_places(call);
         self.ours.fill(lent, &self.before);
         self.second.fill(lent, &self.before);
         let ours = self.ours.call(&self.library, call, lent);
         let second = self.second.call(second, call, lent);
         self.tally.add(call, second);
+        if let (Call::CheckMessages { .. }, None) = (call, refusal(second)) {
+            let listed = entries(&self.second.numbers[..lent.numbers]);
+            self.tally.add_entries(&listed);
+        }
         let (bytes, numbers) = match refusal(ours) {
             Some(_) => (0, 0),
             None => (call.written(ours), call.numbers()),
@@ -153,6 +160,13 @@ impl<L: Library> Holder<L> {
             self.differ(call, lent, "CHANGED MORE THAN IT WRITES", ours, second);
         } else if ours != second || !self.ours.same(&self.second, lent) {
             self.differ(call, lent, "DIFFERENT", ours, second);
+        }
+    }
+
+    /// What a night's entries are given stands in the memory that is lent.
+    fn give_places(&mut self, call: &Call<'_>) {
+        if let Call::CheckMessages { places, .. } = call {
+            lay_out(places, &mut self.before.numbers);
         }
     }
 
@@ -193,6 +207,7 @@ impl<L: Library> Holder<L> {
         lent: Lent,
         hidden: impl Fn(&[u8]) -> Vec<usize>,
     ) {
+        self.give_places(one);
         self.ours.fill(lent, &self.before);
         self.second.fill(lent, &self.before);
         let first = self.ours.call(&self.library, one, lent);

@@ -4,6 +4,7 @@
 pub mod call;
 pub mod hold;
 mod inputs;
+pub mod night;
 mod second;
 mod secret;
 mod tally;
@@ -23,7 +24,8 @@ use crate::wire::KEY_EXCH;
 use call::{Call, Line, Respond};
 use hold::{Holder, Lent, Library, MOST_NUMBERS};
 use inputs::Drawn;
-use secret::{changeable_places, secret_places};
+use night::{Night, Place};
+use secret::{changeable_in_night, changeable_places, secret_places};
 
 pub use second::second;
 pub use tally::Tally;
@@ -131,6 +133,7 @@ impl<L: Library> Run<L> {
         let list = inputs::list(&mut self.random, message);
         self.pairs(&list);
         self.lines(message);
+        self.nights(message);
         self.writing();
         let challenge = inputs::challenge(&mut self.random, message);
         self.answering(&challenge);
@@ -250,6 +253,49 @@ impl<L: Library> Run<L> {
             let lent = Lent { room, numbers: 0 };
             self.holder.hold(&Call::Line { line, message }, lent);
         }
+    }
+
+    /// The message as a night's buffer, then among others in one.
+    fn nights(&mut self, message: &[u8]) {
+        let places = night::boundaries(&mut self.random, message.len());
+        self.hold_night(message, &places);
+        let Night { mut buffer, places } = night::drawn(&mut self.random, message);
+        let len = buffer.len();
+        buffer.extend(self.random.array::<BEYOND>());
+        let before = buffer.clone();
+        self.hold_night(&buffer[..len], &places);
+        self.secrets_of_a_night(&buffer[..len], &places);
+        if black_box(&buffer) != &before {
+            self.holder.input_changed(&before[..len]);
+        }
+    }
+
+    /// The whole list, and none of it.
+    fn hold_night(&mut self, buffer: &[u8], places: &[Place]) {
+        for places in [places, &[]] {
+            let call = Call::CheckMessages { buffer, places };
+            let (room, numbers) = (0, call.numbers());
+            self.holder.hold(&call, Lent { room, numbers });
+        }
+    }
+
+    /// Demand 3 as request 8/12 puts it: two buffers that differ only in secrets
+    /// get equal answers for equal lists.
+    fn secrets_of_a_night(&mut self, buffer: &[u8], places: &[Place]) {
+        let mut other = buffer.to_vec();
+        for at in changeable_in_night(buffer, places) {
+            other[at] = self.random.byte();
+        }
+        if other == buffer {
+            return;
+        }
+        let calls = [buffer, &other].map(|buffer| Call::CheckMessages { buffer, places });
+        let lent = Lent {
+            room: 0,
+            numbers: calls[0].numbers(),
+        };
+        self.holder
+            .hold_alike(&calls[0], &calls[1], lent, |_| Vec::new());
     }
 
     fn writing(&mut self) {

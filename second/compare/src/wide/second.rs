@@ -2,14 +2,15 @@
 
 use reader::{
     answer, answer_for_bench, answer_for_old_servers, answer_for_relay, authenticate_line,
-    challenge_line, domain_to_send, explain, field_bytes, negotiate_line, nl_auth_line,
-    nl_auth_name, ntlm_line, write_authenticate, write_negotiate, write_nl_auth_request,
-    write_nl_auth_response, write_response_pairs, Answer, Authenticate, AuthenticateParts, AvId,
-    Challenge, Field, Negotiate, NegotiateFlags, NlAuth, NlAuthFlags, Policy, Program, Reason,
-    Refusal, ResponsePairs, Settings, TargetInfo,
+    challenge_line, check_messages, domain_to_send, explain, field_bytes, negotiate_line,
+    nl_auth_line, nl_auth_name, ntlm_line, write_authenticate, write_negotiate,
+    write_nl_auth_request, write_nl_auth_response, write_response_pairs, Answer, Authenticate,
+    AuthenticateParts, AvId, Challenge, Field, Negotiate, NegotiateFlags, NlAuth, NlAuthFlags,
+    Policy, Program, Reason, Refusal, ResponsePairs, Settings, TargetInfo,
 };
 
 use super::call::{refused_at, Call, Line, Parts, Respond, Thin};
+use super::night::{entries, put_entries};
 
 /// Makes a call: `out` and `numbers` are what is lent for its outputs.
 pub fn second(call: &Call<'_>, out: &mut [u8], numbers: &mut [u64]) -> u64 {
@@ -43,6 +44,7 @@ fn call_of(call: &Call<'_>, out: &mut [u8], numbers: &mut [u64]) -> Result<usize
         Call::FindPair { list, id } => find_pair(list, id, numbers),
         Call::NextPair { list, at } => next_pair(list, at, numbers),
         Call::Line { line, message } => put_line(line, message, out),
+        Call::CheckMessages { buffer, .. } => check_night(buffer, numbers),
         Call::WriteAuthenticate { flags, parts } => {
             let flags = NegotiateFlags(flags);
             let parts = AuthenticateParts::new(flags, &parts.account, &parts.secrets);
@@ -178,6 +180,13 @@ fn put_line(line: Line, message: &[u8], out: &mut [u8]) -> Result<usize, Refusal
         Line::NlAuthProgram => Program::NlAuth.write_line(message, out),
         Line::Explain => explain(message, out),
     }
+}
+
+fn check_night(buffer: &[u8], numbers: &mut [u64]) -> Result<usize, Refusal> {
+    let mut listed = entries(numbers);
+    check_messages(buffer, &mut listed)?;
+    put_entries(&listed, numbers);
+    Ok(0)
 }
 
 fn decide(settings: u32, challenge: &[u8], numbers: &mut [u64]) -> Result<usize, Refusal> {

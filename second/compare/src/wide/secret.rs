@@ -1,7 +1,11 @@
 //! Which bytes of an AUTHENTICATE message are secret, by document 01's rule for
-//! demand 3, worked out here from the heads alone.
+//! demand 3, worked out here from the heads alone; and which bytes of a night may
+//! change, by request 8/12.
 
-use crate::wire::KEY_EXCH;
+use reader::Entry;
+
+use super::night::Place;
+use crate::wire::{KEY_EXCH, OEM_DOMAIN, OEM_WORKSTATION};
 
 /// "A message under 64 bytes has neither" fields nor a MIC.
 const FIXED: usize = 64;
@@ -12,17 +16,29 @@ const MIC: usize = 72;
 /// session key; the first, second and last are secrets.
 const HEADS: [usize; 6] = [12, 20, 28, 36, 44, 52];
 const SECRETS: [usize; 3] = [12, 20, 52];
+const NAMES: [usize; 3] = [28, 36, 44];
+
+/// Heads of a NEGOTIATE's names, each with the flag at 12 that it counts with, and
+/// its fixed part.
+const OPENING_NAMES: [(usize, u32); 2] = [(16, OEM_DOMAIN), (24, OEM_WORKSTATION)];
+const OPENING_FIXED: usize = 32;
+
+fn number(message: &[u8], at: usize, len: usize) -> usize {
+    let bytes = message[at..at + len].iter().rev();
+    bytes.fold(0, |number, &byte| number << 8 | usize::from(byte))
+}
 
 /// The offset and length of the field with this head, none where it doesn't
 /// count or is empty.
 fn field(message: &[u8], head: usize) -> Option<(usize, usize)> {
-    let number = |at: usize, len: usize| {
-        let bytes = message[at..at + len].iter().rev();
-        bytes.fold(0, |number, &byte| number << 8 | usize::from(byte))
-    };
-    let len = number(head, 2);
-    let counts = head != 52 || number(60, 4) & KEY_EXCH as usize != 0;
-    (counts && len > 0).then(|| (number(head + 4, 4), len))
+    let counts = head != 52 || number(message, 60, 4) & KEY_EXCH as usize != 0;
+    counts.then(|| counted(message, head)).flatten()
+}
+
+/// The same of a field that counts.
+fn counted(message: &[u8], head: usize) -> Option<(usize, usize)> {
+    let len = number(message, head, 2);
+    (len > 0).then(|| (number(message, head + 4, 4), len))
 }
 
 /// "Those from its offset on, Len of them, as far as the message reaches", of
@@ -53,9 +69,63 @@ pub fn changeable_places(message: &[u8]) -> Vec<usize> {
     places
 }
 
+/// The places of the names of a message that is read by this mark, as far as it
+/// reaches.
+fn name_places(message: &[u8], mark: u32) -> Vec<usize> {
+    let names: Vec<(usize, usize)> = match mark {
+        Entry::AUTHENTICATE if message.len() >= FIXED => {
+            let names = NAMES.iter();
+            names.filter_map(|&head| counted(message, head)).collect()
+        }
+        Entry::NEGOTIATE if message.len() >= OPENING_FIXED => {
+            let flags = number(message, 12, 4);
+            let counting = OPENING_NAMES.iter();
+            let counting = counting.filter(|(_, flag)| flags & *flag as usize != 0);
+            let names = counting.filter_map(|&(head, _)| counted(message, head));
+            names.collect()
+        }
+        _ => Vec::new(),
+    };
+    let end = message.len();
+    let places = names.into_iter();
+    let places = places.flat_map(|(offset, len)| offset.min(end)..(offset + len).min(end));
+    places.collect()
+}
+
+/// The places that two nights' buffers may differ in: "only inside the secrets that
+/// count, or a MIC that is there, of listed AUTHENTICATE messages, and in no byte
+/// that any listed message has as a name, in its first 64 bytes or in a challenge".
+pub fn changeable_in_night(buffer: &[u8], places: &[Place]) -> Vec<usize> {
+    let mut secret = vec![false; buffer.len()];
+    let mut kept = vec![false; buffer.len()];
+    for place in places {
+        let Some(message) = place.message(buffer) else {
+            continue;
+        };
+        let start = buffer.len().min(place.start as usize);
+        if place.mark == Entry::AUTHENTICATE {
+            for at in secret_places(message) {
+                secret[start + at] = true;
+            }
+        }
+        for at in name_places(message, place.mark) {
+            kept[start + at] = true;
+        }
+        let first = if place.mark == Entry::CHALLENGE {
+            message.len()
+        } else {
+            message.len().min(FIXED)
+        };
+        kept[start..start + first].fill(true);
+    }
+    (0..buffer.len())
+        .filter(|&at| secret[at] && !kept[at])
+        .collect()
+}
+
 #[cfg(test)]
 mod tests {
-    use super::{changeable_places, secret_places};
+    use super::{changeable_in_night, changeable_places, secret_places, Place};
 
     fn message(len: usize, heads: &[(usize, u16, u32)], flags: u32) -> Vec<u8> {
         let mut message = vec![0; len];
@@ -88,5 +158,51 @@ mod tests {
         assert_eq!(secret_places(&low), [60, 61, 62, 63, 64, 65, 66, 67]);
         assert_eq!(changeable_places(&low), [64, 65, 66, 67]);
         assert!(secret_places(&low[..63]).is_empty());
+    }
+
+    #[test]
+    fn a_night_keeps_what_any_listed_message_has_in_the_open() {
+        // LM response at 90 to 92, a name at 93 and 94; no MIC with a name there.
+        let lm = message(100, &[(12, 3, 90), (28, 2, 93), (20, 2, 70)], 0);
+        let buffer = [lm.clone(), vec![0; 100]].concat();
+        let whole = Place::new(0, 100, 3);
+        let of = |others: &[Place]| {
+            let places = [&[whole], others].concat();
+            changeable_in_night(&buffer, &places)
+        };
+        assert_eq!(of(&[]), [70, 71, 90, 91, 92]);
+        assert_eq!(of(&[whole]), [70, 71, 90, 91, 92]);
+        // The first 64 bytes of another message, all of a challenge; nothing of one
+        // that passes the buffer's end.
+        assert_eq!(of(&[Place::new(91, 70, 3)]), [70, 71, 90]);
+        assert_eq!(of(&[Place::new(91, 70, 9)]), [70, 71, 90]);
+        assert_eq!(of(&[Place::new(71, 1, 2)]), [70, 90, 91, 92]);
+        assert_eq!(of(&[Place::new(0, 91, 2)]), [91, 92]);
+        assert_eq!(of(&[Place::new(71, 130, 2)]), [70, 71, 90, 91, 92]);
+        // By a mark that is no AUTHENTICATE's nothing is secret.
+        assert!(changeable_in_night(&buffer, &[Place::new(0, 100, 1)]).is_empty());
+    }
+
+    #[test]
+    fn a_name_of_any_listed_message_is_kept() {
+        let secret = message(100, &[(12, 20, 80)], 0);
+        // A message in the same buffer whose name lies over the secret.
+        let named = message(164, &[(36, 2, 150)], 0);
+        let mut opening = vec![0; 160];
+        opening[12..16].copy_from_slice(&0x1000_u32.to_le_bytes());
+        opening[16..18].copy_from_slice(&3_u16.to_le_bytes());
+        opening[20..24].copy_from_slice(&155_u32.to_le_bytes());
+        for (before, mark, kept) in [(named, 3, 86..88), (opening, 1, 91..94)] {
+            // The other message begins 64 bytes before the one with the secret.
+            let mut buffer = before;
+            let start = 64;
+            buffer.resize(start, 0);
+            buffer.extend(&secret);
+            let places = [Place::new(start, 100, 3), Place::new(0, buffer.len(), mark)];
+            let found = changeable_in_night(&buffer, &places);
+            let expected: Vec<usize> = (80..100).filter(|at| !kept.contains(at)).collect();
+            let found: Vec<usize> = found.iter().map(|at| at - start).collect();
+            assert_eq!(found, expected);
+        }
     }
 }

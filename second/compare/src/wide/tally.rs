@@ -2,23 +2,34 @@
 
 use std::fmt;
 
+use reader::Entry;
+
 use super::call::{place, refusal, Call, FARTHEST, NAMES};
 use crate::tally::{each_refusal, Columns, Refusals, REFUSALS};
 
-/// Each refusal that only answering and writing can give, with every field that
-/// it can have.
-const OF_WRITING: [Refusals; 6] = [
+/// Each refusal that only answering, writing and a night can give, with every field
+/// that it can have.
+const OF_WRITING: [Refusals; 7] = [
     (20, &[0]),
     (21, &[0]),
     (30, &[0]),
     (31, &[2, 3, 4, 5]),
     (32, &[6]),
     (34, &[1, 2, 3, 4, 5]),
+    (54, &[0]),
+];
+
+/// What the entries of a night are called, by their marks: 1 to 3, and any other.
+const ENTRIES: [&str; 4] = [
+    "entry_negotiate",
+    "entry_challenge",
+    "entry_authenticate",
+    "entry_other_mark",
 ];
 
 /// Numbers, their fields and the readings and writings that can refuse by them:
 /// each must have done so itself, since kinds of message share numbers.
-const OF_CALLS: [(&[u8], &[u8], &[&str]); 22] = [
+const OF_CALLS: [(&[u8], &[u8], &[&str]); 30] = [
     (
         &[1, 2, 4, 33],
         &[0],
@@ -48,7 +59,11 @@ const OF_CALLS: [(&[u8], &[u8], &[&str]); 22] = [
         &["read_challenge", "read_negotiate", "write_response_pairs"],
     ),
     (&[8, 9], &[3, 4, 5], &["read_authenticate"]),
-    (&[8], &[1], &["read_challenge", "write_response_pairs"]),
+    (
+        &[8],
+        &[1],
+        &["read_challenge", "write_response_pairs", "entry_challenge"],
+    ),
     (
         &[10, 11, 12, 13],
         &[2],
@@ -102,6 +117,22 @@ const OF_CALLS: [(&[u8], &[u8], &[&str]); 22] = [
         ],
     ),
     (&[33], &[0], &["explain"]),
+    (&[1], &[0], &["check_messages"]),
+    (
+        &[2, 3, 4, 5],
+        &[0],
+        &["entry_negotiate", "entry_challenge", "entry_authenticate"],
+    ),
+    (
+        &[6, 7],
+        &[1, 2],
+        &["entry_negotiate", "entry_challenge", "entry_authenticate"],
+    ),
+    (&[6, 7], &[3, 4, 5, 6], &["entry_authenticate"]),
+    (&[8, 9], &[3, 4, 5], &["entry_authenticate"]),
+    (&[10, 11, 12, 13], &[2], &["entry_challenge"]),
+    (&[4], &[0], &["entry_other_mark"]),
+    (&[54], &[0], &ENTRIES),
 ];
 
 /// What a kind of place is called, and whether a place is of it.
@@ -137,17 +168,19 @@ const OF_PLACES: [(&[usize], &[&str]); 3] = [
             "respond_for_bench",
             "respond_to_old_server",
             "respond_for_relay",
+            "entry_challenge",
         ],
     ),
 ];
 
 /// The calls that are given two inputs which only secrets tell apart.
-const WITH_SECRETS: [&str; 12] = [
+const WITH_SECRETS: [&str; 13] = [
     "read_authenticate",
     "authenticate_line",
     "ntlm_line",
     "ntlm_program_line",
     "explain",
+    "check_messages",
     "respond",
     "respond_for_bench",
     "respond_to_old_server",
@@ -171,7 +204,7 @@ fn refusals() -> Vec<Refusals> {
 }
 
 /// One more than the highest number, and than the highest field.
-const NUMBERS: usize = 54;
+const NUMBERS: usize = 55;
 const FIELDS: usize = 7;
 
 /// The counts of one call.
@@ -190,6 +223,8 @@ struct Row {
 #[derive(Clone, Debug)]
 pub struct Tally {
     rows: [Row; NAMES.len()],
+    /// By [`ENTRIES`].
+    entries: [Row; ENTRIES.len()],
 }
 
 impl Default for Tally {
@@ -202,6 +237,7 @@ impl Default for Tally {
         };
         Self {
             rows: [row; NAMES.len()],
+            entries: [row; ENTRIES.len()],
         }
     }
 }
@@ -220,6 +256,25 @@ impl Tally {
         }
     }
 
+    /// The answers of a night's entries.
+    pub fn add_entries(&mut self, entries: &[Entry]) {
+        for entry in entries {
+            let row = match entry.mark {
+                mark @ 1..=3 => &mut self.entries[mark as usize - 1],
+                _ => &mut self.entries[ENTRIES.len() - 1],
+            };
+            match entry.number {
+                0 => row.answered += 1,
+                number => {
+                    row.refused[number as usize][entry.field as usize] += 1;
+                    if matches!(number, 10..=13) {
+                        row.add_place(u64::from(entry.place));
+                    }
+                }
+            }
+        }
+    }
+
     pub const fn add_alike(&mut self, call: &Call<'_>) {
         self.rows[call.index()].alike += 1;
     }
@@ -229,14 +284,16 @@ impl Tally {
         self.rows.iter().map(Row::all).sum()
     }
 
-    /// The calls with their rows.
+    /// The calls with their rows, and the entries with theirs.
     fn named(&self) -> impl Iterator<Item = (&'static str, &Row)> {
-        NAMES.into_iter().zip(&self.rows)
+        let calls = NAMES.into_iter().zip(&self.rows);
+        calls.chain(ENTRIES.into_iter().zip(&self.entries))
     }
 
     /// How often any call refused by this number with this field.
     fn refused(&self, number: u8, field: u8) -> u64 {
-        self.rows.iter().map(|row| row.at(number, field)).sum()
+        let rows = self.rows.iter().chain(&self.entries);
+        rows.map(|row| row.at(number, field)).sum()
     }
 
     /// What no case has reached: calls that were never answered, refusals and
@@ -245,7 +302,8 @@ impl Tally {
     pub fn not_reached(&self) -> Vec<String> {
         let mut missing = Vec::new();
         for (name, row) in self.named() {
-            if row.answered == 0 {
+            // No message is taken by a mark that is none.
+            if row.answered == 0 && name != "entry_other_mark" {
                 missing.push(format!("{name} answers"));
             }
             if row.alike == 0 && WITH_SECRETS.contains(&name) {
@@ -339,14 +397,15 @@ impl fmt::Display for Tally {
 #[cfg(test)]
 mod tests {
     use super::super::call::{refused, refused_at};
-    use super::{Call, Tally, NAMES, OF_CALLS, OF_PLACES, WITH_SECRETS};
+    use super::{Call, Entry, Tally, ENTRIES, NAMES, OF_CALLS, OF_PLACES, WITH_SECRETS};
 
     #[test]
     fn the_tables_name_calls_that_are_there() {
         let calls = OF_CALLS.iter().flat_map(|(_, _, calls)| calls.iter());
         let places = OF_PLACES.iter().flat_map(|(_, calls)| calls.iter());
         for name in calls.chain(places).chain(&WITH_SECRETS) {
-            assert!(NAMES.contains(name), "{name}");
+            let there = NAMES.contains(name) || ENTRIES.contains(name);
+            assert!(there, "{name}");
         }
     }
 
@@ -383,5 +442,38 @@ mod tests {
         assert!(!is_missing("next_pair refused a pair too far to be shown"));
         assert!(is_missing("decide refused a pair past 255"));
         assert!(!is_missing("read_challenge refused a pair at 0"));
+    }
+
+    #[test]
+    fn an_entry_is_reached_by_its_mark() {
+        let mut tally = Tally::default();
+        let answer = |mark, number, field, place| Entry {
+            number,
+            field,
+            place,
+            ..Entry::new(0, 0, mark)
+        };
+        let entries = [
+            answer(1, 0, 0, 0),
+            answer(2, 13, 2, 301),
+            answer(3, 9, 4, 0),
+            answer(7, 4, 0, 0),
+        ];
+        tally.add_entries(&entries);
+        assert_eq!(tally.calls(), 0);
+        let missing = tally.not_reached();
+        let is_missing = |what: &str| missing.iter().any(|missed| missed == what);
+        assert!(!is_missing("entry_negotiate answers"));
+        assert!(is_missing("entry_challenge answers"));
+        assert!(!is_missing("entry_challenge refused 13 field=2"));
+        assert!(!is_missing("entry_challenge refused a pair past 255"));
+        assert!(is_missing(
+            "entry_challenge refused a pair at an even place"
+        ));
+        assert!(!is_missing("entry_authenticate refused 9 field=4"));
+        assert!(!is_missing("entry_other_mark refused 4 field=0"));
+        assert!(is_missing("entry_other_mark refused 54 field=0"));
+        assert!(!is_missing("entry_other_mark answers"));
+        assert!(is_missing("check_messages refused 1 field=0"));
     }
 }

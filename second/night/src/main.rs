@@ -1,0 +1,54 @@
+//! Checks a night's messages by one call of the proved library: the buffer from
+//! standard input, the index from a file.
+
+use std::env;
+use std::ffi::OsString;
+use std::io::{self, BufWriter, Write};
+use std::path::Path;
+use std::process::ExitCode;
+
+use dialtable::{check_messages, Entry, Mark, Refusal};
+use night::{Answers, Place, Refused};
+
+fn main() -> ExitCode {
+    let args: Vec<OsString> = env::args_os().skip(1).collect();
+    let [index] = args.as_slice() else {
+        return fail(2, "usage: night INDEX, with the buffer on standard input");
+    };
+    let mut out = BufWriter::new(io::stdout().lock());
+    match night::run(Path::new(index), &mut io::stdin().lock(), &mut out, check) {
+        Ok(()) => ExitCode::SUCCESS,
+        Err(failure) => fail(1, &failure.to_string()),
+    }
+}
+
+/// One plain line on standard error. It never holds any of a message.
+fn fail(status: u8, message: &str) -> ExitCode {
+    // Where standard error is closed, the status still tells.
+    let _ = writeln!(io::stderr(), "{message}");
+    ExitCode::from(status)
+}
+
+fn check(buffer: &[u8], places: &[Place]) -> Answers {
+    let entry = |place: &Place| {
+        let mark = match place.mark {
+            night::Mark::Negotiate => Mark::Negotiate,
+            night::Mark::Challenge => Mark::Challenge,
+            night::Mark::Authenticate => Mark::Authenticate,
+        };
+        Entry::new(place.start, place.length, mark)
+    };
+    let mut entries: Vec<Entry> = places.iter().map(entry).collect();
+    check_messages(buffer, &mut entries).map_err(refused)?;
+    let answers = entries.iter().map(|entry| entry.answer().err());
+    Ok(answers.map(|answer| answer.map(refused)).collect())
+}
+
+fn refused(refusal: Refusal) -> Refused {
+    Refused {
+        number: u32::from(refusal.number()),
+        field: u32::from(refusal.field),
+        // A message's place is below 65,536.
+        place: u32::try_from(refusal.place).unwrap_or(u32::MAX),
+    }
+}
