@@ -268,12 +268,13 @@ fn record_fits(f: Field, msg: &[u8]) -> Checked
 
 // Copies a field's own bytes; a record that doesn't fit this message is no field of it.
 pub fn field_bytes(msg: &[u8], offset: u32, len: u16, out: &mut [u8]) -> u64
-    ensures answer { λ r. ⌜ r ≡ writtenNumber (fieldCopyAnswer (now (msg .entry)) (record { offset = offset; len = len }) (now (out .entry))) ⌝ }
-    ensures content { λ _. ⌜ now (out .exit) ≡ fieldCopyOut (now (msg .entry)) (record { offset = offset; len = len }) (now (out .entry)) ⌝ }
+    ensures answer { λ r. ⌜ r ≡ writtenNumber (fieldCopyAnswer (now (msg .entry)) (record { offset = offset; len = len; «max_len» = 0 }) (now (out .entry))) ⌝ }
+    ensures content { λ _. ⌜ now (out .exit) ≡ fieldCopyOut (now (msg .entry)) (record { offset = offset; len = len; «max_len» = 0 }) (now (out .entry)) ⌝ }
 {
     let f = Field {
         offset: offset,
         len: len,
+        max_len: 0,
     };
     let Checked::Held = record_fits(f, msg) else {
         return refusal_number(Refusal::PastEnd(0));

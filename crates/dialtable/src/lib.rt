@@ -354,8 +354,8 @@ pub extern "C" fn dialtable_check_pairs(list: &[u8]) -> u64
 
 #[no_mangle]
 pub extern "C" fn dialtable_field_bytes(msg: &[u8], offset: u32, len: u16, out: &mut [u8]) -> u64
-    ensures answer { λ r. ⌜ r ≡ writtenNumber (fieldCopyAnswer (now (msg .entry)) (record { offset = offset; len = len }) (now (out .entry))) ⌝ }
-    ensures content { λ _. ⌜ now (out .exit) ≡ fieldCopyOut (now (msg .entry)) (record { offset = offset; len = len }) (now (out .entry)) ⌝ }
+    ensures answer { λ r. ⌜ r ≡ writtenNumber (fieldCopyAnswer (now (msg .entry)) (record { offset = offset; len = len; «max_len» = 0 }) (now (out .entry))) ⌝ }
+    ensures content { λ _. ⌜ now (out .exit) ≡ fieldCopyOut (now (msg .entry)) (record { offset = offset; len = len; «max_len» = 0 }) (now (out .entry)) ⌝ }
 {
     c_reading::field_bytes(msg, offset, len, out)
 }
