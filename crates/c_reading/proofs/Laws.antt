@@ -23,6 +23,7 @@ use Rattle.nl_auth.specs.declared.NlAuth.{NlAuth}
 use Rattle.nl_auth.specs.declared.Reading.{Reading as NlReading}
 use Rattle.nl_auth.specs.declared.Reading.the-variants.{Taken as NlTaken, Refused as NlRefused}
 use Rattle.place.specs.Written.{atFront}
+use Rattle.c_number.specs.Number.{bit}
 use Rattle.c_number.specs.Outcome.{numbers, refused}
 use Rattle.c_reading.specs.Numbers.{negotiateNumbers, authenticateNumbers, challengeNumbers, timestampNumbers, serverNamesNumbers, nlAuthNumbers, negotiateOutcome, authenticateOutcome, challengeOutcome, timestampOutcome, serverNamesOutcome, nlAuthOutcome}
 
@@ -83,3 +84,28 @@ module _ (w v : NegoReading) (e : w ≡ v) where
 
   pub nego-refused : (d : Refusal) → w ≡ NegoRefused d → refused d ≡ negotiateOutcome v
   nego-refused d h = simp (← e, h)
+
+-- the numbers of AUTHENTICATE, each as it was asked for
+pub auth-numbers : (a : Authenticate) (m lmo lml nto ntl doo dol uso usl woo wol keo kel lmm ntm dom usm wom kem : ℕ) →
+    m ≡ bit (a .«mic_present») →
+    lmo ≡ a .fields .lm .offset →
+    lml ≡ a .fields .lm .len →
+    nto ≡ a .fields .nt .offset →
+    ntl ≡ a .fields .nt .len →
+    doo ≡ a .fields .domain .offset →
+    dol ≡ a .fields .domain .len →
+    uso ≡ a .fields .user .offset →
+    usl ≡ a .fields .user .len →
+    woo ≡ a .fields .workstation .offset →
+    wol ≡ a .fields .workstation .len →
+    keo ≡ a .fields .key .offset →
+    kel ≡ a .fields .key .len →
+    lmm ≡ a .fields .lm .«max_len» →
+    ntm ≡ a .fields .nt .«max_len» →
+    dom ≡ a .fields .domain .«max_len» →
+    usm ≡ a .fields .user .«max_len» →
+    wom ≡ a .fields .workstation .«max_len» →
+    kem ≡ a .fields .key .«max_len» →
+    a .flags .bits ∷ m ∷ lmo ∷ lml ∷ nto ∷ ntl ∷ doo ∷ dol ∷ uso ∷ usl ∷ woo ∷ wol ∷ keo ∷ kel ∷ lmm ∷ ntm ∷ dom ∷ usm ∷ wom ∷ kem ∷ [] ≡ authenticateNumbers a
+unfolding authenticateNumbers
+auth-numbers a m lmo lml nto ntl doo dol uso usl woo wol keo kel lmm ntm dom usm wom kem p0 p1 p2 p3 p4 p5 p6 p7 p8 p9 p10 p11 p12 p13 p14 p15 p16 p17 p18 = rw (p0, p1, p2, p3, p4, p5, p6, p7, p8, p9, p10, p11, p12, p13, p14, p15, p16, p17, p18)

@@ -23,16 +23,18 @@ use Rattle.nl_auth.specs.declared.Reading.the-variants.{Taken as NlTaken, Refus
 use Rattle.c_number.specs.Number.{bit}
 use Rattle.c_number.specs.Outcome.{Outcome, numbers, refused}
 
--- flags, and the offset and length of fields 1 and 2
+-- flags, the offset and length of fields 1 and 2, and MaxLen of both
 unfoldable pub negotiateNumbers : Negotiate → List ℕ
 negotiateNumbers m =
     m .flags .bits ∷
     m .fields .domain .offset ∷
     m .fields .domain .len ∷
     m .fields .workstation .offset ∷
-    m .fields .workstation .len ∷ []
+    m .fields .workstation .len ∷
+    m .fields .domain .«max_len» ∷
+    m .fields .workstation .«max_len» ∷ []
 
--- flags, whether a MIC is there, and the offset and length of fields 1 to 6
+-- flags, whether a MIC is there, the offset and length of fields 1 to 6, and MaxLen of each
 unfoldable pub authenticateNumbers : Authenticate → List ℕ
 authenticateNumbers a =
     a .flags .bits ∷
@@ -48,16 +50,24 @@ authenticateNumbers a =
     a .fields .workstation .offset ∷
     a .fields .workstation .len ∷
     a .fields .key .offset ∷
-    a .fields .key .len ∷ []
+    a .fields .key .len ∷
+    a .fields .lm .«max_len» ∷
+    a .fields .nt .«max_len» ∷
+    a .fields .domain .«max_len» ∷
+    a .fields .user .«max_len» ∷
+    a .fields .workstation .«max_len» ∷
+    a .fields .key .«max_len» ∷ []
 
--- flags, and the offset and length of fields 1 and 2
+-- flags, the offset and length of fields 1 and 2, and MaxLen of both
 unfoldable pub challengeNumbers : Challenge → List ℕ
 challengeNumbers c =
     c .flags .bits ∷
     c .fields .«target_name» .offset ∷
     c .fields .«target_name» .len ∷
     c .fields .«target_info» .offset ∷
-    c .fields .«target_info» .len ∷ []
+    c .fields .«target_info» .len ∷
+    c .fields .«target_name» .«max_len» ∷
+    c .fields .«target_info» .«max_len» ∷ []
 
 -- whether a timestamp is there, and its value
 unfoldable pub timestampNumbers : Timestamp → List ℕ

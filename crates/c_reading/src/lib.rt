@@ -41,7 +41,13 @@ use wire::check::Checked;
 use wire::check::check;
 use wire::refusal::Refusal;
 
-fn negotiate_numbers(m: Negotiate) -> [u64; 5]
+fn max_len_of(f: Field) -> u64
+    ensures { λ r. ⌜ r ≡ f .«max_len» ⌝ }
+{
+    f.max_len as u64
+}
+
+fn negotiate_numbers(m: Negotiate) -> [u64; 7]
     ensures { λ r. ⌜ r ≡ negotiateNumbers m ⌝ }
 {
     let names = m.fields;
@@ -51,10 +57,12 @@ fn negotiate_numbers(m: Negotiate) -> [u64; 5]
         len_of(names.domain),
         offset_of(names.workstation),
         len_of(names.workstation),
+        max_len_of(names.domain),
+        max_len_of(names.workstation),
     ]
 }
 
-fn authenticate_numbers(a: Authenticate) -> [u64; 14]
+fn authenticate_numbers(a: Authenticate) -> [u64; 20]
     ensures { λ r. ⌜ r ≡ authenticateNumbers a ⌝ }
 {
     let f = a.fields;
@@ -73,10 +81,16 @@ fn authenticate_numbers(a: Authenticate) -> [u64; 14]
         len_of(f.workstation),
         offset_of(f.key),
         len_of(f.key),
+        max_len_of(f.lm),
+        max_len_of(f.nt),
+        max_len_of(f.domain),
+        max_len_of(f.user),
+        max_len_of(f.workstation),
+        max_len_of(f.key),
     ]
 }
 
-fn challenge_numbers(c: Challenge) -> [u64; 5]
+fn challenge_numbers(c: Challenge) -> [u64; 7]
     ensures { λ r. ⌜ r ≡ challengeNumbers c ⌝ }
 {
     let f = c.fields;
@@ -86,6 +100,8 @@ fn challenge_numbers(c: Challenge) -> [u64; 5]
         len_of(f.target_name),
         offset_of(f.target_info),
         len_of(f.target_info),
+        max_len_of(f.target_name),
+        max_len_of(f.target_info),
     ]
 }
 
@@ -147,10 +163,10 @@ fn nl_auth_numbers(m: NlAuth) -> [u64; 15]
 
 // Reads NEGOTIATE.
 pub fn read_negotiate(msg: &[u8], numbers: &mut [u64]) -> u64
-    ensures answer { λ r. ⌜ r ≡ callNumber 5 (negotiateOutcome (readNegotiate (now (msg .entry)))) (length (now (numbers .entry))) ⌝ }
-    ensures content { λ _. ⌜ now (numbers .exit) ≡ callOut 5 (negotiateOutcome (readNegotiate (now (msg .entry)))) (now (numbers .entry)) ⌝ }
+    ensures answer { λ r. ⌜ r ≡ callNumber 7 (negotiateOutcome (readNegotiate (now (msg .entry)))) (length (now (numbers .entry))) ⌝ }
+    ensures content { λ _. ⌜ now (numbers .exit) ≡ callOut 7 (negotiateOutcome (readNegotiate (now (msg .entry)))) (now (numbers .entry)) ⌝ }
 {
-    let Checked::Held = room_holds(5, numbers.len()) else {
+    let Checked::Held = room_holds(7, numbers.len()) else {
         return refusal_number(Refusal::NoRoom);
     };
     match negotiate::read(msg) {
@@ -161,7 +177,7 @@ pub fn read_negotiate(msg: &[u8], numbers: &mut [u64]) -> u64
 
 // What was found of a message that was taken; both arrays have room.
 fn give_authenticate(numbers: &mut [u64], mic: &mut [u8], a: Authenticate, bytes: &[u8; 16]) -> u64
-    requires { ⌜ (14 ≤ length (now numbers)) × (16 ≤ length (now mic)) ⌝ }
+    requires { ⌜ (20 ≤ length (now numbers)) × (16 ≤ length (now mic)) ⌝ }
     ensures answer { λ r. ⌜ r ≡ 0 ⌝ }
     ensures content { λ _. ⌜ now (numbers .exit) ≡ atFront (authenticateNumbers a) (now (numbers .entry)) ⌝ }
     ensures beside { λ _. ⌜ now (mic .exit) ≡ atFront (now (bytes .entry)) (now (mic .entry)) ⌝ }
@@ -172,11 +188,11 @@ fn give_authenticate(numbers: &mut [u64], mic: &mut [u8], a: Authenticate, bytes
 
 // Reads AUTHENTICATE.
 pub fn read_authenticate(msg: &[u8], numbers: &mut [u64], mic: &mut [u8]) -> u64
-    ensures answer { λ r. ⌜ r ≡ twoArrayNumber 14 16 (authenticateOutcome (readAuthenticate (now (msg .entry)) .reading)) (length (now (numbers .entry))) (length (now (mic .entry))) ⌝ }
-    ensures content { λ _. ⌜ now (numbers .exit) ≡ twoArrayOut 14 16 (authenticateOutcome (readAuthenticate (now (msg .entry)) .reading)) (now (numbers .entry)) (length (now (mic .entry))) ⌝ }
-    ensures beside { λ _. ⌜ now (mic .exit) ≡ twoArrayBytes 14 16 (authenticateOutcome (readAuthenticate (now (msg .entry)) .reading)) (readAuthenticate (now (msg .entry)) .mic) (length (now (numbers .entry))) (now (mic .entry)) ⌝ }
+    ensures answer { λ r. ⌜ r ≡ twoArrayNumber 20 16 (authenticateOutcome (readAuthenticate (now (msg .entry)) .reading)) (length (now (numbers .entry))) (length (now (mic .entry))) ⌝ }
+    ensures content { λ _. ⌜ now (numbers .exit) ≡ twoArrayOut 20 16 (authenticateOutcome (readAuthenticate (now (msg .entry)) .reading)) (now (numbers .entry)) (length (now (mic .entry))) ⌝ }
+    ensures beside { λ _. ⌜ now (mic .exit) ≡ twoArrayBytes 20 16 (authenticateOutcome (readAuthenticate (now (msg .entry)) .reading)) (readAuthenticate (now (msg .entry)) .mic) (length (now (numbers .entry))) (now (mic .entry)) ⌝ }
 {
-    let Checked::Held = rooms_hold(14, numbers.len(), 16, mic.len()) else {
+    let Checked::Held = rooms_hold(20, numbers.len(), 16, mic.len()) else {
         return refusal_number(Refusal::NoRoom);
     };
     let answer = authenticate::read(msg);
@@ -190,7 +206,7 @@ pub fn read_authenticate(msg: &[u8], numbers: &mut [u64], mic: &mut [u8]) -> u64
 
 // What was found of a message that was taken; both arrays have room.
 fn give_challenge(numbers: &mut [u64], out: &mut [u8], c: Challenge, bytes: &[u8; 8]) -> u64
-    requires { ⌜ (5 ≤ length (now numbers)) × (8 ≤ length (now out)) ⌝ }
+    requires { ⌜ (7 ≤ length (now numbers)) × (8 ≤ length (now out)) ⌝ }
     ensures answer { λ r. ⌜ r ≡ 0 ⌝ }
     ensures content { λ _. ⌜ now (numbers .exit) ≡ atFront (challengeNumbers c) (now (numbers .entry)) ⌝ }
     ensures beside { λ _. ⌜ now (out .exit) ≡ atFront (now (bytes .entry)) (now (out .entry)) ⌝ }
@@ -201,11 +217,11 @@ fn give_challenge(numbers: &mut [u64], out: &mut [u8], c: Challenge, bytes: &[u8
 
 // Reads CHALLENGE; `out` is for ServerChallenge.
 pub fn read_challenge(msg: &[u8], numbers: &mut [u64], out: &mut [u8]) -> u64
-    ensures answer { λ r. ⌜ r ≡ twoArrayNumber 5 8 (challengeOutcome (readChallenge (now (msg .entry)) .reading)) (length (now (numbers .entry))) (length (now (out .entry))) ⌝ }
-    ensures content { λ _. ⌜ now (numbers .exit) ≡ twoArrayOut 5 8 (challengeOutcome (readChallenge (now (msg .entry)) .reading)) (now (numbers .entry)) (length (now (out .entry))) ⌝ }
-    ensures beside { λ _. ⌜ now (out .exit) ≡ twoArrayBytes 5 8 (challengeOutcome (readChallenge (now (msg .entry)) .reading)) (readChallenge (now (msg .entry)) .«server_challenge») (length (now (numbers .entry))) (now (out .entry)) ⌝ }
+    ensures answer { λ r. ⌜ r ≡ twoArrayNumber 7 8 (challengeOutcome (readChallenge (now (msg .entry)) .reading)) (length (now (numbers .entry))) (length (now (out .entry))) ⌝ }
+    ensures content { λ _. ⌜ now (numbers .exit) ≡ twoArrayOut 7 8 (challengeOutcome (readChallenge (now (msg .entry)) .reading)) (now (numbers .entry)) (length (now (out .entry))) ⌝ }
+    ensures beside { λ _. ⌜ now (out .exit) ≡ twoArrayBytes 7 8 (challengeOutcome (readChallenge (now (msg .entry)) .reading)) (readChallenge (now (msg .entry)) .«server_challenge») (length (now (numbers .entry))) (now (out .entry)) ⌝ }
 {
-    let Checked::Held = rooms_hold(5, numbers.len(), 8, out.len()) else {
+    let Checked::Held = rooms_hold(7, numbers.len(), 8, out.len()) else {
         return refusal_number(Refusal::NoRoom);
     };
     let answer = challenge::read(msg);
@@ -268,12 +284,13 @@ fn record_fits(f: Field, msg: &[u8]) -> Checked
 
 // Copies a field's own bytes; a record that doesn't fit this message is no field of it.
 pub fn field_bytes(msg: &[u8], offset: u32, len: u16, out: &mut [u8]) -> u64
-    ensures answer { λ r. ⌜ r ≡ writtenNumber (fieldCopyAnswer (now (msg .entry)) (record { offset = offset; len = len }) (now (out .entry))) ⌝ }
-    ensures content { λ _. ⌜ now (out .exit) ≡ fieldCopyOut (now (msg .entry)) (record { offset = offset; len = len }) (now (out .entry)) ⌝ }
+    ensures answer { λ r. ⌜ r ≡ writtenNumber (fieldCopyAnswer (now (msg .entry)) (record { offset = offset; len = len; «max_len» = 0 }) (now (out .entry))) ⌝ }
+    ensures content { λ _. ⌜ now (out .exit) ≡ fieldCopyOut (now (msg .entry)) (record { offset = offset; len = len; «max_len» = 0 }) (now (out .entry)) ⌝ }
 {
     let f = Field {
         offset: offset,
         len: len,
+        max_len: 0,
     };
     let Checked::Held = record_fits(f, msg) else {
         return refusal_number(Refusal::PastEnd(0));

@@ -10,6 +10,7 @@ use Rattle.line_refused.specs.Refused.{refusedText, refusedLine}
 use Rattle.line_auth.specs.Auth.{authNames, authLengths, authEnd, authText}
 use Rattle.line.specs.Line.{authenticateLine, nlAuthLine, challengeLine, ntlmLine, shownLine}
 use Rattle.line_nl.specs.Nl.{nlStart, nlOem, nlUtf8, nlText}
+use Rattle.line_max.specs.Max.{maxDigit, maxWord, maxEnd}
 use Rattle.line_chal.specs.Chal.{chalEnd, chalWords, chalText}
 use Rattle.place.specs.Written.{bytesAnswer, bytesAfter}
 use Rattle.nl_auth.specs.NlAuth.{readNlAuth, readRequest, readUtf8, readResponse, stringUnder, stringAt, stringBytes, nameUnder, nameAt}
@@ -20,5 +21,5 @@ use Rattle.authenticate.specs.Authenticate.{fieldsAt, checkEnds, checkBegins, c
 use Rattle.demands.specs.Bench.{BenchHolds}
 
 pub bench-holds : BenchHolds
-unfolding readAuthenticate readingOf readHead signatureHolds fieldsAt fieldAt checkFields checkEnds checkBegins checkNames checkShared micPresent countPairs checkPairs pairsOf stepAt pairOf left readNlAuth readRequest readUtf8 readResponse stringUnder stringAt stringBytes nameUnder nameAt oemText utf8Text fieldBytes readChallenge challengeReadingOf fieldsOf hexDigit hex decimalSize decimal escape unitText textOf nameText numberWord nameWord stringWord flagsWord setWord startText micWord kindWord timeText timeWord refusedText refusedLine authNames authLengths authEnd authText authenticateLine nlStart nlOem nlUtf8 nlText nlAuthLine chalEnd chalWords chalText challengeLine kindOf ntlmLine bytesAnswer bytesAfter shownLine
+unfolding readAuthenticate readingOf readHead signatureHolds fieldsAt fieldAt checkFields checkEnds checkBegins checkNames checkShared micPresent countPairs checkPairs pairsOf stepAt pairOf left readNlAuth readRequest readUtf8 readResponse stringUnder stringAt stringBytes nameUnder nameAt oemText utf8Text fieldBytes readChallenge challengeReadingOf fieldsOf hexDigit hex decimalSize decimal escape unitText textOf nameText numberWord nameWord stringWord flagsWord setWord startText micWord kindWord timeText timeWord refusedText refusedLine authNames authLengths maxDigit maxWord maxEnd authEnd authText authenticateLine nlStart nlOem nlUtf8 nlText nlAuthLine chalEnd chalWords chalText challengeLine kindOf ntlmLine bytesAnswer bytesAfter shownLine
 bench-holds = refl

@@ -25,6 +25,7 @@ use Rattle.respond.specs.Decision.{decisionOn}
 use Rattle.respond.specs.Answer.{lmToSend, micToSend, keyToSend, sendAnswer, sendOut, respondAnswer, respondOut}
 use Rattle.response_pairs.specs.ResponsePairs.{dueBits, bitsDue, addedPairs, pairsBack, pairsFor, pairBytes, listBytes, listWith, listFor, checkList, listAnswer, listOut, writeAnswer as pairsAnswer, writeOut as pairsOut}
 use Rattle.line_chal.specs.Chal.{timeText, timeWord, chalEnd, chalWords, chalText}
+use Rattle.line_max.specs.Max.{maxDigit, maxWord, maxEnd}
 use Rattle.line_nego.specs.Nego.{negoNames, negoText}
 use Rattle.line_auth.specs.Auth.{authNames, authLengths, authEnd, authText}
 use Rattle.line.specs.Line.{authenticateLine, challengeLine, negotiateLine, ntlmLine, nlAuthLine}
@@ -32,19 +33,19 @@ use Rattle.target_info.specs.TargetInfo.{timestampIn, serverNamesIn}
 use Rattle.demands.specs.Examples.{ChallengeExample, NegotiateExample, AuthenticateExample, AnswerExample, PairListExample, NlAuthExample, NlNamesExample, ExamplesHold}
 
 challenge-example : ChallengeExample
-unfolding readChallenge challengeReadingOf checkInfo fieldsOf challengeFieldsAt challengeEnds challengeBegins challengeNames challengeChecks readHead signatureHolds fieldAt fieldBytes countPairs checkPairs pairsOf stepAt pairOf left timestampIn timestampOf serverNamesIn serverNamesOf hexDigit hex decimalSize decimal escape unitText textOf nameText numberWord nameWord flagsWord setWord startText timeText timeWord chalEnd chalWords chalText challengeLine kindOf ntlmLine
+unfolding readChallenge challengeReadingOf checkInfo fieldsOf challengeFieldsAt challengeEnds challengeBegins challengeNames challengeChecks readHead signatureHolds fieldAt fieldBytes countPairs checkPairs pairsOf stepAt pairOf left timestampIn timestampOf serverNamesIn serverNamesOf hexDigit hex decimalSize decimal escape unitText textOf nameText numberWord nameWord flagsWord setWord startText timeText timeWord maxDigit maxWord maxEnd chalEnd chalWords chalText challengeLine kindOf ntlmLine
 challenge-example = record { reading = refl; server-challenge = refl; pairs = refl; timestamp = refl; server-names = refl; line = refl }
 
 negotiate-example : NegotiateExample
-unfolding readNegotiate negotiateFieldsAt negotiateEnds negotiateBegins negotiateChecks readHead signatureHolds fieldAt fieldBytes hexDigit hex escape unitText textOf nameText nameWord flagsWord negoNames negoText negotiateLine kindOf ntlmLine flagsToWrite negotiateFieldsTo afterType negotiateFixed negotiateBytes negotiateCheck negotiateAnswer negotiateOut headBytes versionBytes le16 le32
+unfolding readNegotiate negotiateFieldsAt negotiateEnds negotiateBegins negotiateChecks readHead signatureHolds fieldAt fieldBytes hexDigit hex escape unitText textOf nameText nameWord flagsWord maxDigit maxWord maxEnd negoNames negoText negotiateLine kindOf ntlmLine flagsToWrite negotiateFieldsTo afterType negotiateFixed negotiateBytes negotiateCheck negotiateAnswer negotiateOut headBytes versionBytes le16 le32
 negotiate-example = record { reading = refl; line = refl; length-written = refl; bytes-written = refl; no-room = refl; kept = refl }
 
 authenticate-example : AuthenticateExample
-unfolding readAuthenticate readingOf fieldsAt checkEnds checkBegins checkNames checkShared checkFields micPresent readHead signatureHolds fieldAt fieldBytes hexDigit hex decimalSize decimal escape unitText textOf nameText numberWord nameWord flagsWord setWord startText micWord kindWord authNames authLengths authEnd authText authenticateLine kindOf ntlmLine fieldsTo headsBytes afterHeads fixedBytes payloadBytes authenticateBytes checkNamesToWrite checkToWrite writeAnswer writeOut headBytes versionBytes le16 le32
+unfolding readAuthenticate readingOf fieldsAt checkEnds checkBegins checkNames checkShared checkFields micPresent readHead signatureHolds fieldAt fieldBytes hexDigit hex decimalSize decimal escape unitText textOf nameText numberWord nameWord flagsWord setWord startText micWord kindWord authNames authLengths maxDigit maxWord maxEnd authEnd authText authenticateLine kindOf ntlmLine fieldsTo headsBytes afterHeads fixedBytes payloadBytes authenticateBytes checkNamesToWrite checkToWrite writeAnswer writeOut headBytes versionBytes le16 le32
 authenticate-example = record { length-written = refl; bytes-written = refl; line = refl; no-room = refl; kept = refl }
 
 answer-example : AnswerExample
-unfolding challengeReadingOf checkInfo fieldsOf challengeFieldsAt challengeEnds challengeBegins challengeNames challengeChecks checkPairs pairsOf stepAt pairOf left timestampIn serverNamesIn domainPart fieldStart decisionOn lmToSend micToSend keyToSend sendAnswer sendOut respondAnswer respondOut readAuthenticate readingOf fieldsAt checkEnds checkBegins checkNames checkShared checkFields micPresent readHead signatureHolds fieldAt fieldBytes hexDigit hex decimalSize decimal escape unitText textOf nameText numberWord nameWord flagsWord setWord startText micWord kindWord authNames authLengths authEnd authText authenticateLine kindOf ntlmLine fieldsTo headsBytes afterHeads fixedBytes payloadBytes authenticateBytes checkNamesToWrite checkToWrite writeAnswer writeOut headBytes versionBytes le16 le32
+unfolding challengeReadingOf checkInfo fieldsOf challengeFieldsAt challengeEnds challengeBegins challengeNames challengeChecks checkPairs pairsOf stepAt pairOf left timestampIn serverNamesIn domainPart fieldStart decisionOn lmToSend micToSend keyToSend sendAnswer sendOut respondAnswer respondOut readAuthenticate readingOf fieldsAt checkEnds checkBegins checkNames checkShared checkFields micPresent readHead signatureHolds fieldAt fieldBytes hexDigit hex decimalSize decimal escape unitText textOf nameText numberWord nameWord flagsWord setWord startText micWord kindWord authNames authLengths maxDigit maxWord maxEnd authEnd authText authenticateLine kindOf ntlmLine fieldsTo headsBytes afterHeads fixedBytes payloadBytes authenticateBytes checkNamesToWrite checkToWrite writeAnswer writeOut headBytes versionBytes le16 le32
 answer-example =
     record {
       answer = refl;

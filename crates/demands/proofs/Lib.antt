@@ -32,3 +32,4 @@ pub mod DnsText
 pub mod StringShown
 pub mod Explained
 pub mod Batch
+pub mod MaxLen

@@ -5,36 +5,39 @@ pub mod Unchanged
 pub mod Apart
 pub mod Mic
 use Prim.Native.Nat.{ℕ, _+_, _%_, _≤_, max}
-use mathlib.Core.Path.{_≡_, refl, sym, ap}
+use mathlib.Core.Path.{_≡_, refl, sym, ap, _∙_}
 use mathlib.Core.Logic.{_⊎_, inl, inr, ⊎-elim}
 use mathlib.Core.Bool.{Bool, true, false, _||_, _&&_, not, cond}
-use mathlib.Core.List.{List}
+use mathlib.Core.List.{List, []}
 use native.Mathlib.Omega.{arith}
 use lib.Dec.{leb, ltb, eqb}
-use lib.ListN.{length}
+use lib.ListN.{length, take, drop}
 use borrow.Author.Tests.{leb-true, leb-false, ltb-true, lt-ltb, eqb-true, eqb-false}
 use Rattle.wire.specs.declared.check.Checked.the-variants.{Held, Failed}
 use Rattle.wire.proofs.Laws.{held-true}
 use Rattle.field.specs.declared.Field.{Field}
-use Rattle.field.specs.Field.{headAt, isEmpty, noField, fieldAt, endsInside, beginsAfter, evenName, share}
+use Rattle.field.specs.Field.{headAt, isEmpty, emptyField, noField, fieldAt, fieldBytes, endsInside, beginsAfter, evenName, share}
+use Rattle.field.proofs.Fields.{own-bytes}
 use Rattle.wire.proofs.Bools.{and-left, and-right, and-both}
-use Rattle.demands.specs.Message.{Format, lenOf, offsetOf, Set, Counts, Nonempty, Covers, Fails}
+use Rattle.demands.specs.Message.{Format, lenOf, maxLenOf, offsetOf, Set, Counts, Nonempty, Covers, Fails}
 use Rattle.demands.proofs.Bools.{true-not-false, both-ways, failed-false}
 
 -- f is what the reader makes of the head of field i
 pub record Stands (k : Format) (s : List ℕ) (i : ℕ) (f : Field) : Type 0 where
   pub empty : isEmpty f ≡ true → Nonempty k s i → ⊥
-  pub none : isEmpty f ≡ true → f ≡ noField
+  pub none : isEmpty f ≡ true → f .offset ≡ 0
   pub full : isEmpty f ≡ false → Nonempty k s i
   pub offset : isEmpty f ≡ false → f .offset ≡ offsetOf k s i
   pub len : isEmpty f ≡ false → f .len ≡ lenOf k s i
+  pub counted : Counts k s i → (f .len ≡ lenOf k s i) × (f .«max_len» ≡ maxLenOf k s i)
+  pub uncounted : (Counts k s i → ⊥) → f ≡ noField
 
 pub stands : (k : Format) (s : List ℕ) (i : ℕ) (b : Bool) → 1 ≤ i → i ≤ k .last → (b ≡ true → Counts k s i) → (b ≡ false → Counts k s i → ⊥) →
     Stands k s i (fieldAt s (k .head i) b)
 unfolding fieldAt
 stands k s i b h1 h6 on off = go b (eqb (lenOf k s i) 0) refl on off where
   go : (b e : Bool) → eqb (lenOf k s i) 0 ≡ e → (b ≡ true → Counts k s i) → (b ≡ false → Counts k s i → ⊥) →
-      Stands k s i (cond (b && not e) (headAt s (k .head i)) noField)
+      Stands k s i (cond b (cond e (emptyField (maxLenOf k s i)) (headAt s (k .head i))) noField)
   go true true p y n =
       record {
         empty = λ h w. omega (arith, eqb-true (lenOf k s i) 0 p, w .some);
@@ -42,6 +45,8 @@ stands k s i b h1 h6 on off = go b (eqb (lenOf k s i) 0) refl on off where
         full = λ h. absurd (true-not-false h);
         offset = λ h. absurd (true-not-false h);
         len = λ h. absurd (true-not-false h);
+        counted = λ c. (sym (eqb-true (lenOf k s i) 0 p), refl);
+        uncounted = λ c. absurd (c (y refl));
       }
   go true false p y n =
       record {
@@ -50,6 +55,8 @@ stands k s i b h1 h6 on off = go b (eqb (lenOf k s i) 0) refl on off where
         full = λ h. record { first = h1; last = h6; counts = y refl; some = omega (arith, eqb-false (lenOf k s i) 0 p) };
         offset = λ h. refl;
         len = λ h. refl;
+        counted = λ c. (refl, refl);
+        uncounted = λ c. absurd (c (y refl));
       }
   go false e p y n =
       record {
@@ -58,7 +65,15 @@ stands k s i b h1 h6 on off = go b (eqb (lenOf k s i) 0) refl on off where
         full = λ h. absurd (true-not-false h);
         offset = λ h. absurd (true-not-false h);
         len = λ h. absurd (true-not-false h);
+        counted = λ c. absurd (n refl c);
+        uncounted = λ c. refl;
       }
+
+-- an empty field has no bytes
+pub empty-bytes : (k : Format) (s : List ℕ) (i : ℕ) (f : Field) → Stands k s i f → isEmpty f ≡ true → (t : List ℕ) → fieldBytes t f ≡ []
+empty-bytes k s i f w p t =
+    let l = eqb-true (f .len) 0 p in
+    own-bytes t f (omega (arith, l, w .none p)) ∙ ap (λ (n : ℕ). take n (drop (f .offset) t)) l
 
 -- a test that an empty field passes
 module _ (k : Format) (s : List ℕ) (i : ℕ) (f : Field) (w : Stands k s i f) where

@@ -7,8 +7,9 @@ use mathlib.Core.Bool.{Bool, true, false, cond}
 use mathlib.Core.List.{List, [], _∷_}
 use native.Mathlib.Omega.{arith}
 use lib.ListN.{length, take, drop, replicate}
+use borrow.Author.Tests.{eqb-true}
 use Rattle.field.specs.declared.Field.{Field}
-use Rattle.field.specs.Field.{isEmpty, noField, fieldBytes}
+use Rattle.field.specs.Field.{isEmpty, fieldBytes}
 use Rattle.head.specs.Head.{flagsAt}
 use Rattle.field.proofs.Fields.{own-bytes}
 use Rattle.authenticate.specs.declared.Authenticate.{Authenticate}
@@ -20,7 +21,7 @@ use Rattle.demands.specs.Message.{Format, authenticate, lenOf, offsetOf,
 use Rattle.demands.specs.OwnBytes.{OwnField, AuthenticateOwn, AuthenticateRefusedMic}
 use Rattle.demands.specs.TakenExactly.{IsTakenAuthenticate}
 use Rattle.demands.proofs.Message.Chain.{JudgedH, head-judged}
-use Rattle.demands.proofs.Message.{Stands}
+use Rattle.demands.proofs.Message.{Stands, empty-bytes}
 use Rattle.demands.proofs.TakenExactly.{six, authenticate-taken}
 use Rattle.demands.proofs.Message.Mic.{mic-there}
 
@@ -46,11 +47,10 @@ module _ (k : Format) (s : List ℕ) (i : ℕ) (f : Field) (w : Stands k s i f) 
             own-bytes s f (omega (arith, whole ne, w .offset (is-full ne), w .len (is-full ne)))
             ∙ simp (w .offset (is-full ne), w .len (is-full ne));
         none = λ empty.
-            let e = w .none (is-empty empty) in (
-              ap (λ (x : Field). x .offset) e,
-              ap (λ (x : Field). x .len) e,
-              ap (λ (x : Field). fieldBytes s x) e ∙ own-bytes s noField (omega arith),
-            );
+            let e = is-empty empty in
+            (w .none e, eqb-true (f .len) 0 e, empty-bytes k s i f w e s);
+        max-len = λ c. w .counted c .1;
+        no-max-len = λ c. ap (λ (x : Field). x .«max_len») (w .uncounted c);
       }
     where
       whole : Nonempty k s i → offsetOf k s i + lenOf k s i ≤ length s

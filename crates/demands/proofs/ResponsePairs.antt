@@ -438,6 +438,6 @@ pub response-pairs-ignored : ResponsePairsIgnored
 unfolding writeAnswer writeOut
 response-pairs-ignored s t d =
     record {
-      answer = λ room name bind mark. made-same s t d Refused (λ c l. listAnswer room l name mark bind);
-      output = λ out name bind mark. made-same s t d (λ e. out) (λ c l. listOut out l name mark bind);
+      answer = λ room name bind mark. made-same s t d Refused (λ c l. listAnswer room l name mark bind) (λ c l. refl);
+      output = λ out name bind mark. made-same s t d (λ e. out) (λ c l. listOut out l name mark bind) (λ c l. refl);
     }

@@ -13,7 +13,7 @@ use borrow.Author.Tests.{eqb-true, eqb-false}
 use lib.ListN.{length, getD}
 use Rattle.field.specs.declared.Field.{Field}
 use Rattle.negotiate_flags.specs.declared.NegotiateFlags.{NegotiateFlags}
-use Rattle.field.specs.Field.{isEmpty, noField, fieldAt}
+use Rattle.field.specs.Field.{isEmpty, fieldAt}
 use Rattle.negotiate_flags.specs.Flags.{keyExch}
 use Rattle.head.specs.Head.{flagsAt, signatureHolds, readHead, kindOf}
 use Rattle.field.proofs.Fields.{own-bytes}
@@ -29,7 +29,7 @@ use Rattle.demands.specs.Ignored.{SameBytes}
 use Rattle.demands.specs.Message.{authenticate, lenOf, offsetOf, Nonempty, Covers, Fails}
 use Rattle.demands.specs.Secret.{Secret, secret-field, mic, DifferInSecrets, SecretRead, p1Other, SecretExample}
 use Rattle.demands.proofs.Alike.{same-part, same16, same32}
-use Rattle.demands.proofs.Message.{Stands}
+use Rattle.demands.proofs.Message.{Stands, empty-bytes}
 use Rattle.demands.proofs.OwnBytes.{taken-answer, none-fails}
 use Rattle.demands.proofs.TakenExactly.{six}
 
@@ -38,7 +38,7 @@ module _ (s t : List ℕ) (d : DifferInSecrets s t) where
   field-same : (at : ℕ) (c : Bool) → at + 8 ≤ 64 → fieldAt s at c ≡ fieldAt t at c
   unfolding fieldAt
   field-same at c l =
-      simp (same16 s t at (λ p a b. d .first-64 p (omega arith)), same32 s t (at + 4) (λ p a b. d .first-64 p (omega arith)))
+      simp (same16 s t at (λ p a b. d .first-64 p (omega arith)), same16 s t (at + 2) (λ p a b. d .first-64 p (omega arith)), same32 s t (at + 4) (λ p a b. d .first-64 p (omega arith)))
 
   pub flags-same : flagsAt s 60 ≡ flagsAt t 60
   flags-same = ap (λ (x : ℕ). record { bits = x }) (same32 s t 60 (λ p a b. d .first-64 p (omega arith)))
@@ -73,7 +73,7 @@ module _ (s t : List ℕ) (d : DifferInSecrets s t) where
       inside h = omega (arith, h, w .offset p, w .len p)
 
     go : (e : Bool) → isEmpty f ≡ e → SameBytes s t f
-    go true p = rw (w .none p) (own-bytes s noField (omega arith) ∙ sym (own-bytes t noField (omega arith)))
+    go true p = empty-bytes authenticate s i f w p s ∙ sym (empty-bytes authenticate s i f w p t)
     go false p =
         own-bytes s f (fit (length s) p refl)
         ∙ same-part s t (d .length-same) (f .offset) (f .len)

@@ -63,7 +63,7 @@ module _ (s : List ℕ) where
     h 6 _ keyed,
   )
 
-  all : AllStand authenticate s 1 (allFields (fieldsAt s (flagsAt s 60)))
+  pub all : AllStand authenticate s 1 (allFields (fieldsAt s (flagsAt s 60)))
   all =
       let x = six (Stands authenticate s) (λ i f w. w) in
       (refl, x .0, (refl, x .1, (refl, x .2, (refl, x .3, (refl, x .4, (refl, x .5, tt))))))

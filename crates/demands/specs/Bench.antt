@@ -100,7 +100,11 @@ p11 = 0x06 ∷ 0x00 ∷ 0x02 ∷ 0x00 ∷ 0x00 ∷ 0x00 ∷ 0x00 ∷ 0x00 ∷ 0x
 abbrev pub cases : List Case
 cases =
     -- P1: the whole line
-    ntlm p1 "auth flags=00000201 set=U domain= user=box7 work= lm=0 nt=24 key=0 mic=1 kind=v1" ∷
+    ntlm p1 "auth flags=00000201 set=U domain= user=box7 work= lm=0 nt=24 key=0 mic=1 kind=v1 max=000000" ∷
+    -- and with MaxLen 10 of the user, 5 of the LM response, which is empty, and 5 of the session key, which doesn't count
+    ntlm (sets p1 38 (10 ∷ 0 ∷ [])) "auth flags=00000201 set=U domain= user=box7 work= lm=0 nt=24 key=0 mic=1 kind=v1 max=000100" ∷
+    ntlm (sets p1 14 (5 ∷ 0 ∷ [])) "auth flags=00000201 set=U domain= user=box7 work= lm=0 nt=24 key=0 mic=1 kind=v1 max=100000" ∷
+    ntlm (sets p1 54 (5 ∷ 0 ∷ [])) "auth flags=00000201 set=U domain= user=box7 work= lm=0 nt=24 key=0 mic=1 kind=v1 max=000000" ∷
     -- P2: user offset 113, and 112
     authenticate (userOffset 113) (refused 6 4) ∷
     authenticate (userOffset 112) (refused 9 4) ∷

@@ -74,14 +74,14 @@ pub record ChallengeExample : Type 0 where
       ChallengeTaken
       (record {
         flags = record { bits = 0x40800215 };
-        fields = record { «target_name» = record { offset = 56; len = 8 }; «target_info» = record { offset = 64; len = 36 } };
+        fields = record { «target_name» = record { offset = 56; len = 8; «max_len» = 8 }; «target_info» = record { offset = 64; len = 36; «max_len» = 36 } };
       })
   pub server-challenge : readChallenge challengeMessage .«server_challenge» ≡
       0x01 ∷ 0x23 ∷ 0x45 ∷ 0x67 ∷ 0x89 ∷ 0xAB ∷ 0xCD ∷ 0xEF ∷ []
   pub pairs : countPairs info ≡ Pairs 3
   pub timestamp : timestampOf challengeMessage ≡ TimeTaken (Time 0x0807060504030201)
   pub server-names : serverNamesOf challengeMessage ≡ NamesTaken (record { «nb_computer_name» = true; «nb_domain_name» = true })
-  pub line : ntlmLine challengeMessage ≡ lineOf "chal flags=40800215 set=U target=LINE pairs=3 time=0807060504030201"
+  pub line : ntlmLine challengeMessage ≡ lineOf "chal flags=40800215 set=U target=LINE pairs=3 time=0807060504030201 max=00"
 
 -- ---- a NEGOTIATE
 
@@ -107,9 +107,9 @@ pub record NegotiateExample : Type 0 where
       NegotiateTaken
       (record {
         flags = record { bits = 0x3207 };
-        fields = record { domain = record { offset = 40; len = 4 }; workstation = record { offset = 44; len = 4 } };
+        fields = record { domain = record { offset = 40; len = 4; «max_len» = 4 }; workstation = record { offset = 44; len = 4; «max_len» = 4 } };
       })
-  pub line : ntlmLine negotiateMessage ≡ lineOf "nego flags=00003207 domain=LINE work=BOX7"
+  pub line : ntlmLine negotiateMessage ≡ lineOf "nego flags=00003207 domain=LINE work=BOX7 max=00"
   pub length-written : negotiateAnswer 50 callersFlags version (ascii "LINE") (ascii "BOX7") ≡ Length 48
   -- into an output of 50 bytes FF
   pub bytes-written : negotiateOut (replicate 50 0xFF) callersFlags version (ascii "LINE") (ascii "BOX7") ≡
@@ -154,7 +154,7 @@ pub record AuthenticateExample : Type 0 where
   pub length-written : writeAnswer 174 flagsSent version mic lm nt line16 box16 [] key ≡ Length 172
   pub bytes-written : writeOut (replicate 174 0xFF) flagsSent version mic lm nt line16 box16 [] key ≡
       authenticateMessage ++ (0xFF ∷ 0xFF ∷ [])
-  pub line : ntlmLine authenticateMessage ≡ lineOf "auth flags=42000201 set=U domain=LINE user=box7 work= lm=24 nt=28 key=16 mic=1 kind=v2"
+  pub line : ntlmLine authenticateMessage ≡ lineOf "auth flags=42000201 set=U domain=LINE user=box7 work= lm=24 nt=28 key=16 mic=1 kind=v2 max=000000"
   pub no-room : writeAnswer 171 flagsSent version mic lm nt line16 box16 [] key ≡ Refused NoRoom
   pub kept : writeOut (replicate 171 0xFF) flagsSent version mic lm nt line16 box16 [] key ≡ replicate 171 0xFF
 
@@ -171,7 +171,7 @@ pub record AnswerExample : Type 0 where
   pub answer : respondAnswer 172 challengeMessage oldServerSettings 5 version mic lm nt [] box16 [] key ≡
       Sent (record { len = 172; time = 0x0807060504030201; «mic_due» = true })
   pub bytes-written : respondOut (replicate 172 0xFF) challengeMessage oldServerSettings version mic lm nt [] box16 [] key ≡ answerMessage
-  pub line : ntlmLine answerMessage ≡ lineOf "auth flags=40800215 set=U domain=LINE user=box7 work= lm=24 nt=28 key=16 mic=1 kind=v2"
+  pub line : ntlmLine answerMessage ≡ lineOf "auth flags=40800215 set=U domain=LINE user=box7 work= lm=24 nt=28 key=16 mic=1 kind=v2 max=000000"
   pub no-room : respondAnswer 171 challengeMessage oldServerSettings 5 version mic lm nt [] box16 [] key ≡ Unanswered NoRoom
   pub kept : respondOut (replicate 171 0xFF) challengeMessage oldServerSettings version mic lm nt [] box16 [] key ≡ replicate 171 0xFF
   pub bench-no : respondAnswer 171 challengeMessage (benchSettings false) 5 version mic lm nt [] box16 [] key ≡ Unanswered NoRoom

@@ -29,7 +29,7 @@ pub data Call : Type 0 where
 
 -- how many numbers it hands out
 abbrev pub count : Call → ℕ
-count (read-negotiate msg) = 5
+count (read-negotiate msg) = 7
 count (read-timestamp msg) = 2
 count (read-server-names msg) = 2
 count (read-nl-auth msg) = 15
@@ -55,8 +55,8 @@ pub data TwoArrayCall : Type 0 where
   read-challenge : (msg : List ℕ) → TwoArrayCall
 
 abbrev pub numberCount : TwoArrayCall → ℕ
-numberCount (read-authenticate msg) = 14
-numberCount (read-challenge msg) = 5
+numberCount (read-authenticate msg) = 20
+numberCount (read-challenge msg) = 7
 
 abbrev pub byteCount : TwoArrayCall → ℕ
 byteCount (read-authenticate msg) = 16

@@ -1,4 +1,7 @@
--- Demand 2: "MaxLen, and ignored bytes that no counted field covers, change nothing."
+-- Demand 2: "MaxLen, and ignored bytes that no counted field covers, change nothing." Since document 02's 9/12, "MaxLen changes
+-- nothing but this word and the record's MaxLen": two messages that differ in ignored bytes get answers that are the same but for
+-- MaxLen and lines that are the same but for the last word, and where MaxLen is the same too, the same answers and lines. What the
+-- word and the record's MaxLen are is said in MaxLen.antt and OwnBytes.antt.
 use Prim.Native.Nat.{ℕ, _%_, _≤_, _<_}
 use mathlib.Core.Path.{_≡_}
 use mathlib.Core.Logic.{_⊎_}
@@ -28,8 +31,10 @@ use Rattle.respond.specs.declared.decision.Settings.{Settings}
 use Rattle.respond.specs.Answer.{respondAnswer, respondOut}
 use Rattle.respond.specs.Decision.{decisionOn}
 use Rattle.respond.specs.Domain.{domainPart}
-use Rattle.demands.specs.Message.{negotiate, authenticate, challenge, DifferInIgnored}
+use Rattle.demands.specs.MaxLen.{bareAuthenticate, bareChallenge, bareNegotiate, AlikeButMax}
+use Rattle.demands.specs.Message.{negotiate, authenticate, challenge, DifferInIgnored, SameMaxLen}
 use Rattle.demands.specs.NlAuth.{typeOf}
+use Rattle.demands.specs.TakenExactly.{IsTakenNegotiate, IsTakenChallenge, IsTakenAuthenticate}
 use Rattle.demands.specs.ThinCalls.{ThinCall, goesBy}
 
 -- a field has the same bytes in both
@@ -45,9 +50,11 @@ pub record SameFields (s t : List ℕ) (f : Fields) : Type 0 where
   pub workstation : SameBytes s t (f .workstation)
   pub key : SameBytes s t (f .key)
 
--- they get the same answer: flags, places, MIC or refusal, and each field's bytes
+-- they get the same answer but for MaxLen: flags, places, MIC or refusal, and each field's bytes
 pub record SameAnswer (s t : List ℕ) : Type 0 where
-  pub answer : readAuthenticate s ≡ readAuthenticate t
+  pub reading : bareAuthenticate (readAuthenticate s .reading) ≡ bareAuthenticate (readAuthenticate t .reading)
+  pub mic : readAuthenticate s .mic ≡ readAuthenticate t .mic
+  pub whole : SameMaxLen authenticate s t → readAuthenticate s ≡ readAuthenticate t
   pub bytes : (a : Authenticate) → readAuthenticate s .reading ≡ Taken a → SameFields s t (a .fields)
 
 abbrev pub AuthenticateIgnored : Type 0
@@ -55,7 +62,9 @@ AuthenticateIgnored = (s t : List ℕ) → DifferInIgnored authenticate s t → 
 
 -- for CHALLENGE also the timestamp and the server's names
 pub record SameChallenge (s t : List ℕ) : Type 0 where
-  pub answer : readChallenge s ≡ readChallenge t
+  pub reading : bareChallenge (readChallenge s .reading) ≡ bareChallenge (readChallenge t .reading)
+  pub server-challenge : readChallenge s .«server_challenge» ≡ readChallenge t .«server_challenge»
+  pub whole : SameMaxLen challenge s t → readChallenge s ≡ readChallenge t
   pub timestamp : timestampOf s ≡ timestampOf t
   pub server-names : serverNamesOf s ≡ serverNamesOf t
   pub target-name : (c : Challenge) → readChallenge s .reading ≡ ChallengeTaken c → SameBytes s t (c .fields .«target_name»)
@@ -66,7 +75,8 @@ ChallengeIgnored = (s t : List ℕ) → DifferInIgnored challenge s t → SameCh
 
 -- NEGOTIATE
 pub record SameNegotiate (s t : List ℕ) : Type 0 where
-  pub answer : readNegotiate s ≡ readNegotiate t
+  pub reading : bareNegotiate (readNegotiate s) ≡ bareNegotiate (readNegotiate t)
+  pub whole : SameMaxLen negotiate s t → readNegotiate s ≡ readNegotiate t
   pub domain : (m : Negotiate) → readNegotiate s ≡ NegotiateTaken m → SameBytes s t (m .fields .domain)
   pub workstation : (m : Negotiate) → readNegotiate s ≡ NegotiateTaken m → SameBytes s t (m .fields .workstation)
 
@@ -96,15 +106,24 @@ pub record SameNlAuth (s t : List ℕ) : Type 0 where
 abbrev pub NlAuthIgnored : Type 0
 NlAuthIgnored = (s t : List ℕ) → NlDifferInIgnored s t → SameNlAuth s t
 
--- and the same log line
+-- and the same log line but for its last word, and where MaxLen is the same too, the same line
 abbrev pub AuthenticateLineIgnored : Type 0
-AuthenticateLineIgnored = (s t : List ℕ) → DifferInIgnored authenticate s t → authenticateLine s ≡ authenticateLine t
+AuthenticateLineIgnored =
+    (s t : List ℕ) → DifferInIgnored authenticate s t →
+    AlikeButMax authenticate (IsTakenAuthenticate (readAuthenticate s .reading)) s t (authenticateLine s) (authenticateLine t)
+    × (SameMaxLen authenticate s t → authenticateLine s ≡ authenticateLine t)
 
 abbrev pub NegotiateLineIgnored : Type 0
-NegotiateLineIgnored = (s t : List ℕ) → DifferInIgnored negotiate s t → negotiateLine s ≡ negotiateLine t
+NegotiateLineIgnored =
+    (s t : List ℕ) → DifferInIgnored negotiate s t →
+    AlikeButMax negotiate (IsTakenNegotiate (readNegotiate s)) s t (negotiateLine s) (negotiateLine t)
+    × (SameMaxLen negotiate s t → negotiateLine s ≡ negotiateLine t)
 
 abbrev pub ChallengeLineIgnored : Type 0
-ChallengeLineIgnored = (s t : List ℕ) → DifferInIgnored challenge s t → challengeLine s ≡ challengeLine t
+ChallengeLineIgnored =
+    (s t : List ℕ) → DifferInIgnored challenge s t →
+    AlikeButMax challenge (IsTakenChallenge (readChallenge s .reading)) s t (challengeLine s) (challengeLine t)
+    × (SameMaxLen challenge s t → challengeLine s ≡ challengeLine t)
 
 -- the NTLM program's line, by the kind that it reads the message as
 pub record DifferAsRead (s t : List ℕ) : Type 0 where
@@ -112,8 +131,19 @@ pub record DifferAsRead (s t : List ℕ) : Type 0 where
   pub as-challenge : kindOf s ≡ AsChallenge → DifferInIgnored challenge s t
   pub as-authenticate : kindOf s ≡ AsAuthenticate → DifferInIgnored authenticate s t
 
+pub record NtlmLineAlike (s t : List ℕ) : Type 0 where
+  pub as-negotiate : kindOf s ≡ AsNegotiate →
+      AlikeButMax negotiate (IsTakenNegotiate (readNegotiate s)) s t (ntlmLine s) (ntlmLine t)
+      × (SameMaxLen negotiate s t → ntlmLine s ≡ ntlmLine t)
+  pub as-challenge : kindOf s ≡ AsChallenge →
+      AlikeButMax challenge (IsTakenChallenge (readChallenge s .reading)) s t (ntlmLine s) (ntlmLine t)
+      × (SameMaxLen challenge s t → ntlmLine s ≡ ntlmLine t)
+  pub as-authenticate : kindOf s ≡ AsAuthenticate →
+      AlikeButMax authenticate (IsTakenAuthenticate (readAuthenticate s .reading)) s t (ntlmLine s) (ntlmLine t)
+      × (SameMaxLen authenticate s t → ntlmLine s ≡ ntlmLine t)
+
 abbrev pub NtlmLineIgnored : Type 0
-NtlmLineIgnored = (s t : List ℕ) → DifferAsRead s t → ntlmLine s ≡ ntlmLine t
+NtlmLineIgnored = (s t : List ℕ) → DifferAsRead s t → NtlmLineAlike s t
 
 abbrev pub NlAuthLineIgnored : Type 0
 NlAuthLineIgnored = (s t : List ℕ) → NlDifferInIgnored s t → nlAuthLine s ≡ nlAuthLine t

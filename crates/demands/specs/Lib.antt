@@ -30,3 +30,4 @@ pub mod DnsName
 pub mod StringShown
 pub mod Explained
 pub mod Batch
+pub mod MaxLen

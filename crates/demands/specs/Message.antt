@@ -85,9 +85,12 @@ Set k s mask = FlagSet (u32At s (k .flags)) mask
 abbrev pub Counts : Format → List ℕ → ℕ → Type 0
 Counts k s i = k .Counts (Set k s) i
 
--- a head: Len at its place, the offset four bytes on
+-- a head: Len at its place, MaxLen two bytes on, the offset four
 abbrev pub lenOf : Format → List ℕ → ℕ → ℕ
 lenOf k s i = u16At s (k .head i)
+
+abbrev pub maxLenOf : Format → List ℕ → ℕ → ℕ
+maxLenOf k s i = u16At s (k .head i + 2)
 
 abbrev pub offsetOf : Format → List ℕ → ℕ → ℕ
 offsetOf k s i = u32At s (k .head i + 4)
@@ -137,7 +140,11 @@ pub data Ignored (k : Format) (s : List ℕ) (p : ℕ) : Type 0 where
   -- Version, padding, and the place of a MIC that isn't there: what neither a counted field nor a MIC covers
   uncovered : k .fixed ≤ p → ((i : ℕ) → Nonempty k s i → Covers k s i p → ⊥) → (MicThere k s → 72 ≤ p → p < 88 → ⊥) → Ignored k s p
 
--- two messages of one length that differ only in ignored bytes
+-- two messages of one length that differ only in ignored bytes, MaxLen among them
 pub record DifferInIgnored (k : Format) (s t : List ℕ) : Type 0 where
   pub length-same : length s ≡ length t
   pub bytes-same : (p : ℕ) → (getD s p 0 ≡ getD t p 0) ⊎ Ignored k s p
+
+-- and of these, two that have the same MaxLen at each field that counts
+abbrev pub SameMaxLen : Format → List ℕ → List ℕ → Type 0
+SameMaxLen k s t = (i : ℕ) → 1 ≤ i → i ≤ k .last → Counts k s i → maxLenOf k s i ≡ maxLenOf k t i

@@ -33,17 +33,19 @@ use Rattle.nl_auth.specs.declared.string.NlString.{NlString}
 use Rattle.nl_auth.specs.NlAuth.{noString, stringBytes, labelsOf, readNlAuth}
 use Rattle.dns_name.specs.Rfc1035.{NameAt}
 use Rattle.demands.specs.NlAuth.{typeOf, maskOf, BitSet, ZeroAt, StartsAt}
-use Rattle.demands.specs.Message.{Format, negotiate, authenticate, challenge, lenOf, offsetOf, Nonempty, MicThere}
+use Rattle.demands.specs.Message.{Format, negotiate, authenticate, challenge, lenOf, maxLenOf, offsetOf, Counts, Nonempty, MicThere}
 use Rattle.demands.specs.PairList.{sizeOf, FirstWith, PairThere}
 use Rattle.demands.specs.TakenExactly.{InfoBytes}
 
 -- field i of s is handed out as f: the Len bytes from its offset on and nothing else; a field that is empty or doesn't
--- count has none, and place 0
+-- count has none, and place 0. Its MaxLen is its head's, "which is 0 where the field doesn't count" (document 02, 9/12)
 pub record OwnField (k : Format) (s : List ℕ) (i : ℕ) (f : Field) : Type 0 where
   pub place : Nonempty k s i → (f .offset ≡ offsetOf k s i) × (f .len ≡ lenOf k s i)
   pub whole : Nonempty k s i → offsetOf k s i + lenOf k s i ≤ length s
   pub bytes : Nonempty k s i → fieldBytes s f ≡ take (lenOf k s i) (drop (offsetOf k s i) s)
   pub none : (Nonempty k s i → ⊥) → (f .offset ≡ 0) × (f .len ≡ 0) × (fieldBytes s f ≡ [])
+  pub max-len : Counts k s i → f .«max_len» ≡ maxLenOf k s i
+  pub no-max-len : (Counts k s i → ⊥) → f .«max_len» ≡ 0
 
 -- what a taken AUTHENTICATE message is answered with
 pub record OwnAnswer (s : List ℕ) (a : Authenticate) : Type 0 where

@@ -32,7 +32,11 @@ fn negotiate_head(msg: &[u8], field: u8) -> Field
     if field == 2 {
         return field_at(msg, 24, flags_at(msg, 12).oem_workstation_supplied());
     }
-    Field { offset: 0, len: 0 }
+    Field {
+        offset: 0,
+        len: 0,
+        max_len: 0,
+    }
 }
 
 fn challenge_head(msg: &[u8], field: u8) -> Field
@@ -45,7 +49,11 @@ fn challenge_head(msg: &[u8], field: u8) -> Field
     if field == 2 {
         return field_at(msg, 40, flags_at(msg, 20).target_info());
     }
-    Field { offset: 0, len: 0 }
+    Field {
+        offset: 0,
+        len: 0,
+        max_len: 0,
+    }
 }
 
 fn authenticate_head(msg: &[u8], field: u8) -> Field
@@ -70,7 +78,11 @@ fn authenticate_head(msg: &[u8], field: u8) -> Field
     if field == 6 {
         return field_at(msg, 52, flags_at(msg, 60).key_exch());
     }
-    Field { offset: 0, len: 0 }
+    Field {
+        offset: 0,
+        len: 0,
+        max_len: 0,
+    }
 }
 
 // ---- the figures
@@ -121,7 +133,11 @@ fn no_figures() -> Figures
     Figures {
         number: 0,
         field: 0,
-        head: Field { offset: 0, len: 0 },
+        head: Field {
+            offset: 0,
+            len: 0,
+            max_len: 0,
+        },
         message: 0,
         at: 0,
         id: 0,

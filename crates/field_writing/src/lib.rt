@@ -15,6 +15,7 @@ pub fn field_to(offset: usize, len: usize) -> Field
     Field {
         offset: offset as u32,
         len: len as u16,
+        max_len: len as u16,
     }
 }
 

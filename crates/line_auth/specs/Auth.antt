@@ -1,4 +1,4 @@
--- The line of AUTHENTICATE: auth flags=H set=S domain=N user=N work=N lm=D nt=D key=D mic=B kind=K
+-- The line of AUTHENTICATE: auth flags=H set=S domain=N user=N work=N lm=D nt=D key=D mic=B kind=K max=BBBBBB
 use Prim.Native.Nat.{ℕ}
 use mathlib.Core.Bool.{Bool}
 use mathlib.Core.List.{List, _++_}
@@ -7,7 +7,10 @@ use Rattle.field.specs.declared.Field.{Field}
 use Rattle.field.specs.Field.{fieldBytes}
 use Rattle.negotiate_flags.specs.Flags.{unicode}
 use Rattle.authenticate.specs.declared.Authenticate.{Authenticate}
-use Rattle.word.specs.Words.{numberWord, nameWord, startText, micWord, kindWord, lineEnd}
+use Rattle.authenticate.specs.declared.Fields.{Fields}
+use Rattle.authenticate.specs.Authenticate.{allFields}
+use Rattle.line_max.specs.Max.{maxEnd}
+use Rattle.word.specs.Words.{numberWord, nameWord, startText, micWord, kindWord}
 
 -- the names, in units of 16 bits with UNICODE
 unfoldable pub authNames : Bool → List ℕ → Field → Field → Field → List ℕ
@@ -23,12 +26,12 @@ authLengths lm nt key =
     numberWord (ascii " nt=") nt ++
     numberWord (ascii " key=") key)
 
-unfoldable pub authEnd : Bool → ℕ → List ℕ
-authEnd mic nt = micWord mic ++ (kindWord nt ++ lineEnd)
+unfoldable pub authEnd : Bool → Fields → List ℕ
+authEnd mic f = micWord mic ++ (kindWord (f .nt .len) ++ maxEnd (allFields f))
 
 unfoldable pub authText : List ℕ → Authenticate → List ℕ
 authText s a =
     startText (ascii "auth") (a .flags) (unicode (a .flags)) ++ (
     authNames (unicode (a .flags)) s (a .fields .domain) (a .fields .user) (a .fields .workstation) ++ (
     authLengths (a .fields .lm .len) (a .fields .nt .len) (a .fields .key .len) ++
-    authEnd (a .«mic_present») (a .fields .nt .len)))
+    authEnd (a .«mic_present») (a .fields)))

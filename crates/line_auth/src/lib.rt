@@ -10,7 +10,9 @@ ghost use Rattle.place.specs.Written.{roomHolds, bytesAnswer, bytesAfter};
 ghost use Rattle.word.specs.Words.{Room, micWord, kindWord};
 ghost use Rattle.line_auth.specs.Auth.{authNames, authLengths, authEnd, authText};
 use authenticate::Authenticate;
+use authenticate::Fields;
 use field::Field;
+use line_max::put_six;
 use place::Place;
 use place::written::Written;
 use place::written::room_holds;
@@ -56,8 +58,8 @@ fn kind_size(nt: u16) -> usize
     8
 }
 
-// Check 33, by what the names and the lengths leave of the room: 25 for the start, 6 for the MIC's word, the kind's word and 1
-// for the line's end.
+// Check 33, by what the names and the lengths leave of the room: 25 for the start, 6 for the MIC's word, the kind's word and
+// 12 for the last word and the line's end.
 fn fits(msg: &[u8], a: Authenticate, room: usize) -> Checked
     ensures { λ r. ⌜ r ≡ roomHolds (length (authText (now (msg .entry)) a)) room ⌝ }
 {
@@ -65,7 +67,7 @@ fn fits(msg: &[u8], a: Authenticate, room: usize) -> Checked
     let unicode = a.flags.unicode();
     let left = room_after_names(room, msg, f.domain, f.user, f.workstation, unicode);
     let left = room_after_lengths(left, f.lm.len, f.nt.len, f.key.len);
-    room_holds(25 + 6 + kind_size(f.nt.len) + 1, left)
+    room_holds(25 + 6 + kind_size(f.nt.len) + 12, left)
 }
 
 fn put_names(
@@ -117,13 +119,13 @@ fn put_kind(p: Place, out: &mut [u8], nt: u16) -> Place
     p.put_bytes(out, b" kind=v2")
 }
 
-fn put_end(p: Place, out: &mut [u8], mic: bool, nt: u16) -> Place
-    requires { ⌜ Room (p .at) (authEnd mic nt) (length (now out)) ⌝ }
-    ensures { λ r. ⌜ Wrote (now (out .entry)) (now (out .exit)) (p .at) (r .at) (authEnd mic nt) ⌝ }
+fn put_end(p: Place, out: &mut [u8], mic: bool, f: Fields) -> Place
+    requires { ⌜ Room (p .at) (authEnd mic f) (length (now out)) ⌝ }
+    ensures { λ r. ⌜ Wrote (now (out .entry)) (now (out .exit)) (p .at) (r .at) (authEnd mic f) ⌝ }
 {
     let p = put_mic(p, out, mic);
-    let p = put_kind(p, out, nt);
-    p.put_u8(out, b'\n')
+    let p = put_kind(p, out, f.nt.len);
+    put_six(p, out, f.lm, f.nt, f.domain, f.user, f.workstation, f.key)
 }
 
 fn put(out: &mut [u8], msg: &[u8], a: Authenticate, wide: bool) -> Place
@@ -135,7 +137,7 @@ fn put(out: &mut [u8], msg: &[u8], a: Authenticate, wide: bool) -> Place
     let p = put_start(out, b"auth", a.flags, wide);
     let p = put_names(p, out, msg, f.domain, f.user, f.workstation, wide);
     let p = put_lengths(p, out, f.lm.len, f.nt.len, f.key.len);
-    put_end(p, out, a.mic_present, f.nt.len)
+    put_end(p, out, a.mic_present, f)
 }
 
 // The line of `a`, which was read from the message: a record that wasn't could show a secret's bytes as a name's.

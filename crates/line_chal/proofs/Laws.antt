@@ -25,6 +25,7 @@ use Rattle.target_info.specs.declared.Timestamp.{Timestamp}
 use Rattle.target_info.specs.declared.Timestamp.the-variants.{Time, Nothing as NoTime}
 use Rattle.target_info.specs.TargetInfo.{timestampIn}
 use Rattle.wire.specs.declared.check.Checked.{Checked}
+use Rattle.line_max.proofs.Laws.{two-size}
 use Rattle.line_refused.specs.Refused.{refusedLine}
 use Rattle.place.specs.Written.{roomHolds}
 use Rattle.word.specs.Words.{Room, numberWord, nameWord}
@@ -73,11 +74,11 @@ module _ (unicode : Bool) (s : List ℕ) (c : Challenge) (pairs : ℕ) (time : T
   target = nameWord (ascii " target=") unicode (fieldBytes s (c .fields .«target_name»))
 
   pub chal-fits : (room n p t : ℕ) (r : Checked) → n ≡ room - length target → p ≡ n - length (numberWord (ascii " pairs=") pairs) →
-      t ≡ length (timeWord time) → r ≡ roomHolds (25 + t + 1) p → r ≡ roomHolds (length (chalWords unicode s c pairs time)) room
+      t ≡ length (timeWord time) → r ≡ roomHolds (25 + t + 8) p → r ≡ roomHolds (length (chalWords unicode s c pairs time)) room
   unfolding chalWords chalEnd
   chal-fits room n p t r e f g h =
-      of-left (chalWords unicode s c pairs time) (length target + length (numberWord (ascii " pairs=") pairs)) (25 + t + 1) room p r
-      (simp (length-append, start-size) (omega arith)) (omega arith) (omega arith) h
+      of-left (chalWords unicode s c pairs time) (length target + length (numberWord (ascii " pairs=") pairs)) (25 + t + 8) room p r
+      (simp (length-append, start-size, two-size) (omega arith)) (omega arith) (omega arith) h
 
 -- ---- the list: its count and its timestamp, or its refusal
 

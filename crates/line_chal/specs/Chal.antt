@@ -1,4 +1,4 @@
--- The line of CHALLENGE: chal flags=H set=S target=N pairs=D time=T
+-- The line of CHALLENGE: chal flags=H set=S target=N pairs=D time=T max=BB
 use Prim.Native.Nat.{ℕ}
 use mathlib.Core.Bool.{Bool}
 use mathlib.Core.List.{List, [], _++_}
@@ -9,13 +9,15 @@ use Rattle.wire.specs.Check.{onClear}
 use Rattle.negotiate_flags.specs.Flags.{unicode}
 use Rattle.av_pairs.specs.AvPairs.{pairsOf}
 use Rattle.challenge.specs.declared.Challenge.{Challenge}
-use Rattle.challenge.specs.Challenge.{infoOf, checkInfo}
+use Rattle.challenge.specs.declared.Fields.{Fields}
+use Rattle.challenge.specs.Challenge.{allFields, infoOf, checkInfo}
 use Rattle.target_info.specs.declared.Timestamp.{Timestamp}
 use Rattle.target_info.specs.declared.Timestamp.the-variants.{Time, Nothing}
 use Rattle.target_info.specs.TargetInfo.{timestampIn}
+use Rattle.line_max.specs.Max.{maxEnd}
 use Rattle.line_refused.specs.Refused.{refusedLine}
 use Rattle.word.specs.Digits.{hex}
-use Rattle.word.specs.Words.{numberWord, nameWord, startText, lineEnd}
+use Rattle.word.specs.Words.{numberWord, nameWord, startText}
 
 -- T
 unfoldable pub timeText : ℕ → List ℕ
@@ -26,15 +28,15 @@ unfoldable pub timeWord : Timestamp → List ℕ
 timeWord (Time t) = timeText t
 timeWord Nothing = []
 
-unfoldable pub chalEnd : ℕ → Timestamp → List ℕ
-chalEnd pairs time = numberWord (ascii " pairs=") pairs ++ (timeWord time ++ lineEnd)
+unfoldable pub chalEnd : ℕ → Timestamp → Fields → List ℕ
+chalEnd pairs time f = numberWord (ascii " pairs=") pairs ++ (timeWord time ++ maxEnd (allFields f))
 
 -- the words
 unfoldable pub chalWords : Bool → List ℕ → Challenge → ℕ → Timestamp → List ℕ
 chalWords unicode s c pairs time =
     startText (ascii "chal") (c .flags) unicode ++ (
     nameWord (ascii " target=") unicode (fieldBytes s (c .fields .«target_name»)) ++
-    chalEnd pairs time)
+    chalEnd pairs time (c .fields))
 
 -- the line of c, read from s: the words with the count and the timestamp of its list, or the line of the list's refusal
 unfoldable pub chalText : List ℕ → Challenge → List ℕ

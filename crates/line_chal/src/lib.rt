@@ -11,6 +11,8 @@ ghost use Rattle.line_chal.specs.Chal.{timeText, timeWord, chalEnd, chal
 use av_pairs::Count;
 use av_pairs::count_pairs;
 use challenge::Challenge;
+use challenge::Fields;
+use line_max::put_two;
 use place::Place;
 use place::written::Written;
 use place::written::room_holds;
@@ -34,7 +36,8 @@ fn time_size(time: Timestamp) -> usize
     22
 }
 
-// Check 33, by what the name and the count leave of the room: 25 for the start, the time's word and 1 for the line's end.
+// Check 33, by what the name and the count leave of the room: 25 for the start, the time's word and 8 for
+// the last word and the line's end.
 fn fits(
     msg: &[u8],
     c: Challenge,
@@ -47,7 +50,7 @@ fn fits(
 {
     let left = room_after_name_word(room, b" target=", msg, c.fields.target_name, unicode);
     let left = room_after_number_word(left, b" pairs=", pairs);
-    room_holds(25 + time_size(time) + 1, left)
+    room_holds(25 + time_size(time) + 8, left)
 }
 
 fn put_time_text(p: Place, out: &mut [u8], t: u64) -> Place
@@ -70,13 +73,13 @@ fn put_time(p: Place, out: &mut [u8], time: Timestamp) -> Place
     put_time_text(p, out, t)
 }
 
-fn put_end(p: Place, out: &mut [u8], pairs: u32, time: Timestamp) -> Place
-    requires { ⌜ Room (p .at) (chalEnd pairs time) (length (now out)) ⌝ }
-    ensures { λ r. ⌜ Wrote (now (out .entry)) (now (out .exit)) (p .at) (r .at) (chalEnd pairs time) ⌝ }
+fn put_end(p: Place, out: &mut [u8], pairs: u32, time: Timestamp, f: Fields) -> Place
+    requires { ⌜ Room (p .at) (chalEnd pairs time f) (length (now out)) ⌝ }
+    ensures { λ r. ⌜ Wrote (now (out .entry)) (now (out .exit)) (p .at) (r .at) (chalEnd pairs time f) ⌝ }
 {
     let p = put_number_word(p, out, b" pairs=", pairs);
     let p = put_time(p, out, time);
-    p.put_u8(out, b'\n')
+    put_two(p, out, f.target_name, f.target_info)
 }
 
 fn put(
@@ -92,7 +95,7 @@ fn put(
 {
     let p = put_start(out, b"chal", c.flags, unicode);
     let p = put_name_word(p, out, b" target=", msg, c.fields.target_name, unicode);
-    put_end(p, out, pairs, time)
+    put_end(p, out, pairs, time, c.fields)
 }
 
 fn write_words(

@@ -1,11 +1,13 @@
--- The line of NEGOTIATE: nego flags=H domain=N work=N
+-- The line of NEGOTIATE: nego flags=H domain=N work=N max=BB
 use Prim.Native.Nat.{ℕ}
 use mathlib.Core.Bool.{false}
 use mathlib.Core.List.{List, _++_}
 use Rattle.text.specs.Text.{ascii}
 use Rattle.field.specs.Field.{fieldBytes}
 use Rattle.negotiate.specs.declared.Negotiate.{Negotiate}
-use Rattle.word.specs.Words.{nameWord, flagsWord, lineEnd}
+use Rattle.negotiate.specs.Negotiate.{allFields}
+use Rattle.line_max.specs.Max.{maxEnd}
+use Rattle.word.specs.Words.{nameWord, flagsWord}
 
 -- both names: their units are bytes, also where UNICODE is set
 unfoldable pub negoNames : List ℕ → Negotiate → List ℕ
@@ -14,4 +16,4 @@ negoNames s m =
     nameWord (ascii " work=") false (fieldBytes s (m .fields .workstation))
 
 unfoldable pub negoText : List ℕ → Negotiate → List ℕ
-negoText s m = ascii "nego" ++ (flagsWord (m .flags .bits) ++ (negoNames s m ++ lineEnd))
+negoText s m = ascii "nego" ++ (flagsWord (m .flags .bits) ++ (negoNames s m ++ maxEnd (allFields (m .fields))))

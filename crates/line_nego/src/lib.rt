@@ -8,6 +8,7 @@ ghost use Rattle.word.specs.Words.{Room};
 ghost use Rattle.negotiate.specs.declared.Reading.the-variants.{Taken};
 ghost use Rattle.negotiate.specs.Negotiate.{readNegotiate};
 ghost use Rattle.line_nego.specs.Nego.{negoNames, negoText};
+use line_max::put_two;
 use negotiate::Negotiate;
 use place::Place;
 use place::written::Written;
@@ -27,11 +28,11 @@ fn room_after_names(room: usize, msg: &[u8], m: Negotiate) -> usize
     room_after_name_word(left, b" work=", msg, f.workstation, false)
 }
 
-// Check 33, by what the names leave of the room: 19 for the start and 1 for the line's end.
+// Check 33, by what the names leave of the room: 19 for the start and 8 for the last word and the line's end.
 fn fits(msg: &[u8], m: Negotiate, room: usize) -> Checked
     ensures { λ r. ⌜ r ≡ roomHolds (length (negoText (now (msg .entry)) m)) room ⌝ }
 {
-    room_holds(19 + 1, room_after_names(room, msg, m))
+    room_holds(19 + 8, room_after_names(room, msg, m))
 }
 
 fn put_names(p: Place, out: &mut [u8], msg: &[u8], m: Negotiate) -> Place
@@ -50,7 +51,7 @@ fn put(out: &mut [u8], msg: &[u8], m: Negotiate) -> Place
     let p = Place { at: 0 }.put_bytes(out, b"nego");
     let p = put_flags_word(p, out, m.flags.bits);
     let p = put_names(p, out, msg, m);
-    p.put_u8(out, b'\n')
+    put_two(p, out, m.fields.domain, m.fields.workstation)
 }
 
 // The line of `m`, which was read from the message.

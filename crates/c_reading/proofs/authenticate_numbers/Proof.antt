@@ -2,13 +2,10 @@
 use borrow.Author.Needs.{needs}
 use Rattle.c_reading.proofs.authenticate_numbers.Statement.{statement}
 use Rattle.c_reading.proofs.authenticate_numbers.Tie as tie
-use Rattle.c_reading.specs.Numbers.{authenticateNumbers}
+use Rattle.c_reading.proofs.Laws.{auth-numbers}
 
 pub authenticate-numbers-spec : {M : Type 1} → statement M
-unfolding authenticateNumbers
 authenticate-numbers-spec =
     tie.close
     (tie.spec
-    (λ c. search needs) (λ c κs. search needs) (λ c κs. search needs) (λ c κs. search needs) (λ c κs. search needs)
-    (λ c κs. search needs) (λ c κs. search needs) (λ c κs. search needs) (λ c κs. search needs) (λ c κs. search needs)
-    (λ c κs. search needs) (λ c κs. search needs) (λ c κs. search needs) (λ c κs. search needs) (λ c. cc))
+    (λ c. search needs) (λ c κs. search needs) (λ c κs. search needs) (λ c κs. search needs) (λ c κs. search needs) (λ c κs. search needs) (λ c κs. search needs) (λ c κs. search needs) (λ c κs. search needs) (λ c κs. search needs) (λ c κs. search needs) (λ c κs. search needs) (λ c κs. search needs) (λ c κs. search needs) (λ c κs. search needs) (λ c κs. search needs) (λ c κs. search needs) (λ c κs. search needs) (λ c κs. search needs) (λ c κs. search needs) (λ c. search auth-numbers))

@@ -30,6 +30,7 @@ use Rattle.word.proofs.Names.{name-bound, field-small}
 use Rattle.line_auth.specs.Auth.{authNames, authLengths, authEnd, authText}
 use Rattle.line_chal.specs.Chal.{timeWord, chalEnd, chalWords}
 use Rattle.line_chal.proofs.Laws.{time-size}
+use Rattle.line_max.proofs.Laws.{two-size, six-size}
 use Rattle.line_nego.specs.Nego.{negoNames, negoText}
 use Rattle.line_nl.specs.Nl.{nlStart, nlOem, nlUtf8, nlText}
 
@@ -63,11 +64,11 @@ kind-bound nt = go (eqb nt 0) (eqb nt 24) where
   go false false = omega arith
 
 pub auth-bound : (s : List ℕ) (a : Authenticate) →
-    length (authText s a) ≤ 62 + length (authLengths (a .fields .lm .len) (a .fields .nt .len) (a .fields .key .len))
+    length (authText s a) ≤ 73 + length (authLengths (a .fields .lm .len) (a .fields .nt .len) (a .fields .key .len))
     + 4 * (a .fields .domain .len + a .fields .user .len + a .fields .workstation .len)
 unfolding authText authNames authEnd
 auth-bound s a =
-    simp (length-append, start-size, mic-size)
+    simp (length-append, start-size, mic-size, six-size)
     (omega (
       arith,
       kind-bound (a .fields .nt .len),
@@ -76,10 +77,10 @@ auth-bound s a =
       word-bound (ascii " work=") s (unicode (a .flags)) (a .fields .workstation),
     ))
 
-pub nego-bound : (s : List ℕ) (m : Negotiate) → length (negoText s m) ≤ 34 + 4 * (m .fields .domain .len + m .fields .workstation .len)
+pub nego-bound : (s : List ℕ) (m : Negotiate) → length (negoText s m) ≤ 41 + 4 * (m .fields .domain .len + m .fields .workstation .len)
 unfolding negoText negoNames
 nego-bound s m =
-    simp (length-append, flags-word-size)
+    simp (length-append, flags-word-size, two-size)
     (omega (arith, word-bound (ascii " domain=") s false (m .fields .domain), word-bound (ascii " work=") s false (m .fields .workstation)))
 
 time-bound : (w : Timestamp) → length (timeWord w) ≤ 22
@@ -88,10 +89,10 @@ time-bound (Time t) = omega (arith, time-size (Time t) t refl)
 time-bound NoTime = omega arith
 
 pub chal-bound : (unicode : Bool) (s : List ℕ) (c : Challenge) (pairs : ℕ) (time : Timestamp) →
-    length (chalWords unicode s c pairs time) ≤ 56 + length (numberWord (ascii " pairs=") pairs) + 4 * c .fields .«target_name» .len
+    length (chalWords unicode s c pairs time) ≤ 63 + length (numberWord (ascii " pairs=") pairs) + 4 * c .fields .«target_name» .len
 unfolding chalWords chalEnd
 chal-bound unicode s c pairs time =
-    simp (length-append, start-size)
+    simp (length-append, start-size, two-size)
     (omega (arith, time-bound time, word-bound (ascii " target=") s unicode (c .fields .«target_name»)))
 
 pub nl-bound : (s : List ℕ) (m : NlAuth) →

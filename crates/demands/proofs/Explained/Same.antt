@@ -2,8 +2,8 @@
 use Prim.Native.Nat.{ℕ, _+_, _≤_, _<_}
 use mathlib.Core.Path.{_≡_, refl, sym, ap, _∙_}
 use mathlib.Core.Logic.{inl, inr}
-use mathlib.Core.Bool.{Bool, true, false, _&&_, not}
-use mathlib.Core.List.{List}
+use mathlib.Core.Bool.{Bool, true, false, _&&_, not, cond}
+use mathlib.Core.List.{List, [], _∷_, _++_}
 use native.Mathlib.Nat.{add-zero}
 use native.Mathlib.Omega.{arith}
 use lib.Dec.{leb, eqb}
@@ -21,17 +21,27 @@ use Rattle.place.specs.Written.{bytesAnswer, bytesAfter}
 use Rattle.head.specs.declared.Kind.{Kind}
 use Rattle.head.specs.declared.Kind.the-variants.{Negotiate, Challenge, Authenticate}
 use Rattle.head.specs.Head.{flagsAt, kindOf}
+use Rattle.negotiate.specs.declared.Reading.{Reading as NegoReading}
+use Rattle.negotiate.specs.declared.Reading.the-variants.{Taken as NegoTaken, Refused as NegoRefused}
+use Rattle.negotiate.specs.Negotiate.{readNegotiate}
 use Rattle.negotiate.specs.Negotiate as N
-use Rattle.challenge.specs.declared.Answer.{Answer as ChalAnswer}
+use Rattle.challenge.specs.declared.Reading.{Reading as ChalReading}
+use Rattle.challenge.specs.declared.Reading.the-variants.{Taken as ChalTaken, Refused as ChalRefused}
+use Rattle.challenge.specs.Challenge.{readChallenge}
 use Rattle.challenge.specs.Challenge as C
-use Rattle.authenticate.specs.declared.Answer.{Answer as AuthAnswer}
+use Rattle.authenticate.specs.declared.Fields.{Fields as AuthFields}
+use Rattle.authenticate.specs.declared.Reading.{Reading as AuthReading}
+use Rattle.authenticate.specs.declared.Reading.the-variants.{Taken as AuthTaken, Refused as AuthRefused}
+use Rattle.authenticate.specs.Authenticate.{readAuthenticate}
 use Rattle.authenticate.specs.Authenticate as A
 use Rattle.line_checks.specs.declared.Figures.{Figures as Given}
-use Rattle.line_checks.specs.Checks.{checkLines}
+use Rattle.line_checks.specs.Checks.{pairText, pairWords, messageWords, figureWords, failedWords, wordsOf, lineOf, linesFrom, checkLines}
 use Rattle.explain.specs.Explain.{checksOf, readAs, fieldsOf, numbered, hasPair, figuresOf, figuresOn, figuresAs, explainedAs, explanation, negoVerdict, chalVerdict, authVerdict}
+use Rattle.demands.specs.MaxLen.{bareNegotiate, bareChallenge, bareAuthenticate}
 use Rattle.demands.specs.Message.{negotiate, authenticate, challenge, lenOf, offsetOf, Nonempty, DifferInIgnored}
 use Rattle.demands.specs.Secret.{DifferInSecrets}
 use Rattle.demands.specs.Explained.{FailsAt, at-field, at-pair, Before, ExplainedIgnored, SecretExplained}
+use Rattle.demands.proofs.MaxLen.{kept, keptFields, keptChallengeFields, keptNegotiateFields, bare-only}
 use Rattle.demands.proofs.Message.Unchanged.{looked, flags-same}
 use Rattle.demands.proofs.TakenExactly.Negotiate.{negotiate-ignored, negotiate-seen, fields-same as nego-fields}
 use Rattle.demands.proofs.Ignored.ChallengeIgnored.{challenge-ignored, seen as challenge-seen, fields-same as chal-fields}
@@ -42,16 +52,44 @@ use Rattle.demands.proofs.Ignored.LineIgnored.{kind-same}
 use Rattle.demands.proofs.Explained.{refused-as, OfPair, by-pair, pair-inside}
 use Rattle.demands.proofs.Explained.Reasons.{Why, why, up-to-9, info-counts, not-negotiate, not-authenticate}
 
--- the figures of one refusal are the same where the heads are, and the numbers of its pair
-figures-same : (s t : List ℕ) (fs gs : List (ℕ × Field)) (v : Verdict) → length s ≡ length t → fs ≡ gs →
+-- a print without the MaxLen of the head that it tells
+abbrev bareFigures : Given → Given
+bareFigures g =
+    record { number = g .number; field = g .field; head = kept false (g .head); message = g .message; at = g .at; id = g .id; size = g .size }
+
+lines-bare : (reached : Bool) (g : Given) (checks : List ℕ) → linesFrom reached g checks ≡ linesFrom reached (bareFigures g) checks
+unfolding kept lineOf wordsOf failedWords figureWords messageWords pairWords pairText
+lines-bare reached g [] = refl
+lines-bare reached g (n ∷ ns) = ap (λ (l : List ℕ). lineOf reached g n ++ l) (lines-bare (reached && not (eqb n (g .number))) g ns)
+
+-- heads by number, without MaxLen
+abbrev bareHeads : List (ℕ × Field) → List (ℕ × Field)
+bareHeads [] = []
+bareHeads (f ∷ fs) = (f .0, kept false (f .1)) ∷ bareHeads fs
+
+numbered-bare : (i : ℕ) (fs : List (ℕ × Field)) → kept false (numbered i fs) ≡ numbered i (bareHeads fs)
+unfolding kept
+numbered-bare i [] = refl
+numbered-bare i (f ∷ fs) = go (eqb i (f .0)) (numbered-bare i fs) where
+  go : (b : Bool) → kept false (numbered i fs) ≡ numbered i (bareHeads fs) →
+      kept false (cond b (f .1) (numbered i fs)) ≡ cond b (kept false (f .1)) (numbered i (bareHeads fs))
+  go true p = refl
+  go false p = p
+
+-- the figures of one refusal are the same where the heads are, MaxLen apart, and the numbers of its pair
+figures-same : (s t : List ℕ) (fs gs : List (ℕ × Field)) (v : Verdict) → length s ≡ length t → bareHeads fs ≡ bareHeads gs →
     ((e : Refusal) → v ≡ Not e → hasPair (numberOf e) ≡ true → (u16At s (placeOf e) ≡ u16At t (placeOf e)) × (u16At s (placeOf e + 2) ≡ u16At t (placeOf e + 2))) →
-    figuresOn s fs v ≡ figuresOn t gs v
+    bareFigures (figuresOn s fs v) ≡ bareFigures (figuresOn t gs v)
 unfolding figuresOf
 figures-same s t fs gs Clear l f h = refl
 figures-same s t fs gs (Not e) l f h = go (hasPair (numberOf e)) refl where
-  go : (b : Bool) → hasPair (numberOf e) ≡ b → figuresOf s (numbered (fieldOf e) fs) e ≡ figuresOf t (numbered (fieldOf e) gs) e
-  go true p = let x = h e refl p in simp (l, f, x .0, x .1)
-  go false p = simp (l, f, p)
+  head : kept false (numbered (fieldOf e) fs) ≡ kept false (numbered (fieldOf e) gs)
+  head = numbered-bare (fieldOf e) fs ∙ ap (numbered (fieldOf e)) f ∙ sym (numbered-bare (fieldOf e) gs)
+
+  go : (b : Bool) → hasPair (numberOf e) ≡ b →
+      bareFigures (figuresOf s (numbered (fieldOf e) fs) e) ≡ bareFigures (figuresOf t (numbered (fieldOf e) gs) e)
+  go true p = let x = h e refl p in simp (l, head, x .0, x .1)
+  go false p = simp (l, head, p)
 
 -- ---- the pair of a refusal
 
@@ -107,18 +145,20 @@ module _ (s t : List ℕ) (d : DifferInIgnored challenge s t) (e : Refusal) (h :
 
 -- ---- the print
 
-print-same : (k : Kind) (s t : List ℕ) → length s ≡ length t → readAs k s ≡ readAs k t → fieldsOf k s ≡ fieldsOf k t →
+print-same : (k : Kind) (s t : List ℕ) → length s ≡ length t → readAs k s ≡ readAs k t → bareHeads (fieldsOf k s) ≡ bareHeads (fieldsOf k t) →
     ((e : Refusal) → readAs k s ≡ Not e → hasPair (numberOf e) ≡ true → (u16At s (placeOf e) ≡ u16At t (placeOf e)) × (u16At s (placeOf e + 2) ≡ u16At t (placeOf e + 2))) →
     explainedAs k s ≡ explainedAs k t
-unfolding explainedAs figuresAs
+unfolding explainedAs figuresAs checkLines
 print-same k s t l v f h =
-    ap (λ (g : Given). checkLines g (checksOf k))
-    (figures-same s t (fieldsOf k s) (fieldsOf k t) (readAs k s) l f h ∙ ap (λ (x : Verdict). figuresOn t (fieldsOf k t) x) v)
+    lines-bare true (figuresAs k s) (checksOf k)
+    ∙ ap (λ (g : Given). linesFrom true g (checksOf k))
+    (figures-same s t (fieldsOf k s) (fieldsOf k t) (readAs k s) l f h ∙ ap (λ (x : Verdict). bareFigures (figuresOn t (fieldsOf k t) x)) v)
+    ∙ sym (lines-bare true (figuresAs k t) (checksOf k))
 
 secret-print : (s t : List ℕ) → DifferInSecrets s t → explainedAs Authenticate s ≡ explainedAs Authenticate t
 secret-print s t d =
     print-same Authenticate s t (d .length-same) (ap authVerdict (secret-read s t d .reading))
-    (ap A.allFields (secret-fields s t d (flagsAt s 60) ∙ ap (λ (w : NegotiateFlags). A.fieldsAt t w) (secret-flags s t d)))
+    (ap (λ (f : AuthFields). bareHeads (A.allFields f)) (secret-fields s t d (flagsAt s 60) ∙ ap (λ (w : NegotiateFlags). A.fieldsAt t w) (secret-flags s t d)))
     (λ e h p. absurd (no-pair Authenticate s not-authenticate e h p))
 
 pub secret-explained : SecretExplained
@@ -133,22 +173,35 @@ secret-explained s t d e =
       output = λ out. ap (λ (l : List ℕ). bytesAfter l out) same;
     }
 
+-- a reading's verdict doesn't go by MaxLen
+nego-verdict : (r : NegoReading) → negoVerdict r ≡ negoVerdict (bareNegotiate r)
+nego-verdict (NegoTaken m) = refl
+nego-verdict (NegoRefused e) = refl
+
+auth-verdict : (r : AuthReading) → authVerdict r ≡ authVerdict (bareAuthenticate r)
+auth-verdict (AuthTaken a) = refl
+auth-verdict (AuthRefused e) = refl
+
+chal-verdict : (r : ChalReading) → chalVerdict r ≡ chalVerdict (bareChallenge r)
+chal-verdict (ChalTaken c) = refl
+chal-verdict (ChalRefused e) = refl
+
 negotiate-print : (s t : List ℕ) → DifferInIgnored negotiate s t → explainedAs Negotiate s ≡ explainedAs Negotiate t
 negotiate-print s t d =
-    print-same Negotiate s t (d .length-same) (ap negoVerdict (negotiate-ignored s t d .answer))
-    (ap N.allFields (nego-fields s t d ∙ ap (λ (w : NegotiateFlags). N.fieldsAt t w) (flags-same negotiate s t (negotiate-seen s) d)))
+    print-same Negotiate s t (d .length-same) (nego-verdict (readNegotiate s) ∙ ap negoVerdict (negotiate-ignored s t d .reading) ∙ sym (nego-verdict (readNegotiate t)))
+    (ap N.allFields (nego-fields s t d false bare-only ∙ ap (λ (w : NegotiateFlags). keptNegotiateFields false (N.fieldsAt t w)) (flags-same negotiate s t (negotiate-seen s) d)))
     (λ e h p. absurd (no-pair Negotiate s not-negotiate e h p))
 
 authenticate-print : (s t : List ℕ) → DifferInIgnored authenticate s t → explainedAs Authenticate s ≡ explainedAs Authenticate t
 authenticate-print s t d =
-    print-same Authenticate s t (d .length-same) (ap (λ (x : AuthAnswer). authVerdict (x .reading)) (authenticate-ignored s t d .answer))
-    (ap A.allFields (auth-fields s t d ∙ ap (λ (w : NegotiateFlags). A.fieldsAt t w) (flags-same authenticate s t (authenticate-seen s) d)))
+    print-same Authenticate s t (d .length-same) (auth-verdict (readAuthenticate s .reading) ∙ ap authVerdict (authenticate-ignored s t d .reading) ∙ sym (auth-verdict (readAuthenticate t .reading)))
+    (ap A.allFields (auth-fields s t d false bare-only ∙ ap (λ (w : NegotiateFlags). keptFields false (A.fieldsAt t w)) (flags-same authenticate s t (authenticate-seen s) d)))
     (λ e h p. absurd (no-pair Authenticate s not-authenticate e h p))
 
 challenge-print : (s t : List ℕ) → DifferInIgnored challenge s t → explainedAs Challenge s ≡ explainedAs Challenge t
 challenge-print s t d =
-    print-same Challenge s t (d .length-same) (ap (λ (x : ChalAnswer). chalVerdict (x .reading)) (challenge-ignored s t d .answer))
-    (ap C.allFields (chal-fields s t d ∙ ap (λ (w : NegotiateFlags). C.fieldsAt t w) (flags-same challenge s t (challenge-seen s) d)))
+    print-same Challenge s t (d .length-same) (chal-verdict (readChallenge s .reading) ∙ ap chalVerdict (challenge-ignored s t d .reading) ∙ sym (chal-verdict (readChallenge t .reading)))
+    (ap C.allFields (chal-fields s t d false bare-only ∙ ap (λ (w : NegotiateFlags). keptChallengeFields false (C.fieldsAt t w)) (flags-same challenge s t (challenge-seen s) d)))
     (pair-same s t d)
 
 pub explained-ignored : ExplainedIgnored

@@ -1,6 +1,6 @@
--- MaxLen and ignored bytes of a CHALLENGE message change nothing.
+-- MaxLen and ignored bytes of a CHALLENGE message change nothing but a record's MaxLen.
 use Prim.Native.Nat.{ℕ, _+_, _-_, _*_, _≤_, _<_}
-use mathlib.Core.Path.{_≡_, refl, ap, _∙_}
+use mathlib.Core.Path.{_≡_, refl, sym, ap, _∙_}
 use mathlib.Core.Logic.{_⊎_, inl, inr, ⊎-elim}
 use mathlib.Core.Bool.{Bool, true, false}
 use mathlib.Core.List.{List}
@@ -12,20 +12,25 @@ use Rattle.negotiate_flags.specs.declared.NegotiateFlags.{NegotiateFlags}
 use Rattle.head.specs.declared.Head.{Head}
 use Rattle.head.specs.declared.Head.the-variants.{Flags, Refused as Stopped}
 use Rattle.wire.specs.declared.refusal.Refusal.{Refusal}
+use Rattle.wire.specs.declared.check.Verdict.{Verdict}
+use Rattle.wire.specs.declared.check.Verdict.the-variants.{Clear, Refused as Not}
 use Rattle.wire.specs.Check.{onClear}
+use Rattle.field.specs.Field.{fieldBytes}
 use Rattle.negotiate_flags.specs.Flags.{unicode, requestTarget, targetInfo}
 use Rattle.head.specs.Head.{flagsAt, readHead, onFlags}
 use Rattle.av_pairs.specs.AvPairs.{checkPairs}
 use Rattle.challenge.specs.declared.Challenge.{Challenge as Message}
+use Rattle.challenge.specs.declared.Fields.{Fields}
 use Rattle.challenge.specs.declared.Reading.{Reading}
 use Rattle.challenge.specs.declared.Reading.the-variants.{Taken, Refused}
 use Rattle.challenge.specs.declared.ServerNamesReading.the-variants.{Taken as NamesTaken, Refused as NamesRefused}
 use Rattle.challenge.specs.declared.TimestampReading.the-variants.{Taken as TimeTaken, Refused as TimeRefused}
-use Rattle.challenge.specs.Challenge.{layout, fieldsAt, checkFields, fieldsOf, onTaken, infoOf, inMessage, checkInfo, readingOf, serverChallenge, readChallenge, timestampOf, serverNamesOf}
+use Rattle.challenge.specs.Challenge.{layout, fieldsAt, checkEnds, checkBegins, checkNames, checkFields, fieldsOf, onTaken, infoOf, inMessage, checkInfo, readingOf, serverChallenge, readChallenge, timestampOf, serverNamesOf}
 use Rattle.target_info.specs.TargetInfo.{timestampIn, serverNamesIn}
-use Rattle.demands.specs.Message.{challenge, Fails, Ignored, DifferInIgnored}
+use Rattle.demands.specs.Message.{challenge, Fails, Ignored, DifferInIgnored, SameMaxLen}
 use Rattle.demands.specs.Ignored.{SameBytes, ChallengeIgnored}
 use Rattle.demands.proofs.Alike.{same-part}
+use Rattle.demands.proofs.MaxLen.{bare-only, kept, keptChallengeFields, keptMessage, keptChallenge, challenge-as-it-is, challenge-bare-is}
 use Rattle.demands.proofs.Message.Chain.{JudgedH, head-judged}
 use Rattle.demands.proofs.Message.Apart.{Apart, lies, seen as apart-seen}
 use Rattle.demands.proofs.Message.Unchanged.{Seen}
@@ -67,63 +72,131 @@ at-server s p l r g =
     (⊎-elim (λ h. omega (arith, h .first, h .last, h .from, h .to)) (λ o. omega (arith, o .0)))
     (lies challenge s p g)
 
+-- what follows the head's checks goes by the records without MaxLen
+module _ (m : Bool) (w : NegotiateFlags) where
+  abbrev rest : ℕ → Fields → Reading
+  rest n f = onClear Refused (checkFields n (unicode w) f) (Taken (record { flags = w; fields = f }))
+
+  rest-kept : (n : ℕ) (f : Fields) → keptChallenge m (rest n f) ≡ rest n (keptChallengeFields m f)
+  unfolding checkFields checkEnds checkBegins checkNames kept
+  rest-kept n f = go (checkFields n (unicode w) f) where
+    go : (v : Verdict) →
+        keptChallenge m (onClear Refused v (Taken (record { flags = w; fields = f })))
+        ≡ onClear Refused v (Taken (record { flags = w; fields = keptChallengeFields m f }))
+    go Clear = refl
+    go (Not e) = refl
+
+-- and so do checks 10 to 13
+module _ (m : Bool) (s : List ℕ) where
+  abbrev listed : Message → Reading
+  listed c = onClear Refused (checkInfo s c) (Taken c)
+
+  listed-kept : (r : Reading) → keptChallenge m (onTaken Refused r listed) ≡ onTaken Refused (keptChallenge m r) (λ c. keptChallenge m (listed c))
+  unfolding checkInfo kept fieldBytes
+  listed-kept (Taken c) = go (checkPairs (infoOf s c)) where
+    go : (v : Verdict) →
+        keptChallenge m (onClear Refused (inMessage (c .fields .«target_info») v) (Taken c))
+        ≡ keptChallenge m (onClear Refused (inMessage (kept m (c .fields .«target_info»)) v) (Taken (keptMessage m c)))
+    go Clear = by m where
+      by : (n : Bool) → keptChallenge n (Taken c) ≡ keptChallenge n (Taken (keptMessage n c))
+      by true = refl
+      by false = refl
+    go (Not e) = refl
+  listed-kept (Refused e) = refl
+
 module _ (a b : List ℕ) (d : DifferInIgnored challenge a b) where
-  pub fields-same : fieldsAt a (flagsAt a 20) ≡ fieldsAt b (flagsAt a 20)
-  unfolding fieldsAt
-  fields-same =
-      simp (
-        same.field-same challenge a b (seen a) d 1 (requestTarget (flagsAt a 20)) (omega arith) (omega arith) (λ h. (λ e. eqb-true _ 1 h, λ e. absurd (omega arith))),
-        same.field-same challenge a b (seen a) d 2 (targetInfo (flagsAt a 20)) (omega arith) (omega arith) (λ h. (λ e. absurd (omega arith), λ e. eqb-true _ 1 h)),
-      )
-
-  -- checks 1 to 8
-  head-same : fieldsOf a ≡ fieldsOf b
-  unfolding fieldsOf
-  head-same = go (readHead layout a) (head-judged challenge a (omega arith)) ∙ ap (λ (h : Head). onFlags Refused h (rest b)) (same.head-same challenge a b (seen a) d)
-    where
-      rest : List ℕ → NegotiateFlags → Reading
-      rest s w = onClear Refused (checkFields (length s) (unicode w) (fieldsAt s w)) (Taken (record { flags = w; fields = fieldsAt s w }))
-
-      go : (h : Head) → JudgedH challenge a h → onFlags Refused h (rest a) ≡ onFlags Refused h (rest b)
-      go (Flags w) j = rw (j .0) (simp (d .length-same, fields-same))
-      go (Stopped e) j = refl
-
-  -- the fields' bytes of a message that passed them
+  -- the fields' bytes of a message that passed checks 1 to 8
   bytes-same : ((n i : ℕ) → Fails challenge a n i → ⊥) → SameBytes a b (fieldsAt a (flagsAt a 20) .«target_name») × SameBytes a b (fieldsAt a (flagsAt a 20) .«target_info»)
   bytes-same none =
       let y = two a (λ i f. (Fails challenge a 6 i → ⊥) → (Fails challenge a 7 i → ⊥) → SameBytes a b f) (same.bytes-same challenge a b (seen a) d) in
       (y .0 (none 6 1) (none 7 1), y .1 (none 6 2) (none 7 2))
 
-  reading-same : readingOf a ≡ readingOf b
-  unfolding readingOf checkInfo
-  reading-same = rw (← head-same) (go (fieldsOf a) (fields-of-judged a)) where
-    go : (r : Reading) → JudgedF a r →
-        onTaken Refused r (λ c. onClear Refused (checkInfo a c) (Taken c)) ≡ onTaken Refused r (λ c. onClear Refused (checkInfo b c) (Taken c))
-    go (Taken c) j = rw (j .1) (ap (λ (l : List ℕ). onClear Refused (inMessage (fieldsAt a (flagsAt a 20) .«target_info») (checkPairs l)) (Taken (record { flags = flagsAt a 20; fields = fieldsAt a (flagsAt a 20) }))) (bytes-same (j .0) .1))
-    go (Refused e) j = refl
+  -- without MaxLen, and with it where it is the same
+  module _ (m : Bool) (max : m ≡ true → SameMaxLen challenge a b) where
+    pub fields-same : keptChallengeFields m (fieldsAt a (flagsAt a 20)) ≡ keptChallengeFields m (fieldsAt b (flagsAt a 20))
+    unfolding fieldsAt
+    fields-same = λ i.
+        record {
+          «target_name» = same.field-same challenge a b (seen a) d m max 1 (requestTarget (flagsAt a 20)) (omega arith) (omega arith) (λ h. (λ e. eqb-true _ 1 h, λ e. absurd (omega arith))) i;
+          «target_info» = same.field-same challenge a b (seen a) d m max 2 (targetInfo (flagsAt a 20)) (omega arith) (omega arith) (λ h. (λ e. absurd (omega arith), λ e. eqb-true _ 1 h)) i;
+        }
 
-  -- what is made of a taken message and its TargetInfo
-  pub made-same : {A : Type 0} (refuse : Refusal → A) (x : Message → List ℕ → A) →
+    -- checks 1 to 8
+    head-same : keptChallenge m (fieldsOf a) ≡ keptChallenge m (fieldsOf b)
+    unfolding fieldsOf
+    head-same =
+        go (readHead layout a) (head-judged challenge a (omega arith))
+        ∙ ap (λ (h : Head). keptChallenge m (of b h)) (same.head-same challenge a b (seen a) d)
+      where
+        of : List ℕ → Head → Reading
+        of s h = onFlags Refused h (λ w. rest m w (length s) (fieldsAt s w))
+
+        go : (h : Head) → JudgedH challenge a h → keptChallenge m (of a h) ≡ keptChallenge m (of b h)
+        go (Flags w) j =
+            rw (j .0)
+            (rest-kept m (flagsAt a 20) (length a) (fieldsAt a (flagsAt a 20))
+            ∙ ap (λ (f : Fields). rest m (flagsAt a 20) (length a) f) fields-same
+            ∙ ap (λ (n : ℕ). rest m (flagsAt a 20) n (keptChallengeFields m (fieldsAt b (flagsAt a 20)))) (d .length-same)
+            ∙ sym (rest-kept m (flagsAt a 20) (length b) (fieldsAt b (flagsAt a 20))))
+        go (Stopped e) j = refl
+
+    pub reading-same : keptChallenge m (readingOf a) ≡ keptChallenge m (readingOf b)
+    unfolding readingOf checkInfo
+    reading-same =
+        ap (keptChallenge m) (go (fieldsOf a) (fields-of-judged a))
+        ∙ listed-kept m b (fieldsOf a)
+        ∙ ap (λ (r : Reading). onTaken Refused r (λ c. keptChallenge m (listed m b c))) head-same
+        ∙ sym (listed-kept m b (fieldsOf b))
+      where
+        go : (r : Reading) → JudgedF a r → onTaken Refused r (listed m a) ≡ onTaken Refused r (listed m b)
+        go (Taken c) j = rw (j .1) (ap (λ (l : List ℕ). onClear Refused (inMessage (fieldsAt a (flagsAt a 20) .«target_info») (checkPairs l)) (Taken (record { flags = flagsAt a 20; fields = fieldsAt a (flagsAt a 20) }))) (bytes-same (j .0) .1))
+        go (Refused e) j = refl
+
+  pub bare-same : keptChallenge false (readingOf a) ≡ keptChallenge false (readingOf b)
+  bare-same = reading-same false bare-only
+
+  -- what is made of a taken message and its TargetInfo, without a look at MaxLen
+  pub made-same : {A : Type 0} (refuse : Refusal → A) (x : Message → List ℕ → A) → ((c : Message) (l : List ℕ) → x c l ≡ x (keptMessage false c) l) →
       onTaken refuse (readingOf a) (λ c. x c (infoOf a c)) ≡ onTaken refuse (readingOf b) (λ c. x c (infoOf b c))
-  unfolding readChallenge
-  made-same refuse x = rw (← reading-same) (go (readingOf a) refl) where
-    go : (r : Reading) → readingOf a ≡ r → onTaken refuse r (λ c. x c (infoOf a c)) ≡ onTaken refuse r (λ c. x c (infoOf b c))
-    go (Taken c) e = let t = taken-as a c e in rw (t .answer) (ap (x (record { flags = flagsAt a 20; fields = fieldsAt a (flagsAt a 20) })) (bytes-same (t .none) .1))
-    go (Refused f) e = refl
+  unfolding readChallenge kept fieldBytes
+  made-same refuse x blind =
+      go (readingOf a) refl ∙ by (readingOf a)
+      ∙ ap (λ (r : Reading). onTaken refuse r (λ c. x c (infoOf b c))) bare-same
+      ∙ sym (by (readingOf b))
+    where
+      go : (r : Reading) → readingOf a ≡ r → onTaken refuse r (λ c. x c (infoOf a c)) ≡ onTaken refuse r (λ c. x c (infoOf b c))
+      go (Taken c) e = let t = taken-as a c e in rw (t .answer) (ap (x (record { flags = flagsAt a 20; fields = fieldsAt a (flagsAt a 20) })) (bytes-same (t .none) .1))
+      go (Refused f) e = refl
+
+      by : (r : Reading) → onTaken refuse r (λ c. x c (infoOf b c)) ≡ onTaken refuse (keptChallenge false r) (λ c. x c (infoOf b c))
+      by (Taken c) = blind c (infoOf b c)
+      by (Refused f) = refl
 
   server-same : serverChallenge (readingOf a) a ≡ serverChallenge (readingOf b) b
-  server-same = rw (← reading-same) (go (readingOf a)) where
-    go : (r : Reading) → serverChallenge r a ≡ serverChallenge r b
-    go (Taken c) = same-part a b (d .length-same) 24 8 (λ p l r. same.looked challenge a b (seen a) d p (at-server a p l r))
-    go (Refused e) = refl
+  server-same =
+      go (readingOf a) ∙ by (readingOf a)
+      ∙ ap (λ (r : Reading). serverChallenge r b) bare-same ∙ sym (by (readingOf b))
+    where
+      go : (r : Reading) → serverChallenge r a ≡ serverChallenge r b
+      go (Taken c) = same-part a b (d .length-same) 24 8 (λ p l r. same.looked challenge a b (seen a) d p (at-server a p l r))
+      go (Refused e) = refl
+
+      by : (r : Reading) → serverChallenge r b ≡ serverChallenge (keptChallenge false r) b
+      by (Taken c) = refl
+      by (Refused e) = refl
+
+  whole-reading : SameMaxLen challenge a b → readingOf a ≡ readingOf b
+  whole-reading x = sym (challenge-as-it-is (readingOf a)) ∙ reading-same true (λ e. x) ∙ challenge-as-it-is (readingOf b)
 
 pub challenge-ignored : ChallengeIgnored
 unfolding readChallenge timestampOf serverNamesOf
 challenge-ignored a b d =
     record {
-      answer = rw (server-same a b d, reading-same a b d);
-      timestamp = made-same a b d TimeRefused (λ c l. TimeTaken (timestampIn l));
-      server-names = made-same a b d NamesRefused (λ c l. NamesTaken (serverNamesIn l));
+      reading = challenge-bare-is (readingOf a) ∙ bare-same a b d ∙ sym (challenge-bare-is (readingOf b));
+      server-challenge = server-same a b d;
+      whole = λ x. λ i. record { reading = whole-reading a b d x i; «server_challenge» = server-same a b d i };
+      timestamp = made-same a b d TimeRefused (λ c l. TimeTaken (timestampIn l)) (λ c l. refl);
+      server-names = made-same a b d NamesRefused (λ c l. NamesTaken (serverNamesIn l)) (λ c l. refl);
       target-name = λ c h. let t = taken-as a c h in rw (t .answer) (bytes-same a b d (t .none) .0);
       target-info = λ c h. let t = taken-as a c h in rw (t .answer) (bytes-same a b d (t .none) .1);
     }

@@ -1,6 +1,6 @@
 -- MaxLen and ignored bytes of a challenge change no decision, no domain to send and no answer.
 use Prim.Native.Nat.{ℕ, _+_}
-use mathlib.Core.Path.{ap, _∙_}
+use mathlib.Core.Path.{refl, ap, _∙_}
 use mathlib.Core.Bool.{true, cond}
 use mathlib.Core.List.{List}
 use lib.Dec.{eqb, leb}
@@ -23,14 +23,15 @@ use Rattle.target_info.specs.TargetInfo.{firstBy, timestampIn, serverNamesIn}
 use Rattle.demands.specs.Ignored.{DecisionIgnored, DomainIgnored, RespondIgnored, ThinCallsIgnored}
 use Rattle.demands.specs.ThinCalls.{goesBy}
 use Rattle.demands.proofs.Ignored.ChallengeIgnored.{made-same}
+use Rattle.demands.proofs.MaxLen.{kept}
 
 pub decision-ignored : DecisionIgnored
-unfolding decisionOn
+unfolding decisionOn kept
 decision-ignored settings s t d =
     made-same s t d Refused (λ c l.
     after (strengthHolds settings (c .flags)) (Refused No128Bit) (
     after (serverNamesHold settings (serverNamesIn l)) (Refused NoServerNames)
-    (Taken (record { flags = c .flags; timestamp = timestampIn l }))))
+    (Taken (record { flags = c .flags; timestamp = timestampIn l })))) (λ c l. refl)
 
 -- the domain of a taken challenge of n bytes, by TargetInfo's bytes
 part-of : List ℕ → ℕ → Challenge → List ℕ → Part
@@ -46,10 +47,10 @@ part-of own n c info =
     (ownPart own)
 
 pub domain-ignored : DomainIgnored
-unfolding domainPart fieldStart part-of
+unfolding domainPart fieldStart part-of kept
 domain-ignored own s t d =
     ap (λ (x : Part). cond (eqb (length own) 0) x (ownPart own))
-    (made-same s t d (λ e. ownPart own) (part-of own (length s))
+    (made-same s t d (λ e. ownPart own) (part-of own (length s)) (λ c l. refl)
     ∙ ap (λ (n : ℕ). onTaken (λ e. ownPart own) (readingOf t) (λ c. part-of own n c (infoOf t c))) (d .length-same))
 
 pub respond-ignored : RespondIgnored

@@ -70,7 +70,7 @@ Counted n (refused e) = Unit
 counted : (c : Call) → Counted (count c) (outcome c)
 unfolding negotiateNumbers timestampNumbers serverNamesNumbers nlAuthNumbers foundNumbers pairNumbers decisionNumbers
 counted (read-negotiate s) = go (readNegotiate s) where
-  go : (r : NegotiateReading) → Counted 5 (negotiateOutcome r)
+  go : (r : NegotiateReading) → Counted 7 (negotiateOutcome r)
   go (NegotiateTaken m) = refl
   go (NegotiateRefused e) = tt
 counted (read-timestamp s) = go (timestampOf s) where
@@ -111,11 +111,11 @@ counted (decide settings s) = go (decisionOn (settingsOf settings) s) where
 two-counted : (c : TwoArrayCall) → Counted (numberCount c) (twoArrayOutcome c)
 unfolding authenticateNumbers challengeNumbers
 two-counted (read-authenticate s) = go (readAuthenticate s .reading) where
-  go : (r : Reading) → Counted 14 (authenticateOutcome r)
+  go : (r : Reading) → Counted 20 (authenticateOutcome r)
   go (Taken a) = refl
   go (Refused e) = tt
 two-counted (read-challenge s) = go (readChallenge s .reading) where
-  go : (r : ChallengeReading) → Counted 5 (challengeOutcome r)
+  go : (r : ChallengeReading) → Counted 7 (challengeOutcome r)
   go (ChallengeTaken c) = refl
   go (ChallengeRefused e) = tt
 

@@ -2,21 +2,22 @@
 use Prim.Native.Nat.{ℕ, _+_, _≤_, _<_}
 use mathlib.Core.Path.{_≡_, refl, sym, ap, _∙_}
 use mathlib.Core.Logic.{⊎-elim}
-use mathlib.Core.Bool.{Bool, true, false, cond, not}
+use mathlib.Core.Bool.{Bool, true, false, cond}
 use mathlib.Core.List.{List}
 use native.Mathlib.Omega.{arith}
 use lib.Dec.{eqb}
 use lib.ListN.{length, getD}
 use borrow.Author.Tests.{eqb-false}
 use Rattle.field.specs.declared.Field.{Field}
-use Rattle.field.specs.Field.{headAt, isEmpty, noField, fieldAt, fieldBytes}
+use Rattle.field.specs.Field.{headAt, isEmpty, emptyField, fieldAt, fieldBytes}
 use Rattle.head.specs.Head.{flagsAt, signatureHolds, readHead}
 use Rattle.field.proofs.Fields.{own-bytes}
 use Rattle.demands.specs.Ignored.{SameBytes}
-use Rattle.demands.specs.Message.{Format, lenOf, offsetOf, Counts, Nonempty, Covers, Fails, Ignored, DifferInIgnored}
+use Rattle.demands.specs.Message.{Format, lenOf, maxLenOf, offsetOf, Counts, Nonempty, Covers, Fails, Ignored, DifferInIgnored, SameMaxLen}
 use Rattle.demands.proofs.Alike.{same-part, same16, same32}
 use Rattle.demands.proofs.Message.Chain.{layoutOf}
-use Rattle.demands.proofs.Message.{Stands}
+use Rattle.demands.proofs.MaxLen.{kept}
+use Rattle.demands.proofs.Message.{Stands, empty-bytes}
 
 -- what a reader looks at is not ignored
 pub record Seen (k : Format) (s : List ℕ) : Type 0 where
@@ -40,17 +41,28 @@ module _ (k : Format) (a b : List ℕ) (seen : Seen k a) (d : DifferInIgnored k 
   pub offset-same : (i : ℕ) → Nonempty k a i → offsetOf k a i ≡ offsetOf k b i
   offset-same i ne = same32 a b (k .head i + 4) (λ p l r. looked p (seen .at-offset i p ne l (omega arith)))
 
-  -- a field is read alike
-  pub field-same : (i : ℕ) (c : Bool) → 1 ≤ i → i ≤ k .last → (c ≡ true → Counts k a i) → fieldAt a (k .head i) c ≡ fieldAt b (k .head i) c
-  unfolding fieldAt
-  field-same i false f t counts = refl
-  field-same i true f t counts = go (eqb (lenOf k a i) 0) refl where
-    go : (e : Bool) → eqb (lenOf k a i) 0 ≡ e →
-        cond (not (eqb (lenOf k a i) 0)) (headAt a (k .head i)) noField ≡ cond (not (eqb (lenOf k b i) 0)) (headAt b (k .head i)) noField
-    go true p = rw (← (len-same i f t (counts refl)), p)
-    go false p =
-        let ne : Nonempty k a i = record { first = f; last = t; counts = counts refl; some = omega (arith, eqb-false (lenOf k a i) 0 p) } in
-        rw (← (len-same i f t (counts refl)), p, offset-same i ne)
+  -- a field is read alike, MaxLen apart; and MaxLen too where it is the same
+  module _ (m : Bool) (max : m ≡ true → SameMaxLen k a b) where
+    max-same : (i : ℕ) → 1 ≤ i → i ≤ k .last → Counts k a i → cond m (maxLenOf k a i) 0 ≡ cond m (maxLenOf k b i) 0
+    max-same i f t c = go m refl where
+      go : (n : Bool) → m ≡ n → cond n (maxLenOf k a i) 0 ≡ cond n (maxLenOf k b i) 0
+      go true e = max e i f t c
+      go false e = refl
+
+    pub field-same : (i : ℕ) (c : Bool) → 1 ≤ i → i ≤ k .last → (c ≡ true → Counts k a i) →
+        kept m (fieldAt a (k .head i) c) ≡ kept m (fieldAt b (k .head i) c)
+    unfolding fieldAt kept
+    field-same i false f t counts = refl
+    field-same i true f t counts = go (eqb (lenOf k a i) 0) refl where
+      of : List ℕ → Bool → Field
+      of s e = kept m (cond e (emptyField (maxLenOf k s i)) (headAt s (k .head i)))
+
+      go : (e : Bool) → eqb (lenOf k a i) 0 ≡ e → of a (eqb (lenOf k a i) 0) ≡ of b (eqb (lenOf k b i) 0)
+      go true p = rw (← (len-same i f t (counts refl)), p) (λ j. emptyField (max-same i f t (counts refl) j))
+      go false p =
+          let ne : Nonempty k a i = record { first = f; last = t; counts = counts refl; some = omega (arith, eqb-false (lenOf k a i) 0 p) } in
+          rw (← (len-same i f t (counts refl)), p)
+          (λ j. record { offset = offset-same i ne j; len = lenOf k a i; «max_len» = max-same i f t (counts refl) j })
 
   pub head-same : readHead (layoutOf k) a ≡ readHead (layoutOf k) b
   unfolding readHead signatureHolds
@@ -77,7 +89,7 @@ module _ (k : Format) (a b : List ℕ) (seen : Seen k a) (d : DifferInIgnored k 
       late h = omega (arith, h, w .offset p)
 
     go : (e : Bool) → isEmpty f ≡ e → fieldBytes a f ≡ fieldBytes b f
-    go true p = rw (w .none p) (own-bytes a noField (omega arith) ∙ sym (own-bytes b noField (omega arith)))
+    go true p = empty-bytes k a i f w p a ∙ sym (empty-bytes k a i f w p b)
     go false p =
         own-bytes a f (fit (length a) p refl)
         ∙ same-part a b (d .length-same) (f .offset) (f .len)

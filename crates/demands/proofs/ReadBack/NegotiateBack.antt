@@ -23,7 +23,7 @@ use Rattle.head.specs.Head.{signature}
 use Rattle.place.specs.Place.{le32}
 use Rattle.place.specs.Written.{sizeHolds, roomHolds}
 use Rattle.place.proofs.Numbers.{length-le32, back32}
-use Rattle.field_writing.specs.Writing.{headBytes, versionBytes}
+use Rattle.field_writing.specs.Writing.{fieldOf, headBytes, versionBytes}
 use Rattle.field_writing.proofs.Laws.{length-head, length-version}
 use Rattle.negotiate.specs.declared.Fields.{Fields}
 use Rattle.negotiate.specs.declared.Reading.{Reading}
@@ -154,10 +154,10 @@ module _ (w : NegotiateFlags) (v dom wks : List ℕ) (v8 : length v ≡ 8) where
   l4 = simp (length-append, length-version x v v8, l3)
 
   -- the heads and the flags read back
-  domain-head : headAt M 16 ≡ f .domain
+  domain-head : headAt M 16 ≡ fieldOf (f .domain .offset) (f .domain .len)
   domain-head = back-at M q1 _ (f .domain) 16 at1 l1
 
-  workstation-head : headAt M 24 ≡ f .workstation
+  workstation-head : headAt M 24 ≡ fieldOf (f .workstation .offset) (f .workstation .len)
   workstation-head = back-at M q2 _ (f .workstation) 24 at2 l2
 
   flags-back : u32At M 12 ≡ x .bits

@@ -39,7 +39,7 @@ use Rattle.demands.proofs.ReadBack.Sent.{back-at, in-payload}
 use Rattle.demands.proofs.ReadBack.{written-is}
 use Rattle.demands.proofs.TakenExactly.{authenticate-taken}
 use Rattle.demands.specs.Message.{authenticate, lenOf, offsetOf, Nonempty, Set, MicThere, Fails}
-use Rattle.field_writing.specs.Writing.{headBytes, versionBytes}
+use Rattle.field_writing.specs.Writing.{fieldOf, headBytes, versionBytes}
 use Rattle.field_writing.proofs.Laws.{length-head, length-version}
 use Rattle.authenticate_writing.specs.Writing.{fieldsTo, headsBytes, afterHeads, fixedBytes, payloadBytes, authenticateBytes, evenToWrite, checkNamesToWrite, keyHolds, sizeToWrite, checkToWrite, writeAnswer, writeOut}
 
@@ -182,23 +182,23 @@ module _ (w : NegotiateFlags) (v mic lm nt dom usr wks key : List ℕ) (v8 : len
   l9 = simp (length-append, l8, m16)
 
   -- the heads, the flags and the MIC read back
-  lm-head : headAt M 12 ≡ f .lm
+  lm-head : headAt M 12 ≡ fieldOf (f .lm .offset) (f .lm .len)
   unfolding M q0
   lm-head = back-at M q0 _ (f .lm) 12 at0 l0
 
-  nt-head : headAt M 20 ≡ f .nt
+  nt-head : headAt M 20 ≡ fieldOf (f .nt .offset) (f .nt .len)
   nt-head = back-at M q1 _ (f .nt) 20 at1 l1
 
-  domain-head : headAt M 28 ≡ f .domain
+  domain-head : headAt M 28 ≡ fieldOf (f .domain .offset) (f .domain .len)
   domain-head = back-at M q2 _ (f .domain) 28 at2 l2
 
-  user-head : headAt M 36 ≡ f .user
+  user-head : headAt M 36 ≡ fieldOf (f .user .offset) (f .user .len)
   user-head = back-at M q3 _ (f .user) 36 at3 l3
 
-  workstation-head : headAt M 44 ≡ f .workstation
+  workstation-head : headAt M 44 ≡ fieldOf (f .workstation .offset) (f .workstation .len)
   workstation-head = back-at M q4 _ (f .workstation) 44 at4 l4
 
-  key-head : headAt M 52 ≡ f .key
+  key-head : headAt M 52 ≡ fieldOf (f .key .offset) (f .key .len)
   key-head = back-at M q5 tail (f .key) 52 at5 l5
 
   flags-back : u32At M 60 ≡ w .bits

@@ -56,7 +56,7 @@ module _ (s : List ℕ) where
   unfolding fieldsAt
   two P h = (h 1 _ target-name, h 2 _ target-info)
 
-  all : AllStand challenge s 1 (allFields (fieldsAt s (flagsAt s 20)))
+  pub all : AllStand challenge s 1 (allFields (fieldsAt s (flagsAt s 20)))
   all = let x = two (Stands challenge s) (λ i f w. w) in (refl, x .0, (refl, x .1, tt))
 
   -- check 8; check 9 has no row for a kind with no secrets

@@ -1,8 +1,9 @@
 -- NEGOTIATE is taken exactly when every check holds, and refused by the first that fails; its names are its own; MaxLen and
--- ignored bytes change nothing.
+-- ignored bytes change nothing but a record's MaxLen.
 use Prim.Native.Nat.{ℕ}
 use mathlib.Core.Path.{_≡_, refl, sym, ap, _∙_, subst}
 use mathlib.Core.Logic.{inl, _↔_}
+use mathlib.Core.Bool.{Bool, true, false}
 use mathlib.Core.List.{List}
 use native.Mathlib.Omega.{arith}
 use lib.ListN.{length}
@@ -19,14 +20,16 @@ use Rattle.head.specs.declared.Head.{Head}
 use Rattle.head.specs.declared.Head.the-variants.{Flags, Refused as Stopped}
 use Rattle.head.specs.Head.{flagsAt, readHead, onFlags}
 use Rattle.negotiate.specs.declared.Negotiate.{Negotiate}
+use Rattle.negotiate.specs.declared.Fields.{Fields}
 use Rattle.negotiate.specs.declared.Reading.{Reading}
 use Rattle.negotiate.specs.declared.Reading.the-variants.{Taken, Refused}
 use Rattle.negotiate.specs.Negotiate.{layout, fieldsAt, allFields, checkEnds, checkBegins, checkFields, readNegotiate}
 use Rattle.demands.specs.Order.{First}
-use Rattle.demands.specs.Message.{negotiate, Fails, DifferInIgnored}
+use Rattle.demands.specs.Message.{negotiate, Fails, DifferInIgnored, SameMaxLen}
 use Rattle.demands.specs.TakenExactly.{IsTakenNegotiate, NegotiateRefusedWith, NegotiateIsTaken, NegotiateIsRefused}
 use Rattle.demands.specs.OwnBytes.{OwnField, NegotiateOwn}
 use Rattle.demands.specs.Ignored.{SameBytes, NegotiateIgnored}
+use Rattle.demands.proofs.MaxLen.{bare-only, kept, keptNegotiateFields, keptNegotiate, negotiate-as-it-is, negotiate-bare-is}
 use Rattle.demands.proofs.Order.{Free, only-first, next-check}
 use Rattle.demands.proofs.Message.{Stands}
 use Rattle.demands.proofs.Message as fields
@@ -53,7 +56,7 @@ module _ (s : List ℕ) where
   unfolding fieldsAt
   two P h = (h 1 _ domain, h 2 _ workstation)
 
-  all : AllStand negotiate s 1 (allFields (fieldsAt s (flagsAt s 12)))
+  pub all : AllStand negotiate s 1 (allFields (fieldsAt s (flagsAt s 12)))
   all = let x = two (Stands negotiate s) (λ i f w. w) in (refl, x .0, (refl, x .1, tt))
 
   -- checks 6 and 7; 8 and 9 have no row for a kind with no 16-bit name
@@ -65,7 +68,7 @@ module _ (s : List ℕ) where
       (begins-judged negotiate s (allFields f) all refl)
 
   -- the whole reading
-  abbrev Judged : Reading → Type 0
+  abbrev pub Judged : Reading → Type 0
   Judged (Taken m) = ((n i : ℕ) → Fails negotiate s n i → ⊥) × (m ≡ record { flags = flagsAt s 12; fields = fieldsAt s (flagsAt s 12) })
   Judged (Refused e) = First (Fails negotiate s) (numberOf e) (fieldOf e)
 
@@ -106,7 +109,7 @@ negotiate-refused s n i = go (readNegotiate s) (judged s) where
   )
 
 -- what a taken message is answered with
-taken-as : (s : List ℕ) (m : Negotiate) → readNegotiate s ≡ Taken m → Judged s (Taken m)
+pub taken-as : (s : List ℕ) (m : Negotiate) → readNegotiate s ≡ Taken m → Judged s (Taken m)
 taken-as s m h = subst (Judged s) h (judged s)
 
 pub negotiate-own : NegotiateOwn
@@ -131,27 +134,48 @@ apart =
       unused = λ p u. absurd u;
     }
 
+-- what follows the head's checks goes by the records without MaxLen
+module _ (m : Bool) (w : NegotiateFlags) where
+  abbrev rest : ℕ → Fields → Reading
+  rest n f = onClear Refused (checkFields n f) (Taken (record { flags = w; fields = f }))
+
+  rest-kept : (n : ℕ) (f : Fields) → keptNegotiate m (rest n f) ≡ rest n (keptNegotiateFields m f)
+  unfolding checkFields checkEnds checkBegins kept
+  rest-kept n f = go (checkFields n f) where
+    go : (v : Verdict) →
+        keptNegotiate m (onClear Refused v (Taken (record { flags = w; fields = f })))
+        ≡ onClear Refused v (Taken (record { flags = w; fields = keptNegotiateFields m f }))
+    go Clear = refl
+    go (Not e) = refl
+
 module _ (a b : List ℕ) (d : DifferInIgnored negotiate a b) where
-  pub fields-same : fieldsAt a (flagsAt a 12) ≡ fieldsAt b (flagsAt a 12)
-  unfolding fieldsAt
-  fields-same =
-      simp (
-        same.field-same negotiate a b (seen negotiate apart a) d 1 (oemDomainSupplied (flagsAt a 12)) (omega arith) (omega arith) (λ h. (λ e. eqb-true _ 1 h, λ e. absurd (omega arith))),
-        same.field-same negotiate a b (seen negotiate apart a) d 2 (oemWorkstationSupplied (flagsAt a 12)) (omega arith) (omega arith) (λ h. (λ e. absurd (omega arith), λ e. eqb-true _ 1 h)),
-      )
+  -- without MaxLen, and with it where it is the same
+  module _ (m : Bool) (max : m ≡ true → SameMaxLen negotiate a b) where
+    pub fields-same : keptNegotiateFields m (fieldsAt a (flagsAt a 12)) ≡ keptNegotiateFields m (fieldsAt b (flagsAt a 12))
+    unfolding fieldsAt
+    fields-same = λ i.
+        record {
+          domain = same.field-same negotiate a b (seen negotiate apart a) d m max 1 (oemDomainSupplied (flagsAt a 12)) (omega arith) (omega arith) (λ h. (λ e. eqb-true _ 1 h, λ e. absurd (omega arith))) i;
+          workstation = same.field-same negotiate a b (seen negotiate apart a) d m max 2 (oemWorkstationSupplied (flagsAt a 12)) (omega arith) (omega arith) (λ h. (λ e. absurd (omega arith), λ e. eqb-true _ 1 h)) i;
+        }
 
-  reading-same : readNegotiate a ≡ readNegotiate b
-  unfolding readNegotiate
-  reading-same =
-      go (readHead layout a) (head-judged negotiate a (omega arith))
-      ∙ ap (λ (h : Head). onFlags Refused h (rest b)) (same.head-same negotiate a b (seen negotiate apart a) d)
-    where
-      rest : List ℕ → NegotiateFlags → Reading
-      rest s w = onClear Refused (checkFields (length s) (fieldsAt s w)) (Taken (record { flags = w; fields = fieldsAt s w }))
+    reading-same : keptNegotiate m (readNegotiate a) ≡ keptNegotiate m (readNegotiate b)
+    unfolding readNegotiate
+    reading-same =
+        go (readHead layout a) (head-judged negotiate a (omega arith))
+        ∙ ap (λ (h : Head). keptNegotiate m (of b h)) (same.head-same negotiate a b (seen negotiate apart a) d)
+      where
+        of : List ℕ → Head → Reading
+        of s h = onFlags Refused h (λ w. rest m w (length s) (fieldsAt s w))
 
-      go : (h : Head) → JudgedH negotiate a h → onFlags Refused h (rest a) ≡ onFlags Refused h (rest b)
-      go (Flags w) j = rw (j .0) (simp (d .length-same, fields-same))
-      go (Stopped e) j = refl
+        go : (h : Head) → JudgedH negotiate a h → keptNegotiate m (of a h) ≡ keptNegotiate m (of b h)
+        go (Flags w) j =
+            rw (j .0)
+            (rest-kept m (flagsAt a 12) (length a) (fieldsAt a (flagsAt a 12))
+            ∙ ap (λ (f : Fields). rest m (flagsAt a 12) (length a) f) fields-same
+            ∙ ap (λ (n : ℕ). rest m (flagsAt a 12) n (keptNegotiateFields m (fieldsAt b (flagsAt a 12)))) (d .length-same)
+            ∙ sym (rest-kept m (flagsAt a 12) (length b) (fieldsAt b (flagsAt a 12))))
+        go (Stopped e) j = refl
 
   bytes-same : ((n i : ℕ) → Fails negotiate a n i → ⊥) → SameBytes a b (fieldsAt a (flagsAt a 12) .domain) × SameBytes a b (fieldsAt a (flagsAt a 12) .workstation)
   bytes-same none =
@@ -161,7 +185,11 @@ module _ (a b : List ℕ) (d : DifferInIgnored negotiate a b) where
 pub negotiate-ignored : NegotiateIgnored
 negotiate-ignored a b d =
     record {
-      answer = reading-same a b d;
+      reading =
+          negotiate-bare-is (readNegotiate a)
+          ∙ reading-same a b d false bare-only
+          ∙ sym (negotiate-bare-is (readNegotiate b));
+      whole = λ x. sym (negotiate-as-it-is (readNegotiate a)) ∙ reading-same a b d true (λ e. x) ∙ negotiate-as-it-is (readNegotiate b);
       domain = λ m h. let t = taken-as a m h in rw (t .1) (bytes-same a b d (t .0) .0);
       workstation = λ m h. let t = taken-as a m h in rw (t .1) (bytes-same a b d (t .0) .1);
     }

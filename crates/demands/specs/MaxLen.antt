@@ -1,0 +1,81 @@
+-- Demand 2 as document 02's 9/12 has it: "Demand 2 now says that MaxLen changes nothing but this word and the record's MaxLen".
+-- Answers without their records' MaxLen, and lines up to their last word.
+use Prim.Native.Nat.{ℕ, _-_, _≤_}
+use mathlib.Core.Path.{_≡_}
+use mathlib.Core.List.{List, [], _∷_, _++_}
+use lib.ListN.{length, getD}
+use Rattle.text.specs.Text.{ascii}
+use Rattle.field.specs.declared.Field.{Field}
+use Rattle.authenticate.specs.declared.Fields.{Fields}
+use Rattle.authenticate.specs.declared.Reading.{Reading}
+use Rattle.authenticate.specs.declared.Reading.the-variants.{Taken, Refused}
+use Rattle.challenge.specs.declared.Reading.{Reading as ChallengeReading}
+use Rattle.challenge.specs.declared.Reading.the-variants.{Taken as ChallengeTaken, Refused as ChallengeRefused}
+use Rattle.negotiate.specs.declared.Reading.{Reading as NegotiateReading}
+use Rattle.negotiate.specs.declared.Reading.the-variants.{Taken as NegotiateTaken, Refused as NegotiateRefused}
+use Rattle.demands.specs.Message.{Format, lenOf, maxLenOf, Counts}
+
+-- a field's record without its MaxLen
+abbrev pub bare : Field → Field
+bare f = record { offset = f .offset; len = f .len; «max_len» = 0 }
+
+-- ---- an answer without it: flags, places, whether a MIC is there, or the refusal
+
+abbrev pub bareAuthenticate : Reading → Reading
+bareAuthenticate (Taken a) =
+    Taken (record {
+      flags = a .flags;
+      fields = record {
+        lm = bare (a .fields .lm);
+        nt = bare (a .fields .nt);
+        domain = bare (a .fields .domain);
+        user = bare (a .fields .user);
+        workstation = bare (a .fields .workstation);
+        key = bare (a .fields .key);
+      };
+      «mic_present» = a .«mic_present»;
+    })
+bareAuthenticate (Refused e) = Refused e
+
+abbrev pub bareChallenge : ChallengeReading → ChallengeReading
+bareChallenge (ChallengeTaken c) =
+    ChallengeTaken (record {
+      flags = c .flags;
+      fields = record { «target_name» = bare (c .fields .«target_name»); «target_info» = bare (c .fields .«target_info») };
+    })
+bareChallenge (ChallengeRefused e) = ChallengeRefused e
+
+abbrev pub bareNegotiate : NegotiateReading → NegotiateReading
+bareNegotiate (NegotiateTaken m) =
+    NegotiateTaken (record {
+      flags = m .flags;
+      fields = record { domain = bare (m .fields .domain); workstation = bare (m .fields .workstation) };
+    })
+bareNegotiate (NegotiateRefused e) = NegotiateRefused e
+
+-- ---- the last word: "a digit for each field in order: 1 where a field that counts has MaxLen unlike Len, else 0"
+
+abbrev pub Unlike : Format → List ℕ → ℕ → Type 0
+Unlike k s i = Counts k s i × (maxLenOf k s i ≡ lenOf k s i → ⊥)
+
+pub record MaxDigits (k : Format) (s digits : List ℕ) : Type 0 where
+  pub count : length digits ≡ k .last
+  pub one : (i : ℕ) → 1 ≤ i → i ≤ k .last → Unlike k s i → getD digits (i - 1) 0 ≡ 0x31
+  pub else : (i : ℕ) → 1 ≤ i → i ≤ k .last → (Unlike k s i → ⊥) → getD digits (i - 1) 0 ≡ 0x30
+
+-- the line of s ends in the word that its heads say
+pub record EndsInMax (k : Format) (s line before : List ℕ) : Type 0 where
+  pub digits : List ℕ
+  pub line-is : line ≡ before ++ (ascii " max=" ++ (digits ++ (0x0A ∷ [])))
+  pub said : MaxDigits k s digits
+
+-- two lines that are alike up to their last words, each as its own message's heads say it
+pub record AlikeToMax (k : Format) (s t line line′ : List ℕ) : Type 0 where
+  pub before : List ℕ
+  pub first : EndsInMax k s line before
+  pub second : EndsInMax k t line′ before
+
+-- the lines of two messages: alike to the last word where the first is taken, and alike where it is refused
+pub record AlikeButMax (k : Format) (IsTaken : Type 0) (s t line line′ : List ℕ) : Type 0 where
+  pub taken : IsTaken → AlikeToMax k s t line line′
+  pub refused : (IsTaken → ⊥) → line ≡ line′
