@@ -20,7 +20,7 @@ const VERSION: u32 = 0x200_0000;
 const KEY_EXCH: u32 = 0x4000_0000;
 
 const P1_LINE: &[u8] =
-    b"auth flags=00000201 set=U domain= user=box7 work= lm=0 nt=24 key=0 mic=1 kind=v1\n";
+    b"auth flags=00000201 set=U domain= user=box7 work= lm=0 nt=24 key=0 mic=1 kind=v1 max=000000\n";
 const P12: &[u8] = b"\0\0\0\0\x01\0\0\0LINE\0";
 /// Strings A, C and D: D's name ends in a jump to C.
 const NAMES: &[u8] = b"\0\0\0\0\x0D\0\0\0A.\0\x03x.y\x03com\0\x02dc\xC0\x03";
@@ -60,6 +60,15 @@ fn refusal_at<T: std::fmt::Debug>(answer: Result<T, Refusal>) -> (u8, u8, usize)
     (refusal.number(), refusal.field, refusal.place)
 }
 
+/// A field whose MaxLen is its length.
+const fn field(offset: u32, len: u16) -> Field {
+    Field {
+        offset,
+        len,
+        max_len: len,
+    }
+}
+
 fn parts() -> Parts<'static> {
     Parts {
         version: *b"\x0A\0\x61\x4A\0\0\0\x0F",
@@ -79,15 +88,9 @@ fn p1_is_read() {
     let read = read_authenticate(&message).expect("taken");
     assert_eq!(read.flags, 0x201);
     assert_eq!(read.mic, Some([0; 16]));
-    assert_eq!(read.user, Field { offset: 88, len: 8 });
+    assert_eq!(read.user, field(88, 8));
     assert_eq!(read.user.bytes(&message), b"b\0o\0x\x007\0");
-    assert_eq!(
-        read.nt,
-        Field {
-            offset: 96,
-            len: 24
-        }
-    );
+    assert_eq!(read.nt, field(96, 24));
     assert_eq!(read.nt.bytes(&message), [0xAA; 24]);
     for empty in [read.lm, read.domain, read.workstation, read.key] {
         assert!(empty.is_empty());
@@ -157,20 +160,8 @@ fn a_challenge_is_read() {
     let read = read_challenge(&message).expect("taken");
     assert_eq!(read.flags, 0x628A_8215);
     assert_eq!(read.server_challenge, *b"\x04\xDF\xF4\x36\x3C\xBB\x53\x2E");
-    assert_eq!(
-        read.target_name,
-        Field {
-            offset: 56,
-            len: 14
-        }
-    );
-    assert_eq!(
-        read.target_info,
-        Field {
-            offset: 70,
-            len: 64
-        }
-    );
+    assert_eq!(read.target_name, field(56, 14));
+    assert_eq!(read.target_info, field(70, 64));
     assert_eq!(read_timestamp(&message), Ok(Some(TIME)));
     assert_eq!(read_timestamp(&no_timestamp()), Ok(None));
     let both = ServerNames {
@@ -255,9 +246,9 @@ fn a_negotiate_is_read() {
     let message = negotiate();
     let read = read_negotiate(&message).expect("taken");
     assert_eq!(read.flags, 0xA208_B207);
-    assert_eq!(read.domain, Field { offset: 40, len: 7 });
+    assert_eq!(read.domain, field(40, 7));
     assert_eq!(read.domain.bytes(&message), b"LINE 31");
-    assert_eq!(read.workstation, Field { offset: 47, len: 5 });
+    assert_eq!(read.workstation, field(47, 5));
     assert_eq!(read.workstation.bytes(&message), b"box\\\xFC");
     // Without their bits the names don't count.
     let mut bare = message.clone();
@@ -286,6 +277,50 @@ fn changes_to_a_negotiate_are_refused_by_number_and_field() {
     assert!(with(28, &[32]).is_ok());
     assert_eq!(refusal(read_negotiate(&negotiate()[..31])), (2, 0));
     assert_eq!(refusal(read_negotiate(&vec![0; 65_536])), (1, 0));
+}
+
+/// A message with another MaxLen in the head at a place.
+fn with_max_len(mut message: Vec<u8>, head: usize, max_len: u16) -> Vec<u8> {
+    message[head + 2..head + 4].copy_from_slice(&max_len.to_le_bytes());
+    message
+}
+
+#[test]
+fn max_len_is_kept_and_told() {
+    let mut room = [0; 200];
+    let message = with_max_len(p1(), 36, 0x8005);
+    let read = read_authenticate(&message).expect("taken");
+    let user = Field {
+        max_len: 0x8005,
+        ..field(88, 8)
+    };
+    assert_eq!(read.user, user);
+    assert_eq!(read.user.bytes(&message), b"b\0o\0x\x007\0");
+    let line = authenticate_line(&message, &mut room).expect("room");
+    assert!(line.ends_with(b" kind=v1 max=000100\n"));
+    // An empty field that counts, and a key that doesn't.
+    let message = with_max_len(with_max_len(p1(), 12, 5), 52, 5);
+    let read = read_authenticate(&message).expect("taken");
+    let empty = Field {
+        max_len: 5,
+        ..Field::default()
+    };
+    assert_eq!((read.lm, read.key), (empty, Field::default()));
+    assert!(read.lm.is_empty());
+    let line = ntlm_line(&message, &mut room).expect("room");
+    assert!(line.ends_with(b" max=100000\n"));
+
+    let message = with_max_len(challenge(), 40, 63);
+    let info = read_challenge(&message).expect("taken").target_info;
+    assert_eq!((info.len, info.max_len), (64, 63));
+    let line = challenge_line(&message, &mut room).expect("room");
+    assert!(line.ends_with(b" time=01DD750F3F7F2C5C max=01\n"));
+
+    let message = with_max_len(negotiate(), 16, 0);
+    let domain = read_negotiate(&message).expect("taken").domain;
+    assert_eq!((domain.len, domain.max_len), (7, 0));
+    let line = negotiate_line(&message, &mut room).expect("room");
+    assert!(line.ends_with(b" max=10\n"));
 }
 
 #[test]
@@ -411,10 +446,10 @@ fn lines() {
     assert!(room[P1_LINE.len()..].iter().all(|&byte| byte == 0xEE));
     assert_eq!(ntlm_line(&p1(), &mut room), Ok(P1_LINE));
     assert_eq!(ntlm_program_line(&p1(), &mut room), Ok(P1_LINE));
-    let chal = b"chal flags=628A8215 set=U target=PEERSRV pairs=5 time=01DD750F3F7F2C5C\n";
+    let chal = b"chal flags=628A8215 set=U target=PEERSRV pairs=5 time=01DD750F3F7F2C5C max=00\n";
     assert_eq!(challenge_line(&challenge(), &mut room), Ok(&chal[..]));
     assert_eq!(ntlm_line(&challenge(), &mut room), Ok(&chal[..]));
-    let nego = b"nego flags=A208B207 domain=LINE\\x2031 work=box\\x5C\\xFC\n";
+    let nego = b"nego flags=A208B207 domain=LINE\\x2031 work=box\\x5C\\xFC max=00\n";
     for line in [negotiate_line, ntlm_line, ntlm_program_line] {
         assert_eq!(line(&negotiate(), &mut room), Ok(&nego[..]));
         assert_eq!(
