@@ -16,11 +16,13 @@ use Rattle.authenticate.specs.declared.Authenticate.{Authenticate}
 use Rattle.authenticate.specs.declared.Reading.the-variants.{Taken}
 use Rattle.authenticate.specs.Authenticate.{readAuthenticate}
 use Rattle.authenticate_writing.specs.Writing.{authenticateBytes}
+use Rattle.c_number.specs.Number.{writtenNumber}
 use Rattle.canonical.specs.Canonical.{Meaning, canonicalAnswer, canonicalOut}
+use Rattle.demands.specs.Answers.{TellsWritten}
 use Rattle.demands.specs.Message.{authenticate, lenOf, Nonempty, MicThere, Fails, DifferInIgnored}
 use Rattle.demands.specs.Order.{check}
 use Rattle.demands.specs.Kept.{Kept}
-use Rattle.demands.specs.Secret.{DifferInSecrets}
+use Rattle.demands.specs.Secret.{DifferInSecrets, AlikeOutside}
 use Rattle.demands.specs.TakenExactly.{IsTakenAuthenticate}
 use Rattle.demands.specs.WrittenExactly.{WritingRefusedWith, WrittenExactly, Fails30, Fails33, authenticateSize}
 
@@ -135,6 +137,21 @@ CanonicalByMeaning = (s t : List ℕ) (m : Meaning) → Means s m → Means t m 
 abbrev pub CanonicalIgnored : Type 0
 CanonicalIgnored = (s t : List ℕ) → DifferInIgnored authenticate s t → SameCanonical s t
 
--- what comes out holds the secrets, for the caller alone; the answer, a length or a refusal, tells nothing of them
+-- demand 3: what comes out holds the secrets, for the caller alone. Of two messages that differ in secrets only, both get the same
+-- length or the same refusal, and what comes out is alike outside the secrets' places
+pub record SecretsWritten (s t : List ℕ) : Type 0 where
+  pub answer : (room : ℕ) → canonicalAnswer room s ≡ canonicalAnswer room t
+  pub message : (out out′ : List ℕ) (n : ℕ) → length out ≡ length out′ → canonicalAnswer (length out) s ≡ Length n →
+      AlikeOutside (take n (canonicalOut out s)) (take n (canonicalOut out′ t))
+
 abbrev pub CanonicalSecret : Type 0
-CanonicalSecret = (s t : List ℕ) → DifferInSecrets s t → (room : ℕ) → canonicalAnswer room s ≡ canonicalAnswer room t
+CanonicalSecret = (s t : List ℕ) → DifferInSecrets s t → SecretsWritten s t
+
+-- ---- from C
+
+-- what is written has at most 65,535 bytes, and the header's macros take the length or the refusal out of the answer
+abbrev pub CanonicalShort : Type 0
+CanonicalShort = (room : ℕ) (s : List ℕ) (n : ℕ) → canonicalAnswer room s ≡ Length n → n ≤ 65535
+
+abbrev pub CanonicalTells : Type 0
+CanonicalTells = (room : ℕ) (s : List ℕ) → TellsWritten (writtenNumber (canonicalAnswer room s)) (canonicalAnswer room s)

@@ -22,6 +22,7 @@ ghost use Rattle.respond.specs.Answer.{respondAnswer, respondOut};
 ghost use Rattle.respond.specs.Decision.{defaults, benchSettings, oldServerSettings, decisionOn};
 ghost use Rattle.respond.specs.Domain.{domainToSend};
 ghost use Rattle.response_pairs.specs.ResponsePairs.{writeAnswer as pairsAnswer, writeOut as pairsOut};
+ghost use Rattle.canonical.specs.Canonical.{canonicalAnswer, canonicalOut};
 ghost use Rattle.c_number.specs.Number.{verdictNumber, writtenNumber};
 ghost use Rattle.c_number.specs.Outcome.{callNumber, callOut, twoArrayNumber, twoArrayOut, twoArrayBytes};
 ghost use Rattle.c_reading.specs.FieldCopy.{fieldCopyAnswer, fieldCopyOut};
@@ -455,4 +456,12 @@ pub extern "C" fn dialtable_write_response_pairs(
     ensures content { λ _. ⌜ now (out .exit) ≡ pairsOut (now (out .entry)) (now (challenge .entry)) (now («target_name» .entry)) (not (eqb unverified 0)) (now (bindings .entry)) ⌝ }
 {
     written_number(response_pairs::write(out, challenge, target_name, !(unverified == 0), bindings))
+}
+
+#[no_mangle]
+pub extern "C" fn dialtable_canonical_authenticate(out: &mut [u8], msg: &[u8]) -> u64
+    ensures answer { λ r. ⌜ r ≡ writtenNumber (canonicalAnswer (length (now (out .entry))) (now (msg .entry))) ⌝ }
+    ensures content { λ _. ⌜ now (out .exit) ≡ canonicalOut (now (out .entry)) (now (msg .entry)) ⌝ }
+{
+    written_number(canonical::write(out, msg))
 }
