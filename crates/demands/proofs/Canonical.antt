@@ -1,5 +1,6 @@
 -- One meaning, one writing.
 pub mod CanonicalWritten
+pub mod Example
 use Prim.Native.Nat.{ℕ, _+_, _≤_}
 use mathlib.Core.Path.{_≡_, refl, sym, ap, _∙_, subst}
 use mathlib.Core.Bool.{Bool, true, false, cond}

@@ -9,9 +9,11 @@ use mathlib.Core.Logic.{_⊎_, _↔_}
 use mathlib.Core.List.{List, [], _∷_, _++_}
 use lib.Dec.{eqb}
 use lib.ListN.{length, take, drop, replicate}
+use lib.Seq.{sets}
+use Rattle.wire.specs.declared.refusal.Refusal.the-variants.{TooShort, WrongKey, NoRoom}
 use Rattle.wire.specs.Number.{u32At}
 use Rattle.field.specs.Field.{fieldBytes}
-use Rattle.place.specs.declared.written.Written.the-variants.{Length}
+use Rattle.place.specs.declared.written.Written.the-variants.{Length, Refused}
 use Rattle.authenticate.specs.declared.Authenticate.{Authenticate}
 use Rattle.authenticate.specs.declared.Reading.the-variants.{Taken}
 use Rattle.authenticate.specs.Authenticate.{readAuthenticate}
@@ -19,6 +21,7 @@ use Rattle.authenticate_writing.specs.Writing.{authenticateBytes}
 use Rattle.c_number.specs.Number.{writtenNumber}
 use Rattle.canonical.specs.Canonical.{Meaning, canonicalAnswer, canonicalOut}
 use Rattle.demands.specs.Answers.{TellsWritten}
+use Rattle.demands.specs.Bench.{p1}
 use Rattle.demands.specs.Message.{authenticate, lenOf, Nonempty, MicThere, Fails, DifferInIgnored}
 use Rattle.demands.specs.Order.{check}
 use Rattle.demands.specs.Kept.{Kept}
@@ -60,7 +63,8 @@ pub record WrittenAs (s w : List ℕ) : Type 0 where
 -- two messages which are both written so come out equal exactly when their meanings are equal, whatever their outputs were
 abbrev pub OneWriting : Type 0
 OneWriting =
-    (s t w x : List ℕ) (m n : Meaning) → Means s m → Means t n → WrittenAs s w → WrittenAs t x → (w ≡ x) ↔ (m ≡ n)
+    (s t w x : List ℕ) (m n : Meaning) (p : Means s m) (q : Means t n) → WrittenAs s w → WrittenAs t x →
+    (w ≡ x) ↔ (m ≡ n)
 
 -- writing what came out gives it again, with every room that suffices
 abbrev pub WrittenAgain : Type 0
@@ -155,3 +159,28 @@ CanonicalShort = (room : ℕ) (s : List ℕ) (n : ℕ) → canonicalAnswer room 
 
 abbrev pub CanonicalTells : Type 0
 CanonicalTells = (room : ℕ) (s : List ℕ) → TellsWritten (writtenNumber (canonicalAnswer room s)) (canonicalAnswer room s)
+
+-- ---- the theorems speak of something: P1 is its own canonical form
+
+-- P1 with another MaxLen of the NT response, another Version, and a head of a session key, which doesn't count
+abbrev otherwise : List ℕ
+otherwise = sets (sets (sets p1 22 (0xFF ∷ 0xFF ∷ [])) 64 (0x06 ∷ 0x01 ∷ 0xB1 ∷ 0x1D ∷ 0x00 ∷ 0x00 ∷ 0x00 ∷ 0x0F ∷ [])) 52 (0x08 ∷ 0x00 ∷ [])
+
+-- the same with KEY_EXCH, where the key counts: its eight bytes are at 96
+abbrev shortKey : List ℕ
+shortKey = sets (sets otherwise 56 (0x60 ∷ [])) 63 (0x40 ∷ [])
+
+-- P1's fields after 64 bytes, the NT response before the user, and no MIC
+abbrev withoutMic : List ℕ
+withoutMic = sets (sets (take 64 p1) 24 (0x40 ∷ [])) 40 (0x58 ∷ []) ++ (replicate 24 0xAA ++ (0x62 ∷ 0x00 ∷ 0x6F ∷ 0x00 ∷ 0x78 ∷ 0x00 ∷ 0x37 ∷ 0x00 ∷ []))
+
+pub record CanonicalExample : Type 0 where
+  pub answer : canonicalAnswer 122 p1 ≡ Length 120
+  -- into an output of 122 bytes FF
+  pub itself : canonicalOut (replicate 122 0xFF) p1 ≡ p1 ++ (0xFF ∷ 0xFF ∷ [])
+  pub tidied : canonicalOut (replicate 120 0xFF) otherwise ≡ p1
+  pub without-mic : canonicalOut (replicate 120 0xFF) withoutMic ≡ p1
+  pub short-key : canonicalAnswer 120 shortKey ≡ Refused WrongKey
+  pub no-room : canonicalAnswer 119 p1 ≡ Refused NoRoom
+  pub kept : canonicalOut (replicate 119 0xFF) p1 ≡ replicate 119 0xFF
+  pub reading-first : canonicalAnswer 0 (take 63 p1) ≡ Refused TooShort
