@@ -33,3 +33,4 @@ pub mod StringShown
 pub mod Explained
 pub mod Batch
 pub mod MaxLen
+pub mod Canonical

@@ -5,7 +5,7 @@ use mathlib.Core.Path.{_≡_}
 use mathlib.Core.Bool.{Bool, true, false, _&&_, not}
 use mathlib.Core.List.{List, [], _∷_, _++_}
 use lib.Dec.{eqb}
-use lib.ListN.{length, take}
+use lib.ListN.{length, take, replicate}
 use lib.Seq.{sets}
 use Rattle.text.specs.Text.{ascii}
 use Rattle.wire.specs.Number.{standsAt}
@@ -88,6 +88,10 @@ userLen n = sets p1 36 (n ∷ 0 ∷ [])
 abbrev userOffset : ℕ → List ℕ
 userOffset n = sets p1 40 (n ∷ 0 ∷ 0 ∷ 0 ∷ [])
 
+-- P1 with an NT response of another length, at most 44, and bytes enough for it
+abbrev ntLen : ℕ → List ℕ
+ntLen n = sets p1 20 (n ∷ 0 ∷ n ∷ 0 ∷ []) ++ replicate 20 0xAA
+
 -- P12's 13 bytes, with these flags, below 256
 abbrev pub p12 : ℕ → List ℕ
 p12 flags =
@@ -132,6 +136,12 @@ cases =
     -- P12: the whole line, and the same with flags 0x21
     nl (p12 0x01) "nl type=0 flags=00000001 a=LINE" ∷
     nl (p12 0x21) "nl type=0 flags=00000001 a=LINE" ∷
+    -- request 11/12: the kind by the NT response's length, at 1, 23, 25, 43 and 44
+    ntlm (ntLen 1) "auth flags=00000201 set=U domain= user=box7 work= lm=0 nt=1 key=0 mic=1 kind=odd max=000000" ∷
+    ntlm (ntLen 23) "auth flags=00000201 set=U domain= user=box7 work= lm=0 nt=23 key=0 mic=1 kind=odd max=000000" ∷
+    ntlm (ntLen 25) "auth flags=00000201 set=U domain= user=box7 work= lm=0 nt=25 key=0 mic=1 kind=odd max=000000" ∷
+    ntlm (ntLen 43) "auth flags=00000201 set=U domain= user=box7 work= lm=0 nt=43 key=0 mic=1 kind=odd max=000000" ∷
+    ntlm (ntLen 44) "auth flags=00000201 set=U domain= user=box7 work= lm=0 nt=44 key=0 mic=1 kind=v2 max=000000" ∷
     []
 
 abbrev pub BenchHolds : Type 0

@@ -154,7 +154,7 @@ pub record AuthenticateExample : Type 0 where
   pub length-written : writeAnswer 174 flagsSent version mic lm nt line16 box16 [] key ≡ Length 172
   pub bytes-written : writeOut (replicate 174 0xFF) flagsSent version mic lm nt line16 box16 [] key ≡
       authenticateMessage ++ (0xFF ∷ 0xFF ∷ [])
-  pub line : ntlmLine authenticateMessage ≡ lineOf "auth flags=42000201 set=U domain=LINE user=box7 work= lm=24 nt=28 key=16 mic=1 kind=v2 max=000000"
+  pub line : ntlmLine authenticateMessage ≡ lineOf "auth flags=42000201 set=U domain=LINE user=box7 work= lm=24 nt=28 key=16 mic=1 kind=odd max=000000"
   pub no-room : writeAnswer 171 flagsSent version mic lm nt line16 box16 [] key ≡ Refused NoRoom
   pub kept : writeOut (replicate 171 0xFF) flagsSent version mic lm nt line16 box16 [] key ≡ replicate 171 0xFF
 
@@ -171,7 +171,7 @@ pub record AnswerExample : Type 0 where
   pub answer : respondAnswer 172 challengeMessage oldServerSettings 5 version mic lm nt [] box16 [] key ≡
       Sent (record { len = 172; time = 0x0807060504030201; «mic_due» = true })
   pub bytes-written : respondOut (replicate 172 0xFF) challengeMessage oldServerSettings version mic lm nt [] box16 [] key ≡ answerMessage
-  pub line : ntlmLine answerMessage ≡ lineOf "auth flags=40800215 set=U domain=LINE user=box7 work= lm=24 nt=28 key=16 mic=1 kind=v2 max=000000"
+  pub line : ntlmLine answerMessage ≡ lineOf "auth flags=40800215 set=U domain=LINE user=box7 work= lm=24 nt=28 key=16 mic=1 kind=odd max=000000"
   pub no-room : respondAnswer 171 challengeMessage oldServerSettings 5 version mic lm nt [] box16 [] key ≡ Unanswered NoRoom
   pub kept : respondOut (replicate 171 0xFF) challengeMessage oldServerSettings version mic lm nt [] box16 [] key ≡ replicate 171 0xFF
   pub bench-no : respondAnswer 171 challengeMessage (benchSettings false) 5 version mic lm nt [] box16 [] key ≡ Unanswered NoRoom

@@ -23,6 +23,7 @@ ghost use Rattle.respond.specs.Answer.{respondAnswer, respondOut};
 ghost use Rattle.respond.specs.Decision.{defaults, benchSettings, oldServerSettings, decisionOn};
 ghost use Rattle.respond.specs.Domain.{domainToSend};
 ghost use Rattle.response_pairs.specs.ResponsePairs.{writeAnswer as pairsAnswer, writeOut as pairsOut};
+ghost use Rattle.canonical.specs.Canonical.{canonicalAnswer, canonicalOut};
 ghost use Rattle.c_number.specs.Number.{verdictNumber, writtenNumber};
 ghost use Rattle.c_number.specs.Outcome.{callNumber, callOut, twoArrayNumber, twoArrayOut, twoArrayBytes};
 ghost use Rattle.c_reading.specs.FieldCopy.{fieldCopyAnswer, fieldCopyOut};
@@ -482,4 +483,12 @@ pub extern "C" fn dialtable_check_messages(buffer: &[u8], entries: &mut [CEntry]
         i = i + 1;
     }
     buffer_number(buffer)
+}
+
+#[no_mangle]
+pub extern "C" fn dialtable_canonical_authenticate(out: &mut [u8], msg: &[u8]) -> u64
+    ensures answer { λ r. ⌜ r ≡ writtenNumber (canonicalAnswer (length (now (out .entry))) (now (msg .entry))) ⌝ }
+    ensures content { λ _. ⌜ now (out .exit) ≡ canonicalOut (now (out .entry)) (now (msg .entry)) ⌝ }
+{
+    written_number(canonical::write(out, msg))
 }

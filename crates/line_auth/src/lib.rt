@@ -55,6 +55,12 @@ fn kind_size(nt: u16) -> usize
     if nt == 0 {
         return 10;
     }
+    if nt == 24 {
+        return 8;
+    }
+    if nt < 44 {
+        return 9;
+    }
     8
 }
 
@@ -116,7 +122,10 @@ fn put_kind(p: Place, out: &mut [u8], nt: u16) -> Place
     if nt == 24 {
         return p.put_bytes(out, b" kind=v1");
     }
-    p.put_bytes(out, b" kind=v2")
+    if 44 <= nt {
+        return p.put_bytes(out, b" kind=v2");
+    }
+    p.put_bytes(out, b" kind=odd")
 }
 
 fn put_end(p: Place, out: &mut [u8], mic: bool, f: Fields) -> Place

@@ -4,7 +4,7 @@ use mathlib.Core.Path.{refl}
 use mathlib.Core.Bool.{Bool, true, false, cond}
 use mathlib.Core.List.{List}
 use native.Mathlib.Omega.{arith}
-use lib.Dec.{eqb}
+use lib.Dec.{leb, eqb}
 use lib.ListN.{length, drop, length-append}
 use Rattle.text.specs.Text.{ascii}
 use Rattle.field.specs.declared.Field.{Field}
@@ -57,11 +57,12 @@ utf8-bound label s false x = omega arith
 
 kind-bound : (nt : ℕ) → length (kindWord nt) ≤ 10
 unfolding kindWord
-kind-bound nt = go (eqb nt 0) (eqb nt 24) where
-  go : (x y : Bool) → length (cond x (ascii " kind=none") (cond y (ascii " kind=v1") (ascii " kind=v2"))) ≤ 10
-  go true y = omega arith
-  go false true = omega arith
-  go false false = omega arith
+kind-bound nt = go (eqb nt 0) (eqb nt 24) (leb 44 nt) where
+  go : (x y z : Bool) → length (cond x (ascii " kind=none") (cond y (ascii " kind=v1") (cond z (ascii " kind=v2") (ascii " kind=odd")))) ≤ 10
+  go true y z = omega arith
+  go false true z = omega arith
+  go false false true = omega arith
+  go false false false = omega arith
 
 pub auth-bound : (s : List ℕ) (a : Authenticate) →
     length (authText s a) ≤ 73 + length (authLengths (a .fields .lm .len) (a .fields .nt .len) (a .fields .key .len))

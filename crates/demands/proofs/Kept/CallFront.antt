@@ -142,7 +142,7 @@ call-front c out h = go (leb (count c) (length out)) refl (outcome c) (counted c
 
 -- ---- the bytes beside the numbers
 
-mic-16 : (s : List ℕ) → length (readAuthenticate s .mic) ≡ 16
+pub mic-16 : (s : List ℕ) → length (readAuthenticate s .mic) ≡ 16
 unfolding readAuthenticate
 mic-16 s = go (readingOf s) refl where
   go : (r : Reading) → r ≡ readingOf s → length (micBytes r s) ≡ 16

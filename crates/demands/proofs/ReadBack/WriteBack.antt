@@ -47,7 +47,7 @@ append-none : (l : List ℕ) → l ++ [] ≡ l
 append-none [] = refl
 append-none (x ∷ xs) = ap (λ (l : List ℕ). x ∷ l) (append-none xs)
 
-three : (P : ℕ → Type 0) → P 3 → P 4 → P 5 → (k : ℕ) → 3 ≤ k → k ≤ 5 → P k
+pub three : (P : ℕ → Type 0) → P 3 → P 4 → P 5 → (k : ℕ) → 3 ≤ k → k ≤ 5 → P k
 three P a b c k l r = go (eqb k 3) (eqb k 4) refl refl where
   is-5 : 5 ≤ k → 5 ≡ k
   is-5 h = omega arith

@@ -38,7 +38,7 @@ module _ (room room′ : ℕ) (rooms : room ≡ room′) (w : NegotiateFlags) (v
   unfolding checkToWrite payloadBytes
   verdict-same = simp (rooms, length-append, same .lm-same, same .nt-same, same .key-same)
 
-  write-same : writeAnswer room w v mic lm nt dom usr wks key ≡ writeAnswer room′ w v mic′ lm′ nt′ dom usr wks key′
+  pub write-same : writeAnswer room w v mic lm nt dom usr wks key ≡ writeAnswer room′ w v mic′ lm′ nt′ dom usr wks key′
   unfolding writeAnswer
   write-same = go (checkToWrite room w lm nt dom usr wks key) refl where
     go : (x : Verdict) → checkToWrite room w lm nt dom usr wks key ≡ x →
@@ -51,7 +51,7 @@ module _ (room room′ : ℕ) (rooms : room ≡ room′) (w : NegotiateFlags) (v
     go (Not d) e = rw (← verdict-same, e)
 
 -- the messages that are written
-written-alike : (out out′ : List ℕ) → length out ≡ length out′ → (w : NegotiateFlags) (v dom usr wks mic lm nt key mic′ lm′ nt′ key′ : List ℕ) → length v ≡ 8 →
+pub written-alike : (out out′ : List ℕ) → length out ≡ length out′ → (w : NegotiateFlags) (v dom usr wks mic lm nt key mic′ lm′ nt′ key′ : List ℕ) → length v ≡ 8 →
     AsLong mic lm nt key mic′ lm′ nt′ key′ → (n : ℕ) → writeAnswer (length out) w v mic lm nt dom usr wks key ≡ Length n →
     AlikeOutside (take n (writeOut out w v mic lm nt dom usr wks key)) (take n (writeOut out′ w v mic′ lm′ nt′ dom usr wks key′))
 unfolding writeAnswer writeOut

@@ -1,6 +1,6 @@
 -- `kind_size` is the length of the last word.
 use borrow.Author.Needs.{needs}
-use Rattle.word.proofs.Labels.{kind-none, kind-some}
+use Rattle.word.proofs.Labels.{kinds}
 use Rattle.line_auth.proofs.kind_size.Statement.{statement}
 use Rattle.line_auth.proofs.kind_size.Tie as tie
 
@@ -8,4 +8,5 @@ pub kind-size-spec : {M : Type 1} → statement M
 kind-size-spec =
     tie.close
     (tie.spec
-    (λ c. (search kind-none, search needs)) (λ c. (search kind-some, search needs)))
+    (λ c. (search kinds, search needs)) (λ c. (search kinds, search needs))
+    (λ c. (search kinds, search needs)) (λ c. (search kinds, search needs)))

@@ -1,6 +1,6 @@
 -- `put_kind` writes the last word.
 use borrow.Author.Needs.{needs}
-use Rattle.word.proofs.Labels.{kind-none-room, kind-some-room, choice}
+use Rattle.word.proofs.Labels.{kind-rooms, choice}
 use Rattle.line_auth.proofs.put_kind.Statement.{statement}
 use Rattle.line_auth.proofs.put_kind.Tie as tie
 use Rattle.word.specs.Words.{kindWord}
@@ -10,6 +10,7 @@ unfolding kindWord
 put-kind-spec =
     tie.close
     (tie.spec
-    (λ c. search needs) (λ c κs. search kind-none-room) (λ c. search needs) (λ c. search choice) (λ c. search needs)
-    (λ c κs. search kind-some-room) (λ c. search needs) (λ c. search choice) (λ c. search needs)
-    (λ c κs. search kind-some-room) (λ c. search needs) (λ c. search choice))
+    (λ c. search needs) (λ c κs. search kind-rooms) (λ c. search needs) (λ c. search choice) (λ c. search needs)
+    (λ c κs. search kind-rooms) (λ c. search needs) (λ c. search choice) (λ c. search needs)
+    (λ c κs. search kind-rooms) (λ c. search needs) (λ c. search choice) (λ c. search needs)
+    (λ c κs. search kind-rooms) (λ c. search needs) (λ c. search choice))

@@ -1,0 +1,24 @@
+-- The example of a canonical form holds, by computation.
+use mathlib.Core.Path.{refl}
+use Rattle.field.specs.Field.{fieldAt, fieldBytes}
+use Rattle.field_writing.specs.Writing.{headBytes, versionBytes}
+use Rattle.place.specs.Place.{le16, le32}
+use Rattle.head.specs.Head.{signatureHolds, readHead}
+use Rattle.authenticate.specs.Authenticate.{fieldsAt, checkEnds, checkBegins, checkNames, checkShared, checkFields, micPresent, readingOf, readAuthenticate}
+use Rattle.authenticate_writing.specs.Writing.{fieldsTo, headsBytes, afterHeads, fixedBytes, payloadBytes, authenticateBytes, checkNamesToWrite, checkToWrite, writeAnswer, writeOut}
+use Rattle.canonical.specs.Canonical.{meaningOf, meaningAnswer, meaningOut, canonicalAnswer, canonicalOut}
+use Rattle.demands.specs.Canonical.{CanonicalExample}
+
+pub canonical-example : CanonicalExample
+unfolding readAuthenticate readingOf fieldsAt checkEnds checkBegins checkNames checkShared checkFields micPresent readHead signatureHolds fieldAt fieldBytes fieldsTo headsBytes afterHeads fixedBytes payloadBytes authenticateBytes checkNamesToWrite checkToWrite writeAnswer writeOut headBytes versionBytes le16 le32 meaningOf meaningAnswer meaningOut canonicalAnswer canonicalOut
+canonical-example =
+    record {
+      answer = refl;
+      itself = refl;
+      tidied = refl;
+      without-mic = refl;
+      short-key = refl;
+      no-room = refl;
+      kept = refl;
+      reading-first = refl;
+    }
