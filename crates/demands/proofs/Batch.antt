@@ -17,21 +17,16 @@ use Rattle.wire.specs.declared.refusal.Refusal.the-variants.{WrongType, PlaceOu
 use Rattle.wire.specs.Check.{checked, after}
 use Rattle.head.specs.declared.Kind.{Kind}
 use Rattle.head.specs.declared.Kind.the-variants.{Negotiate, Challenge, Authenticate}
-use Rattle.challenge.specs.declared.Answer.{Answer as ChalAnswer}
-use Rattle.authenticate.specs.declared.Answer.{Answer as AuthAnswer}
-use Rattle.explain.specs.Explain.{checksOf, readAs, negoVerdict, chalVerdict, authVerdict}
+use Rattle.explain.specs.Explain.{checksOf, readAs, negoVerdict, authVerdict}
 use Rattle.batch.specs.declared.CEntry.{CEntry}
 use Rattle.batch.specs.declared.Entry.{Entry}
 use Rattle.batch.specs.Batch.{answerOf, atPlace, readMarked, withAnswer, answered, answeredFromC}
-use Rattle.demands.specs.Explained.{formatOf, TakenAs, RefusedAs, OneOf}
-use Rattle.demands.specs.Message.{DifferInIgnored}
+use Rattle.demands.specs.Explained.{TakenAs, RefusedAs, OneOf}
 use Rattle.demands.specs.Batch.{Place, ofEntry, ofCEntry, markOf, Passes, Inside, message, PlaceAnswered, EntryAnswered, CEntryAnswered, Each, BatchAnswers, BatchAnswersFromC, Listed, in-first-64, in-challenge, DifferInListedSecrets, SameBatch, SameBatchFromC, SecretBatch, BatchIgnored}
 use Rattle.demands.proofs.Alike.{same-part}
 use Rattle.demands.proofs.Explained.{taken-clear, refused-not, Either, either, refused-is}
 use Rattle.demands.proofs.Explained.Reasons.{why}
-use Rattle.demands.proofs.TakenExactly.Negotiate.{negotiate-ignored}
-use Rattle.demands.proofs.Ignored.ChallengeIgnored.{challenge-ignored}
-use Rattle.demands.proofs.Ignored.{authenticate-ignored}
+use Rattle.demands.proofs.Explained.Same.{ignored-read}
 use Rattle.demands.proofs.Batch.First64.{negotiate-same, authenticate-same}
 
 -- ---- a single call's numbers
@@ -254,11 +249,6 @@ secret-batch =
     }
 
 -- ---- ignored bytes
-
-ignored-read : (k : Kind) (a b : List ℕ) → DifferInIgnored (formatOf k) a b → readAs k a ≡ readAs k b
-ignored-read Negotiate a b d = ap negoVerdict (negotiate-ignored a b d .answer)
-ignored-read Challenge a b d = ap (λ (y : ChalAnswer). chalVerdict (y .reading)) (challenge-ignored a b d .answer)
-ignored-read Authenticate a b d = ap (λ (y : AuthAnswer). authVerdict (y .reading)) (authenticate-ignored a b d .answer)
 
 pub batch-ignored : BatchIgnored
 batch-ignored =

@@ -1,5 +1,5 @@
 -- Cases that meet the hypotheses of the theorems.
-use Prim.Native.Nat.{ℕ, _+_, _≤_}
+use Prim.Native.Nat.{ℕ, _+_, _-_, _*_, _≤_}
 use mathlib.Core.Path.{_≡_, refl, sym, ap}
 use mathlib.Core.Logic.{_⊎_, inl, inr, ⊎-elim}
 use mathlib.Core.Bool.{Bool, true, false}
@@ -14,11 +14,12 @@ use Rattle.head.specs.declared.Kind.the-variants.{Negotiate, Challenge, Authent
 use Rattle.head.specs.Head.{kindOf}
 use Rattle.demands.specs.Bench.{p1, p12}
 use Rattle.demands.specs.Examples.{info, challengeMessage, negotiateMessage}
-use Rattle.demands.specs.Hypotheses.{otherChallenge, otherNegotiate, otherP1, HypothesesMet}
+use Rattle.demands.specs.Hypotheses.{otherChallenge, otherReserved, otherNegotiate, otherP1, HypothesesMet}
 use Rattle.demands.specs.Ignored.{NlDifferInIgnored, DifferAsRead}
-use Rattle.demands.specs.Message.{Format, negotiate, authenticate, challenge, Ignored, max-len, DifferInIgnored}
+use Rattle.demands.specs.Message.{Format, negotiate, authenticate, challenge, Ignored, max-len, unused, DifferInIgnored, SameMaxLen}
 use Rattle.demands.specs.PairList.{PairAt, Holds, FirstFault, FirstWith, this, next}
 use Rattle.demands.specs.TakenExactly.{InfoBytes}
+use Rattle.demands.proofs.Alike.{same16}
 use Rattle.demands.proofs.PairList.{step-judged, pairs-taken, pairs-refused}
 
 -- a message and the same with another low byte of a field's MaxLen
@@ -36,6 +37,18 @@ differ s t p h e = h (ap (λ (l : List ℕ). getD l p 0) e)
 
 challenge-differs : DifferInIgnored challenge challengeMessage otherChallenge
 challenge-differs = max-len-differs challenge challengeMessage 1 0xFF (omega arith) (omega arith)
+
+reserved-differs : DifferInIgnored challenge challengeMessage otherReserved
+reserved-differs =
+    record { length-same = sym (length-set challengeMessage 32 0xFF); bytes-same = λ p. go p (eqb p 32) refl }
+  where
+    go : (p : ℕ) (b : Bool) → eqb p 32 ≡ b → (getD challengeMessage p 0 ≡ getD otherReserved p 0) ⊎ Ignored challenge challengeMessage p
+    go p true e = inr (unused (omega (arith, eqb-true p 32 e), omega (arith, eqb-true p 32 e)))
+    go p false e = inl (sym (getD-set-other challengeMessage 32 p 0xFF 0 (eqb-false p 32 e)))
+
+reserved-max-len : SameMaxLen challenge challengeMessage otherReserved
+reserved-max-len i a b c =
+    same16 challengeMessage otherReserved (28 * i - 16 + 2) (λ p l r. sym (getD-set-other challengeMessage 32 p 0xFF 0 (λ e. omega arith)))
 
 as-read : DifferAsRead challengeMessage otherChallenge
 unfolding kindOf
@@ -97,6 +110,7 @@ hypotheses-met =
         max-len-differs authenticate p1 1 0xFF (omega arith) (omega arith),
         differ p1 otherP1 14 (λ e. omega arith),
       );
+      same-max-len = ((reserved-differs, reserved-max-len), differ challengeMessage otherReserved 32 (λ e. omega arith));
       read-as-challenge = as-read;
       nl-auth-ignored = (nl-differs, differ (p12 0x01) (p12 0x21) 4 (λ e. omega arith));
       info-bytes = bytes-of-info;

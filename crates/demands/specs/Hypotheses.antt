@@ -8,7 +8,7 @@ use Rattle.demands.specs.Bench.{p1, p12}
 use Rattle.demands.specs.Examples.{info, challengeMessage, negotiateMessage, lm, nt, key, mic}
 use Rattle.demands.specs.Ignored.{NlDifferInIgnored, DifferAsRead}
 use Rattle.demands.specs.InTurn.{KthPair}
-use Rattle.demands.specs.Message.{negotiate, authenticate, challenge, Set, DifferInIgnored}
+use Rattle.demands.specs.Message.{negotiate, authenticate, challenge, Set, DifferInIgnored, SameMaxLen}
 use Rattle.demands.specs.PairList.{Holds, FirstFault, FirstWith}
 use Rattle.demands.specs.Secret.{AsLong}
 use Rattle.demands.specs.TakenExactly.{InfoBytes}
@@ -21,6 +21,10 @@ Two Differ s t = Differ s t × (s ≡ t → ⊥)
 abbrev pub otherChallenge : List ℕ
 otherChallenge = set challengeMessage 14 0xFF
 
+-- the first byte of Reserved is FF
+abbrev pub otherReserved : List ℕ
+otherReserved = set challengeMessage 32 0xFF
+
 abbrev pub otherNegotiate : List ℕ
 otherNegotiate = set negotiateMessage 18 0xFF
 
@@ -32,6 +36,7 @@ pub record HypothesesMet : Type 0 where
   pub challenge-ignored : Two (DifferInIgnored challenge) challengeMessage otherChallenge
   pub negotiate-ignored : Two (DifferInIgnored negotiate) negotiateMessage otherNegotiate
   pub authenticate-ignored : Two (DifferInIgnored authenticate) p1 otherP1
+  pub same-max-len : Two (λ s t. DifferInIgnored challenge s t × SameMaxLen challenge s t) challengeMessage otherReserved
   pub read-as-challenge : DifferAsRead challengeMessage otherChallenge
   pub nl-auth-ignored : Two NlDifferInIgnored (p12 0x01) (p12 0x21)
   -- of TakenExactly.antt, OwnBytes.antt and InTurn.antt: the list, and the same without its end pair

@@ -18,10 +18,19 @@ fn digit(f: Field) -> u8
     b'1'
 }
 
-fn of_two(a: Field, b: Field) -> [u8; 8]
-    ensures { λ r. ⌜ r ≡ maxEnd ((1, a) ∷ (2, b) ∷ []) ⌝ }
+fn of_two(first: Field, second: Field) -> [u8; 8]
+    ensures { λ r. ⌜ r ≡ maxEnd ((1, first) ∷ (2, second) ∷ []) ⌝ }
 {
-    [b' ', b'm', b'a', b'x', b'=', digit(a), digit(b), b'\n']
+    [
+        b' ',
+        b'm',
+        b'a',
+        b'x',
+        b'=',
+        digit(first),
+        digit(second),
+        b'\n',
+    ]
 }
 
 fn of_six(a: Field, b: Field, c: Field, d: Field, e: Field, f: Field) -> [u8; 12]

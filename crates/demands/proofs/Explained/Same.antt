@@ -40,7 +40,7 @@ use Rattle.explain.specs.Explain.{checksOf, readAs, fieldsOf, numbered, hasPair
 use Rattle.demands.specs.MaxLen.{bareNegotiate, bareChallenge, bareAuthenticate}
 use Rattle.demands.specs.Message.{negotiate, authenticate, challenge, lenOf, offsetOf, Nonempty, DifferInIgnored}
 use Rattle.demands.specs.Secret.{DifferInSecrets}
-use Rattle.demands.specs.Explained.{FailsAt, at-field, at-pair, Before, ExplainedIgnored, SecretExplained}
+use Rattle.demands.specs.Explained.{formatOf, FailsAt, at-field, at-pair, Before, ExplainedIgnored, SecretExplained}
 use Rattle.demands.proofs.MaxLen.{kept, keptFields, keptChallengeFields, keptNegotiateFields, bare-only}
 use Rattle.demands.proofs.Message.Unchanged.{looked, flags-same}
 use Rattle.demands.proofs.TakenExactly.Negotiate.{negotiate-ignored, negotiate-seen, fields-same as nego-fields}
@@ -186,21 +186,30 @@ chal-verdict : (r : ChalReading) → chalVerdict r ≡ chalVerdict (bareChalleng
 chal-verdict (ChalTaken c) = refl
 chal-verdict (ChalRefused e) = refl
 
+pub ignored-read : (k : Kind) (s t : List ℕ) → DifferInIgnored (formatOf k) s t → readAs k s ≡ readAs k t
+ignored-read Negotiate s t d =
+    nego-verdict (readNegotiate s) ∙ ap negoVerdict (negotiate-ignored s t d .reading) ∙ sym (nego-verdict (readNegotiate t))
+ignored-read Challenge s t d =
+    chal-verdict (readChallenge s .reading) ∙ ap chalVerdict (challenge-ignored s t d .reading) ∙ sym (chal-verdict (readChallenge t .reading))
+ignored-read Authenticate s t d =
+    auth-verdict (readAuthenticate s .reading) ∙ ap authVerdict (authenticate-ignored s t d .reading)
+    ∙ sym (auth-verdict (readAuthenticate t .reading))
+
 negotiate-print : (s t : List ℕ) → DifferInIgnored negotiate s t → explainedAs Negotiate s ≡ explainedAs Negotiate t
 negotiate-print s t d =
-    print-same Negotiate s t (d .length-same) (nego-verdict (readNegotiate s) ∙ ap negoVerdict (negotiate-ignored s t d .reading) ∙ sym (nego-verdict (readNegotiate t)))
+    print-same Negotiate s t (d .length-same) (ignored-read Negotiate s t d)
     (ap N.allFields (nego-fields s t d false bare-only ∙ ap (λ (w : NegotiateFlags). keptNegotiateFields false (N.fieldsAt t w)) (flags-same negotiate s t (negotiate-seen s) d)))
     (λ e h p. absurd (no-pair Negotiate s not-negotiate e h p))
 
 authenticate-print : (s t : List ℕ) → DifferInIgnored authenticate s t → explainedAs Authenticate s ≡ explainedAs Authenticate t
 authenticate-print s t d =
-    print-same Authenticate s t (d .length-same) (auth-verdict (readAuthenticate s .reading) ∙ ap authVerdict (authenticate-ignored s t d .reading) ∙ sym (auth-verdict (readAuthenticate t .reading)))
+    print-same Authenticate s t (d .length-same) (ignored-read Authenticate s t d)
     (ap A.allFields (auth-fields s t d false bare-only ∙ ap (λ (w : NegotiateFlags). keptFields false (A.fieldsAt t w)) (flags-same authenticate s t (authenticate-seen s) d)))
     (λ e h p. absurd (no-pair Authenticate s not-authenticate e h p))
 
 challenge-print : (s t : List ℕ) → DifferInIgnored challenge s t → explainedAs Challenge s ≡ explainedAs Challenge t
 challenge-print s t d =
-    print-same Challenge s t (d .length-same) (chal-verdict (readChallenge s .reading) ∙ ap chalVerdict (challenge-ignored s t d .reading) ∙ sym (chal-verdict (readChallenge t .reading)))
+    print-same Challenge s t (d .length-same) (ignored-read Challenge s t d)
     (ap C.allFields (chal-fields s t d false bare-only ∙ ap (λ (w : NegotiateFlags). keptChallengeFields false (C.fieldsAt t w)) (flags-same challenge s t (challenge-seen s) d)))
     (pair-same s t d)
 
