@@ -48,7 +48,13 @@ fn step_g(x: &[u8], p: Buffer, n: usize, s: u32) -> Buffer
     requires { ⌜ (64 ≤ length (now x)) × ((16 ≤ n) × ((n < 32) × ((0 < s) × (s < 32)))) ⌝ }
     ensures { λ r. ⌜ r ≡ steppedBy s (now (x .entry)) p n ⌝ }
 {
-    step(p, g(p.b, p.c, p.d), u32_at(x, 4 * ((5 * n + 1) % 16)), sine(n), s)
+    step(
+        p,
+        g(p.b, p.c, p.d),
+        u32_at(x, 4 * ((5 * n + 1) % 16)),
+        sine(n),
+        s,
+    )
 }
 
 // Step n of round 3.
@@ -56,7 +62,13 @@ fn step_h(x: &[u8], p: Buffer, n: usize, s: u32) -> Buffer
     requires { ⌜ (64 ≤ length (now x)) × ((32 ≤ n) × ((n < 48) × ((0 < s) × (s < 32)))) ⌝ }
     ensures { λ r. ⌜ r ≡ steppedBy s (now (x .entry)) p n ⌝ }
 {
-    step(p, h(p.b, p.c, p.d), u32_at(x, 4 * ((3 * n + 5) % 16)), sine(n), s)
+    step(
+        p,
+        h(p.b, p.c, p.d),
+        u32_at(x, 4 * ((3 * n + 5) % 16)),
+        sine(n),
+        s,
+    )
 }
 
 // Step n of round 4.

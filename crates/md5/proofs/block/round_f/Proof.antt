@@ -18,6 +18,8 @@ round-f-spec =
     (tie.spec
     Inv-loop μ-loop (λ c. (search needs, round-begun _ _ 0 16 refl refl)) (λ c κs. search needs) (λ c. search needs)
     (λ c κs. search needs) (λ c. search needs) (λ c κs. search needs) (λ c. search needs) (λ c κs. search needs) (λ c. search needs)
-    (λ c. search needs) (λ c. (search needs,
-    four-f _ _ _ _ _ _ _ _ (c .step-f4 .ensures) (c .before .step-f3 .ensures) (c .before .before .step-f2 .ensures)
-    (c .before .before .before .step-f .ensures) (c .before .before .before .before .before .loop .inv .1) (search needs))) (λ c. search round-over))
+    (λ c. search needs) (λ c. (
+      search needs,
+      four-f _ _ _ _ _ _ _ _ (c .step-f4 .ensures) (c .before .step-f3 .ensures) (c .before .before .step-f2 .ensures)
+          (c .before .before .before .step-f .ensures) (c .before .before .before .before .before .loop .inv .1) (search needs),
+    )) (λ c. search round-over))

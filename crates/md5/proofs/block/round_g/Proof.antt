@@ -18,6 +18,8 @@ round-g-spec =
     (tie.spec
     Inv-loop μ-loop (λ c. (search needs, round-begun _ _ 16 32 refl refl)) (λ c κs. search needs) (λ c. search needs)
     (λ c κs. search needs) (λ c. search needs) (λ c κs. search needs) (λ c. search needs) (λ c κs. search needs) (λ c. search needs)
-    (λ c. search needs) (λ c. (search needs,
-    four-g _ _ _ _ _ _ _ _ (c .step-g4 .ensures) (c .before .step-g3 .ensures) (c .before .before .step-g2 .ensures)
-    (c .before .before .before .step-g .ensures) (c .before .before .before .before .before .loop .inv .1) (search needs) (search needs))) (λ c. search round-over))
+    (λ c. search needs) (λ c. (
+      search needs,
+      four-g _ _ _ _ _ _ _ _ (c .step-g4 .ensures) (c .before .step-g3 .ensures) (c .before .before .step-g2 .ensures)
+          (c .before .before .before .step-g .ensures) (c .before .before .before .before .before .loop .inv .1) (search needs) (search needs),
+    )) (λ c. search round-over))

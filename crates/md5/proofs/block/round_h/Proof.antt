@@ -18,6 +18,8 @@ round-h-spec =
     (tie.spec
     Inv-loop μ-loop (λ c. (search needs, round-begun _ _ 32 48 refl refl)) (λ c κs. search needs) (λ c. search needs)
     (λ c κs. search needs) (λ c. search needs) (λ c κs. search needs) (λ c. search needs) (λ c κs. search needs) (λ c. search needs)
-    (λ c. search needs) (λ c. (search needs,
-    four-h _ _ _ _ _ _ _ _ (c .step-h4 .ensures) (c .before .step-h3 .ensures) (c .before .before .step-h2 .ensures)
-    (c .before .before .before .step-h .ensures) (c .before .before .before .before .before .loop .inv .1) (search needs) (search needs))) (λ c. search round-over))
+    (λ c. search needs) (λ c. (
+      search needs,
+      four-h _ _ _ _ _ _ _ _ (c .step-h4 .ensures) (c .before .step-h3 .ensures) (c .before .before .step-h2 .ensures)
+          (c .before .before .before .step-h .ensures) (c .before .before .before .before .before .loop .inv .1) (search needs) (search needs),
+    )) (λ c. search round-over))

@@ -18,6 +18,8 @@ round-i-spec =
     (tie.spec
     Inv-loop μ-loop (λ c. (search needs, round-begun _ _ 48 64 refl refl)) (λ c κs. search needs) (λ c. search needs)
     (λ c κs. search needs) (λ c. search needs) (λ c κs. search needs) (λ c. search needs) (λ c κs. search needs) (λ c. search needs)
-    (λ c. search needs) (λ c. (search needs,
-    four-i _ _ _ _ _ _ _ _ (c .step-i4 .ensures) (c .before .step-i3 .ensures) (c .before .before .step-i2 .ensures)
-    (c .before .before .before .step-i .ensures) (c .before .before .before .before .before .loop .inv .1) (search needs) (search needs))) (λ c. search round-over))
+    (λ c. search needs) (λ c. (
+      search needs,
+      four-i _ _ _ _ _ _ _ _ (c .step-i4 .ensures) (c .before .step-i3 .ensures) (c .before .before .step-i2 .ensures)
+          (c .before .before .before .step-i .ensures) (c .before .before .before .before .before .loop .inv .1) (search needs) (search needs),
+    )) (λ c. search round-over))
