@@ -38,6 +38,7 @@ use Rattle.mic.specs.declared.Checking.{Checking}
 use Rattle.mic.specs.declared.Checking.the-variants.{Compared, Refused}
 use Rattle.mic.specs.Mic.{zeroed, micOf, negotiateVerdict, challengeVerdict, authenticateVerdict, checkMessages, whenClear, workOut, checkMic}
 use Rattle.mic.proofs.Laws.{passed}
+use Rattle.place.specs.Written.{roomHolds}
 use Rattle.c_number.specs.Number.{refusalNumber}
 use Rattle.c_number.specs.Outcome.{callNumber, callOut, outcomeNumber, outcomeOut}
 use Rattle.c_mic.specs.Numbers.{handedOut, micOutcome}
@@ -46,7 +47,7 @@ use Rattle.demands.specs.Message.{Format, negotiate, authenticate, Fails
 use Rattle.demands.specs.Order.{First}
 use Rattle.demands.specs.TakenExactly.{RefusalIs, IsTakenNegotiate, NegotiateRefusedWith, IsTakenChallenge, ChallengeRefusedWith, AuthenticateRefusedWith, InfoBytes, ChallengeHolds, ChallengeFails}
 use Rattle.demands.specs.Mic.{MicHolds, MicFails, wrong-key, in-negotiate, in-challenge, in-authenticate, no-mic, VerdictAt, MicExactly, MicIs, Agree, MicAgree, DifferInMic, MicBlind, MicSecret, MicKept}
-use Rattle.demands.proofs.Alike.{same16, same32}
+use Rattle.demands.proofs.Alike.{same-part, same16, same32}
 use Rattle.demands.proofs.Kept.CallFront.{at-front}
 use Rattle.demands.proofs.Order.{only-first}
 use Rattle.demands.proofs.OwnBytes.{none-fails, authenticate-own}
@@ -160,11 +161,10 @@ module _ (size : ℕ) (nego chal info auth : List ℕ) (known : InfoBytes chal i
   exactly : (v : Verdict) → Judged v →
       ((v ≡ Clear) ↔ MicHolds size nego chal info auth) × ((n i p : ℕ) → VerdictAt v n i p ↔ MicFails size nego chal info auth n i p)
   exactly Clear h = ((λ e. h, λ x. refl), λ n i p. (λ x. absurd x, λ f. not-both n i p h f))
-  exactly (Not d) f =
-      (
-        (λ e. absurd (let z : _≡_ {A = ℕ} 0 1 = cc in omega arith), λ h. absurd (not-both (numberOf d) (fieldOf d) (placeOf d) h f)),
-        λ n i p. (λ x. same-fails x f, λ g. one (numberOf d) (fieldOf d) (placeOf d) n i p f g),
-      )
+  exactly (Not d) f = (
+    (λ e. absurd (let z : _≡_ {A = ℕ} 0 1 = cc in omega arith), λ h. absurd (not-both (numberOf d) (fieldOf d) (placeOf d) h f)),
+    λ n i p. (λ x. same-fails x f, λ g. one (numberOf d) (fieldOf d) (placeOf d) n i p f g),
+  )
 
 pub mic-exactly : MicExactly
 unfolding workOut
@@ -174,3 +174,132 @@ mic-exactly key nego chal info auth known =
 pub mic-is : MicIs
 unfolding workOut micOf zeroed
 mic-is key nego chal auth h = simp h
+
+-- ---- sixteen bytes, and whether they stand at 72
+
+digest-length : (m : List ℕ) → length (md5 m) ≡ 16
+unfolding md5 wordBytes
+digest-length m = refl
+
+mic-length : (key nego chal auth : List ℕ) → length (micOf key nego chal auth) ≡ 16
+unfolding micOf hmac
+mic-length key nego chal auth = digest-length _
+
+-- byte k of a MIC that is there
+byte-at : (auth : List ℕ) (k : ℕ) → k < 16 → getD (take 16 (drop 72 auth)) k 0 ≡ getD auth (72 + k) 0
+byte-at auth k l = getD-take 16 (drop 72 auth) k 0 l ∙ getD-drop 72 auth k 0
+
+there-same : (auth mic : List ℕ) → 88 ≤ length auth → length mic ≡ 16 → standsAt auth 72 mic ≡ true → take 16 (drop 72 auth) ≡ mic
+there-same auth mic h n e =
+    let l : length (take 16 (drop 72 auth)) ≡ 16 = simp (length-take, length-drop) (omega arith) in
+    ext-getD 0 (take 16 (drop 72 auth)) mic (l ∙ sym n)
+    (λ k m. byte-at auth k (omega (arith, l)) ∙ stands auth 72 mic e k (omega (arith, l)))
+
+same-there : (auth mic : List ℕ) → length mic ≡ 16 → take 16 (drop 72 auth) ≡ mic → standsAt auth 72 mic ≡ true
+same-there auth mic n e =
+    stand auth 72 mic (λ k m. sym (byte-at auth k (omega arith)) ∙ ap (λ (l : List ℕ). getD l k 0) e)
+
+-- ---- the two calls agree
+
+pub mic-agree : MicAgree
+unfolding workOut checkMic
+mic-agree key nego chal auth =
+    record {
+      refused = refused-both (checkMessages (length key) nego chal auth) (standsAt auth 72 mic);
+      yes = yes-both (checkMessages (length key) nego chal auth) refl;
+    }
+  where
+    mic : List ℕ
+    mic = micOf key nego chal auth
+
+    refused-both : (v : Verdict) (b : Bool) (e : Refusal) → (onClear Refused v (Compared b) ≡ Refused e) ↔ (v ≡ Not e)
+    refused-both Clear b e = (λ h. absurd (let z : _≡_ {A = ℕ} 0 1 = cc in omega arith), λ h. absurd (let z : _≡_ {A = ℕ} 0 1 = cc in omega arith))
+    refused-both (Not d) b e = (λ h. cc, λ h. cc)
+
+    yes-both : (v : Verdict) → checkMessages (length key) nego chal auth ≡ v →
+        (onClear Refused v (Compared (standsAt auth 72 mic)) ≡ Compared true) ↔ ((v ≡ Clear) × (take 16 (drop 72 auth) ≡ whenClear v mic))
+    yes-both Clear e = (
+      λ h. (refl, there-same auth mic (passed (length key) nego chal auth e .mic-inside) (mic-length key nego chal auth) (let b : standsAt auth 72 mic ≡ true = cc in b)),
+      λ h. ap Compared (same-there auth mic (mic-length key nego chal auth) (h .1)),
+    )
+    yes-both (Not d) e = (λ h. absurd (let z : _≡_ {A = ℕ} 0 1 = cc in omega arith), λ h. absurd (let q : Not d ≡ Clear = h .0 in let z : _≡_ {A = ℕ} 0 1 = cc in omega arith))
+
+-- ---- what the AUTHENTICATE's reading depends on
+
+module _ (s t : List ℕ) (long : length s ≡ length t) (first : (p : ℕ) → p < 64 → getD s p 0 ≡ getD t p 0) where
+  -- MaxLen too stands within the head
+  field-same : (at : ℕ) (c : Bool) → at + 8 ≤ 64 → fieldAt s at c ≡ fieldAt t at c
+  unfolding fieldAt
+  field-same at c l =
+      simp (same16 s t at (λ p a b. first p (omega arith)), same16 s t (at + 2) (λ p a b. first p (omega arith)), same32 s t (at + 4) (λ p a b. first p (omega arith)))
+
+  fields-same : (w : NegotiateFlags) → fieldsAt s w ≡ fieldsAt t w
+  unfolding fieldsAt
+  fields-same w =
+      simp (field-same 12 true (omega arith), field-same 20 true (omega arith), field-same 28 true (omega arith), field-same 36 true (omega arith), field-same 44 true (omega arith), field-same 52 (keyExch w) (omega arith))
+
+  head-same : readHead layout s ≡ readHead layout t
+  unfolding readHead signatureHolds
+  head-same =
+      simp (long, first 0 (omega arith), first 1 (omega arith), first 2 (omega arith), first 3 (omega arith), first 4 (omega arith), first 5 (omega arith), first 6 (omega arith), first 7 (omega arith), first 8 (omega arith), first 9 (omega arith), first 10 (omega arith), first 11 (omega arith), first 60 (omega arith), first 61 (omega arith), first 62 (omega arith), first 63 (omega arith))
+
+  reading-same : readAuthenticate s .reading ≡ readAuthenticate t .reading
+  unfolding readAuthenticate readingOf
+  reading-same = simp (head-same, long, fields-same)
+
+  verdict-same : (n : ℕ) (nego chal : List ℕ) → checkMessages n nego chal s ≡ checkMessages n nego chal t
+  unfolding checkMessages
+  verdict-same n nego chal = simp reading-same
+
+-- ---- the MIC's own bytes
+
+pub mic-blind : MicBlind
+unfolding workOut micOf zeroed
+mic-blind key nego chal s t d =
+    let at : (p : ℕ) → ((72 ≤ p) × (p < 88) → ⊥) → getD s p 0 ≡ getD t p 0 = λ p out. ⊎-elim (λ e. e) (λ x. absurd (out x)) (d .elsewhere p) in
+    let v : checkMessages (length key) nego chal s ≡ checkMessages (length key) nego chal t =
+    verdict-same s t (d .length-same) (λ p l. at p (λ x. omega arith)) (length key) nego chal in
+    let a : take 72 s ≡ take 72 t = same-part s t (d .length-same) 0 72 (λ p l m. at p (λ x. omega arith)) in
+    let all : (u : List ℕ) → take (length u) (drop 88 u) ≡ drop 88 u = λ u. take-all (length u) (drop 88 u) (simp length-drop (omega arith)) in
+    let b : drop 88 s ≡ drop 88 t =
+    sym (all s) ∙ same-part s t (d .length-same) 88 (length s) (λ p l m. at p (λ x. omega arith))
+    ∙ ap (λ (n : ℕ). take n (drop 88 t)) (d .length-same) ∙ all t in
+    simp (v, a, b)
+
+-- ---- refusals tell no secret
+
+number-by : (v : Verdict) (a b : List ℕ) → outcomeNumber (handedOut v a) ≡ outcomeNumber (handedOut v b)
+number-by Clear a b = refl
+number-by (Not e) a b = refl
+
+pub mic-secret : MicSecret
+unfolding workOut callNumber
+mic-secret key key′ nego chal s t k long first =
+    let v : checkMessages (length key) nego chal s ≡ checkMessages (length key′) nego chal t =
+    verdict-same s t long first (length key) nego chal ∙ ap (λ (n : ℕ). checkMessages n nego chal t) k in
+    let p = mic-agree key nego chal s in
+    let q = mic-agree key′ nego chal t in
+    record {
+      worked = v;
+      checked = λ e. (λ h. q .refused e .1 (sym v ∙ p .refused e .0 h), λ h. p .refused e .1 (v ∙ q .refused e .0 h));
+      from-c = λ room.
+          ap (λ (x : ℕ). after (roomHolds 16 room) (refusalNumber NoRoom) x)
+          (ap (λ (w : Verdict). outcomeNumber (handedOut w (whenClear (checkMessages (length key) nego chal s) (micOf key nego chal s)))) v
+          ∙ number-by (checkMessages (length key′) nego chal t) _ _);
+    }
+
+-- ---- kept
+
+pub mic-kept : MicKept
+unfolding workOut callNumber callOut
+mic-kept key nego chal auth out = go (leb 16 (length out)) refl (checkMessages (length key) nego chal auth) where
+  mic : List ℕ
+  mic = micOf key nego chal auth
+
+  go : (b : Bool) → leb 16 (length out) ≡ b → (v : Verdict) →
+      ((after (checked b) (refusalNumber NoRoom) (outcomeNumber (handedOut v (whenClear v mic))) ≡ 0) × (v ≡ Clear)
+      × Front (whenClear v mic) out (after (checked b) out (outcomeOut (handedOut v (whenClear v mic)) out)))
+      ⊎ (after (checked b) out (outcomeOut (handedOut v (whenClear v mic)) out) ≡ out)
+  go true e Clear = inl (refl, refl, at-front mic out (omega (arith, leb-true 16 (length out) e, mic-length key nego chal auth)))
+  go true e (Not d) = inr refl
+  go false e v = inr refl
