@@ -34,3 +34,4 @@ pub mod Explained
 pub mod Batch
 pub mod MaxLen
 pub mod Canonical
+pub mod Mic

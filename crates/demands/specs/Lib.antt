@@ -32,3 +32,4 @@ pub mod Explained
 pub mod Batch
 pub mod MaxLen
 pub mod Canonical
+pub mod Mic

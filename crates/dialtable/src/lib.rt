@@ -28,6 +28,8 @@ ghost use Rattle.c_number.specs.Number.{verdictNumber, writtenNumber};
 ghost use Rattle.c_number.specs.Outcome.{callNumber, callOut, twoArrayNumber, twoArrayOut, twoArrayBytes};
 ghost use Rattle.c_reading.specs.FieldCopy.{fieldCopyAnswer, fieldCopyOut};
 ghost use Rattle.c_reading.specs.Numbers.{negotiateOutcome, authenticateOutcome, challengeOutcome, timestampOutcome, serverNamesOutcome, nlAuthOutcome};
+ghost use Rattle.c_mic.specs.Numbers.{micOutcome, checkingNumber};
+ghost use Rattle.mic.specs.Mic.{workOut, checkMic};
 ghost use Rattle.c_pairs.specs.Pairs.{countOutcome, searchOutcome, askedOutcome};
 ghost use Rattle.c_respond.specs.Settings.{settingsOf};
 ghost use Rattle.c_respond.specs.Respond.{decidedOutcome, respondedNumber, respondedNumbers, respondedOut};
@@ -491,4 +493,30 @@ pub extern "C" fn dialtable_canonical_authenticate(out: &mut [u8], msg: &[u8]) -
     ensures content { λ _. ⌜ now (out .exit) ≡ canonicalOut (now (out .entry)) (now (msg .entry)) ⌝ }
 {
     written_number(canonical::write(out, msg))
+}
+
+#[no_mangle]
+pub extern "C" fn dialtable_mic(
+    key: &[u8],
+    negotiate: &[u8],
+    challenge: &[u8],
+    authenticate: &[u8],
+    mic: &mut [u8],
+) -> u64
+    ensures answer { λ r. ⌜ r ≡ callNumber 16 (micOutcome (workOut (now (key .entry)) (now (negotiate .entry)) (now (challenge .entry)) (now (authenticate .entry)))) (length (now (mic .entry))) ⌝ }
+    ensures content { λ _. ⌜ now (mic .exit) ≡ callOut 16 (micOutcome (workOut (now (key .entry)) (now (negotiate .entry)) (now (challenge .entry)) (now (authenticate .entry)))) (now (mic .entry)) ⌝ }
+{
+    c_mic::work_out(key, negotiate, challenge, authenticate, mic)
+}
+
+#[no_mangle]
+pub extern "C" fn dialtable_check_mic(
+    key: &[u8],
+    negotiate: &[u8],
+    challenge: &[u8],
+    authenticate: &[u8],
+) -> u64
+    ensures { λ r. ⌜ r ≡ checkingNumber (checkMic (now (key .entry)) (now (negotiate .entry)) (now (challenge .entry)) (now (authenticate .entry))) ⌝ }
+{
+    c_mic::check_mic(key, negotiate, challenge, authenticate)
 }

@@ -1,0 +1,305 @@
+-- The MIC's calls: when there is an answer and what it is, that the two agree, and what they don't depend on.
+use Prim.Native.Nat.{ℕ, _+_, _≤_, _<_}
+use mathlib.Core.Path.{_≡_, refl, sym, ap, _∙_, subst}
+use mathlib.Core.Logic.{_⊎_, inl, inr, ⊎-elim, _↔_}
+use mathlib.Core.Bool.{Bool, true, false}
+use mathlib.Core.List.{List, _++_}
+use native.Mathlib.Omega.{arith}
+use borrow.Author.Tests.{eqb-true, eqb-false, ne-eqb, leb-true}
+use lib.Dec.{eqb, leb}
+use lib.ListN.{length, getD, take, drop, replicate, length-take, length-drop}
+use lib.Seq.{ext-getD, getD-take, getD-drop, take-all}
+use Rattle.wire.specs.declared.check.Verdict.{Verdict}
+use Rattle.wire.specs.declared.check.Verdict.the-variants.{Clear, Refused as Not}
+use Rattle.wire.specs.declared.refusal.Refusal.{Refusal}
+use Rattle.wire.specs.declared.refusal.Refusal.the-variants.{NoRoom, WrongSessionKey, NoMic}
+use Rattle.wire.specs.Check.{checked, after, onClear}
+use Rattle.wire.specs.Number.{standsAt}
+use Rattle.wire.specs.Refusal.{numberOf, fieldOf, placeOf}
+use Rattle.wire.proofs.Places.{placeless-number}
+use Rattle.head.specs.Head.{flagsAt, signatureHolds, readHead}
+use Rattle.head.proofs.Stands.{stands, stand}
+use Rattle.field.specs.Field.{fieldAt}
+use Rattle.negotiate_flags.specs.declared.NegotiateFlags.{NegotiateFlags}
+use Rattle.negotiate_flags.specs.Flags.{keyExch}
+use Rattle.negotiate.specs.declared.Reading.{Reading as NegotiateReading}
+use Rattle.negotiate.specs.declared.Reading.the-variants.{Taken as NegotiateTaken, Refused as NegotiateRefused}
+use Rattle.negotiate.specs.Negotiate.{readNegotiate}
+use Rattle.challenge.specs.declared.Reading.{Reading as ChallengeReading}
+use Rattle.challenge.specs.declared.Reading.the-variants.{Taken as ChallengeTaken, Refused as ChallengeRefused}
+use Rattle.challenge.specs.Challenge.{readChallenge}
+use Rattle.authenticate.specs.declared.Authenticate.{Authenticate}
+use Rattle.authenticate.specs.declared.Reading.{Reading as AuthenticateReading}
+use Rattle.authenticate.specs.declared.Reading.the-variants.{Taken as AuthenticateTaken, Refused as AuthenticateRefused}
+use Rattle.authenticate.specs.Authenticate.{layout, fieldsAt, readingOf, readAuthenticate}
+use Rattle.md5.specs.Digest.{wordBytes, md5}
+use Rattle.hmac_md5.specs.Hmac.{hmac}
+use Rattle.mic.specs.declared.Checking.{Checking}
+use Rattle.mic.specs.declared.Checking.the-variants.{Compared, Refused}
+use Rattle.mic.specs.Mic.{zeroed, micOf, negotiateVerdict, challengeVerdict, authenticateVerdict, checkMessages, whenClear, workOut, checkMic}
+use Rattle.mic.proofs.Laws.{passed}
+use Rattle.place.specs.Written.{roomHolds}
+use Rattle.c_number.specs.Number.{refusalNumber}
+use Rattle.c_number.specs.Outcome.{callNumber, callOut, outcomeNumber, outcomeOut}
+use Rattle.c_mic.specs.Numbers.{handedOut, micOutcome}
+use Rattle.demands.specs.Kept.{Front}
+use Rattle.demands.specs.Message.{Format, negotiate, authenticate, Fails, MicThere}
+use Rattle.demands.specs.Order.{First}
+use Rattle.demands.specs.TakenExactly.{RefusalIs, IsTakenNegotiate, NegotiateRefusedWith, IsTakenChallenge, ChallengeRefusedWith, AuthenticateRefusedWith, InfoBytes, ChallengeHolds, ChallengeFails}
+use Rattle.demands.specs.Mic.{MicHolds, MicFails, wrong-key, in-negotiate, in-challenge, in-authenticate, no-mic, VerdictAt, MicExactly, MicIs, Agree, MicAgree, DifferInMic, MicBlind, MicSecret, MicKept}
+use Rattle.demands.proofs.Alike.{same-part, same16, same32}
+use Rattle.demands.proofs.Kept.CallFront.{at-front}
+use Rattle.demands.proofs.Order.{only-first}
+use Rattle.demands.proofs.OwnBytes.{none-fails, authenticate-own}
+use Rattle.demands.proofs.TakenExactly.{authenticate-refused}
+use Rattle.demands.proofs.TakenExactly.Challenge.{holds-or-fails, one-reason, challenge-taken, challenge-refused}
+use Rattle.demands.proofs.TakenExactly.Negotiate.{negotiate-taken, negotiate-refused}
+
+true-not-false : {A : Type 0} → true ≡ false → A
+true-not-false h = absurd (let z : _≡_ {A = ℕ} 0 1 = cc in omega arith)
+
+-- ---- exactly
+
+-- checks 1 to 9 have no place
+no-fail : (k : Format) (s : List ℕ) (n i : ℕ) → 10 ≤ n → Fails k s n i → ⊥
+no-fail k s n i l f =
+    simp (ne-eqb n 1 (λ e. omega arith), ne-eqb n 2 (λ e. omega arith), ne-eqb n 3 (λ e. omega arith), ne-eqb n 4 (λ e. omega arith), ne-eqb n 5 (λ e. omega arith), ne-eqb n 6 (λ e. omega arith), ne-eqb n 7 (λ e. omega arith), ne-eqb n 8 (λ e. omega arith), ne-eqb n 9 (λ e. omega arith)) at f
+
+no-place : (k : Format) (s : List ℕ) (e : Refusal) → Fails k s (numberOf e) (fieldOf e) → placeOf e ≡ 0
+no-place k s e f = placeless-number e (λ l. no-fail k s (numberOf e) (fieldOf e) (l .0) f)
+
+module _ (size : ℕ) (nego chal info auth : List ℕ) (known : InfoBytes chal info) where
+  abbrev Judged : Verdict → Type 0
+  Judged Clear = MicHolds size nego chal info auth
+  Judged (Not e) = MicFails size nego chal info auth (numberOf e) (fieldOf e) (placeOf e)
+
+  by-mic : size ≡ 16 → ((m j : ℕ) → Fails negotiate nego m j → ⊥) → ChallengeHolds chal info → (a : Authenticate) →
+      readAuthenticate auth .reading ≡ AuthenticateTaken a → (b : Bool) → a .«mic_present» ≡ b → Judged (after (checked b) (Not NoMic) Clear)
+  by-mic k none holds a e true p =
+      record {
+        key = k;
+        nego-taken = none;
+        chal-taken = holds;
+        auth-taken = none-fails auth a e;
+        mic = authenticate-own auth a e .mic-present .0 p;
+      }
+  by-mic k none holds a e false p =
+      no-mic k none holds (none-fails auth a e) (λ m. true-not-false (sym (authenticate-own auth a e .mic-present .1 m) ∙ p)) refl refl refl
+
+  by-auth : size ≡ 16 → ((m j : ℕ) → Fails negotiate nego m j → ⊥) → ChallengeHolds chal info →
+      (r : AuthenticateReading) → readAuthenticate auth .reading ≡ r → Judged (authenticateVerdict r)
+  by-auth k none holds (AuthenticateTaken a) e = by-mic k none holds a e (a .«mic_present») refl
+  by-auth k none holds (AuthenticateRefused d) e =
+      let f : First (Fails authenticate auth) (numberOf d) (fieldOf d) =
+      authenticate-refused auth (numberOf d) (fieldOf d) .0 (subst (λ (r : AuthenticateReading). AuthenticateRefusedWith r (numberOf d) (fieldOf d)) (sym e) (refl, refl)) in
+      in-authenticate k none holds f (no-place authenticate auth d (f .fails))
+
+  judged : Judged (checkMessages size nego chal auth)
+  unfolding checkMessages
+  judged = by-key (eqb size 16) refl where
+    by-chal : size ≡ 16 → ((m j : ℕ) → Fails negotiate nego m j → ⊥) → (r : ChallengeReading) → readChallenge chal .reading ≡ r →
+        Judged (onClear Not (challengeVerdict r) (authenticateVerdict (readAuthenticate auth .reading)))
+    by-chal k none (ChallengeTaken c) e =
+        by-auth k none (challenge-taken chal info known .0 (subst IsTakenChallenge (sym e) tt)) (readAuthenticate auth .reading) refl
+    by-chal k none (ChallengeRefused d) e =
+        in-challenge k none
+        (challenge-refused chal info known (numberOf d) (fieldOf d) (placeOf d) .0
+        (subst (λ (r : ChallengeReading). ChallengeRefusedWith r (numberOf d) (fieldOf d) (placeOf d)) (sym e) (refl, refl, refl)))
+
+    by-nego : size ≡ 16 → (r : NegotiateReading) → readNegotiate nego ≡ r →
+        Judged (onClear Not (negotiateVerdict r) (onClear Not (challengeVerdict (readChallenge chal .reading)) (authenticateVerdict (readAuthenticate auth .reading))))
+    by-nego k (NegotiateTaken m) e = by-chal k (negotiate-taken nego .0 (subst IsTakenNegotiate (sym e) tt)) (readChallenge chal .reading) refl
+    by-nego k (NegotiateRefused d) e =
+        let f : First (Fails negotiate nego) (numberOf d) (fieldOf d) =
+        negotiate-refused nego (numberOf d) (fieldOf d) .0 (subst (λ (r : NegotiateReading). NegotiateRefusedWith r (numberOf d) (fieldOf d)) (sym e) (refl, refl)) in
+        in-negotiate k f (no-place negotiate nego d (f .fails))
+
+    by-key : (b : Bool) → eqb size 16 ≡ b →
+        Judged (after (checked b) (Not WrongSessionKey) (onClear Not (negotiateVerdict (readNegotiate nego)) (onClear Not (challengeVerdict (readChallenge chal .reading)) (authenticateVerdict (readAuthenticate auth .reading)))))
+    by-key true e = by-nego (eqb-true size 16 e) (readNegotiate nego) refl
+    by-key false e = wrong-key (eqb-false size 16 e) refl refl refl
+
+  not-both : (n i p : ℕ) → MicHolds size nego chal info auth → MicFails size nego chal info auth n i p → ⊥
+  not-both n i p h (wrong-key k a b c) = k (h .key)
+  not-both n i p h (in-negotiate k f z) = h .nego-taken n i (f .fails)
+  not-both n i p h (in-challenge k none f) = holds-or-fails chal info n i p (h .chal-taken) f
+  not-both n i p h (in-authenticate k none c f z) = h .auth-taken n i (f .fails)
+  not-both n i p h (no-mic k none c f m a b z) = m (h .mic)
+
+  one : (m j o n i p : ℕ) → MicFails size nego chal info auth m j o → MicFails size nego chal info auth n i p → (m ≡ n) × (j ≡ i) × (o ≡ p)
+  one m j o n i p (wrong-key k a b c) (wrong-key l d e f) = (a ∙ sym d, b ∙ sym e, c ∙ sym f)
+  one m j o n i p (wrong-key k a b c) (in-negotiate l f z) = absurd (k l)
+  one m j o n i p (wrong-key k a b c) (in-challenge l none f) = absurd (k l)
+  one m j o n i p (wrong-key k a b c) (in-authenticate l none h f z) = absurd (k l)
+  one m j o n i p (wrong-key k a b c) (no-mic l none h f t d e z) = absurd (k l)
+  one m j o n i p (in-negotiate k f z) (wrong-key l d e g) = absurd (l k)
+  one m j o n i p (in-negotiate k f z) (in-negotiate l g y) = let u = only-first (Fails negotiate nego) m j n i f g in (u .0, u .1, z ∙ sym y)
+  one m j o n i p (in-negotiate k f z) (in-challenge l none g) = absurd (none m j (f .fails))
+  one m j o n i p (in-negotiate k f z) (in-authenticate l none h g y) = absurd (none m j (f .fails))
+  one m j o n i p (in-negotiate k f z) (no-mic l none h g t d e y) = absurd (none m j (f .fails))
+  one m j o n i p (in-challenge k none f) (wrong-key l d e g) = absurd (l k)
+  one m j o n i p (in-challenge k none f) (in-negotiate l g y) = absurd (none n i (g .fails))
+  one m j o n i p (in-challenge k none f) (in-challenge l free g) = one-reason chal info m j o n i p f g
+  one m j o n i p (in-challenge k none f) (in-authenticate l free h g y) = absurd (holds-or-fails chal info m j o h f)
+  one m j o n i p (in-challenge k none f) (no-mic l free h g t d e y) = absurd (holds-or-fails chal info m j o h f)
+  one m j o n i p (in-authenticate k none h f z) (wrong-key l d e g) = absurd (l k)
+  one m j o n i p (in-authenticate k none h f z) (in-negotiate l g y) = absurd (none n i (g .fails))
+  one m j o n i p (in-authenticate k none h f z) (in-challenge l free g) = absurd (holds-or-fails chal info n i p h g)
+  one m j o n i p (in-authenticate k none h f z) (in-authenticate l free c g y) = let u = only-first (Fails authenticate auth) m j n i f g in (u .0, u .1, z ∙ sym y)
+  one m j o n i p (in-authenticate k none h f z) (no-mic l free c g t d e y) = absurd (g m j (f .fails))
+  one m j o n i p (no-mic k none h f t a b z) (wrong-key l d e g) = absurd (l k)
+  one m j o n i p (no-mic k none h f t a b z) (in-negotiate l g y) = absurd (none n i (g .fails))
+  one m j o n i p (no-mic k none h f t a b z) (in-challenge l free g) = absurd (holds-or-fails chal info n i p h g)
+  one m j o n i p (no-mic k none h f t a b z) (in-authenticate l free c g y) = absurd (f n i (g .fails))
+  one m j o n i p (no-mic k none h f t a b z) (no-mic l free c g u d e y) = (a ∙ sym d, b ∙ sym e, z ∙ sym y)
+
+  same-fails : {m j o n i p : ℕ} → (m ≡ n) × (j ≡ i) × (o ≡ p) → MicFails size nego chal info auth m j o → MicFails size nego chal info auth n i p
+  same-fails {m} {j} {o} {n} {i} {p} e f =
+      subst (λ (x : ℕ). MicFails size nego chal info auth x i p) (e .0)
+      (subst (λ (x : ℕ). MicFails size nego chal info auth m x p) (e .1) (subst (λ (x : ℕ). MicFails size nego chal info auth m j x) (e .2) f))
+
+  exactly : (v : Verdict) → Judged v →
+      ((v ≡ Clear) ↔ MicHolds size nego chal info auth) × ((n i p : ℕ) → VerdictAt v n i p ↔ MicFails size nego chal info auth n i p)
+  exactly Clear h = ((λ e. h, λ x. refl), λ n i p. (λ x. absurd x, λ f. not-both n i p h f))
+  exactly (Not d) f = (
+    (λ e. absurd (let z : _≡_ {A = ℕ} 0 1 = cc in omega arith), λ h. absurd (not-both (numberOf d) (fieldOf d) (placeOf d) h f)),
+    λ n i p. (λ x. same-fails x f, λ g. one (numberOf d) (fieldOf d) (placeOf d) n i p f g),
+  )
+
+pub mic-exactly : MicExactly
+unfolding workOut
+mic-exactly key nego chal info auth known =
+    exactly (length key) nego chal info auth known (checkMessages (length key) nego chal auth) (judged (length key) nego chal info auth known)
+
+pub mic-is : MicIs
+unfolding workOut micOf zeroed
+mic-is key nego chal auth h = simp h
+
+-- ---- sixteen bytes, and whether they stand at 72
+
+digest-length : (m : List ℕ) → length (md5 m) ≡ 16
+unfolding md5 wordBytes
+digest-length m = refl
+
+mic-length : (key nego chal auth : List ℕ) → length (micOf key nego chal auth) ≡ 16
+unfolding micOf hmac
+mic-length key nego chal auth = digest-length _
+
+-- byte k of a MIC that is there
+byte-at : (auth : List ℕ) (k : ℕ) → k < 16 → getD (take 16 (drop 72 auth)) k 0 ≡ getD auth (72 + k) 0
+byte-at auth k l = getD-take 16 (drop 72 auth) k 0 l ∙ getD-drop 72 auth k 0
+
+there-same : (auth mic : List ℕ) → 88 ≤ length auth → length mic ≡ 16 → standsAt auth 72 mic ≡ true → take 16 (drop 72 auth) ≡ mic
+there-same auth mic h n e =
+    let l : length (take 16 (drop 72 auth)) ≡ 16 = simp (length-take, length-drop) (omega arith) in
+    ext-getD 0 (take 16 (drop 72 auth)) mic (l ∙ sym n)
+    (λ k m. byte-at auth k (omega (arith, l)) ∙ stands auth 72 mic e k (omega (arith, l)))
+
+same-there : (auth mic : List ℕ) → length mic ≡ 16 → take 16 (drop 72 auth) ≡ mic → standsAt auth 72 mic ≡ true
+same-there auth mic n e =
+    stand auth 72 mic (λ k m. sym (byte-at auth k (omega arith)) ∙ ap (λ (l : List ℕ). getD l k 0) e)
+
+-- ---- the two calls agree
+
+pub mic-agree : MicAgree
+unfolding workOut checkMic
+mic-agree key nego chal auth =
+    record {
+      refused = refused-both (checkMessages (length key) nego chal auth) (standsAt auth 72 mic);
+      yes = yes-both (checkMessages (length key) nego chal auth) refl;
+    }
+  where
+    mic : List ℕ
+    mic = micOf key nego chal auth
+
+    refused-both : (v : Verdict) (b : Bool) (e : Refusal) → (onClear Refused v (Compared b) ≡ Refused e) ↔ (v ≡ Not e)
+    refused-both Clear b e = (λ h. absurd (let z : _≡_ {A = ℕ} 0 1 = cc in omega arith), λ h. absurd (let z : _≡_ {A = ℕ} 0 1 = cc in omega arith))
+    refused-both (Not d) b e = (λ h. cc, λ h. cc)
+
+    yes-both : (v : Verdict) → checkMessages (length key) nego chal auth ≡ v →
+        (onClear Refused v (Compared (standsAt auth 72 mic)) ≡ Compared true) ↔ ((v ≡ Clear) × (take 16 (drop 72 auth) ≡ whenClear v mic))
+    yes-both Clear e = (
+      λ h. (refl, there-same auth mic (passed (length key) nego chal auth e .mic-inside) (mic-length key nego chal auth) (let b : standsAt auth 72 mic ≡ true = cc in b)),
+      λ h. ap Compared (same-there auth mic (mic-length key nego chal auth) (h .1)),
+    )
+    yes-both (Not d) e = (λ h. absurd (let z : _≡_ {A = ℕ} 0 1 = cc in omega arith), λ h. absurd (let q : Not d ≡ Clear = h .0 in let z : _≡_ {A = ℕ} 0 1 = cc in omega arith))
+
+-- ---- what the AUTHENTICATE's reading depends on
+
+module _ (s t : List ℕ) (long : length s ≡ length t) (first : (p : ℕ) → p < 64 → getD s p 0 ≡ getD t p 0) where
+  -- MaxLen too stands within the head
+  field-same : (at : ℕ) (c : Bool) → at + 8 ≤ 64 → fieldAt s at c ≡ fieldAt t at c
+  unfolding fieldAt
+  field-same at c l =
+      simp (same16 s t at (λ p a b. first p (omega arith)), same16 s t (at + 2) (λ p a b. first p (omega arith)), same32 s t (at + 4) (λ p a b. first p (omega arith)))
+
+  fields-same : (w : NegotiateFlags) → fieldsAt s w ≡ fieldsAt t w
+  unfolding fieldsAt
+  fields-same w =
+      simp (field-same 12 true (omega arith), field-same 20 true (omega arith), field-same 28 true (omega arith), field-same 36 true (omega arith), field-same 44 true (omega arith), field-same 52 (keyExch w) (omega arith))
+
+  head-same : readHead layout s ≡ readHead layout t
+  unfolding readHead signatureHolds
+  head-same =
+      simp (long, first 0 (omega arith), first 1 (omega arith), first 2 (omega arith), first 3 (omega arith), first 4 (omega arith), first 5 (omega arith), first 6 (omega arith), first 7 (omega arith), first 8 (omega arith), first 9 (omega arith), first 10 (omega arith), first 11 (omega arith), first 60 (omega arith), first 61 (omega arith), first 62 (omega arith), first 63 (omega arith))
+
+  reading-same : readAuthenticate s .reading ≡ readAuthenticate t .reading
+  unfolding readAuthenticate readingOf
+  reading-same = simp (head-same, long, fields-same)
+
+  verdict-same : (n : ℕ) (nego chal : List ℕ) → checkMessages n nego chal s ≡ checkMessages n nego chal t
+  unfolding checkMessages
+  verdict-same n nego chal = simp reading-same
+
+-- ---- the MIC's own bytes
+
+pub mic-blind : MicBlind
+unfolding workOut micOf zeroed
+mic-blind key nego chal s t d =
+    let at : (p : ℕ) → ((72 ≤ p) × (p < 88) → ⊥) → getD s p 0 ≡ getD t p 0 = λ p out. ⊎-elim (λ e. e) (λ x. absurd (out x)) (d .elsewhere p) in
+    let v : checkMessages (length key) nego chal s ≡ checkMessages (length key) nego chal t =
+    verdict-same s t (d .length-same) (λ p l. at p (λ x. omega arith)) (length key) nego chal in
+    let a : take 72 s ≡ take 72 t = same-part s t (d .length-same) 0 72 (λ p l m. at p (λ x. omega arith)) in
+    let all : (u : List ℕ) → take (length u) (drop 88 u) ≡ drop 88 u = λ u. take-all (length u) (drop 88 u) (simp length-drop (omega arith)) in
+    let b : drop 88 s ≡ drop 88 t =
+    sym (all s) ∙ same-part s t (d .length-same) 88 (length s) (λ p l m. at p (λ x. omega arith))
+    ∙ ap (λ (n : ℕ). take n (drop 88 t)) (d .length-same) ∙ all t in
+    simp (v, a, b)
+
+-- ---- refusals tell no secret
+
+number-by : (v : Verdict) (a b : List ℕ) → outcomeNumber (handedOut v a) ≡ outcomeNumber (handedOut v b)
+number-by Clear a b = refl
+number-by (Not e) a b = refl
+
+pub mic-secret : MicSecret
+unfolding workOut callNumber
+mic-secret key key′ nego chal s t k long first =
+    let v : checkMessages (length key) nego chal s ≡ checkMessages (length key′) nego chal t =
+    verdict-same s t long first (length key) nego chal ∙ ap (λ (n : ℕ). checkMessages n nego chal t) k in
+    let p = mic-agree key nego chal s in
+    let q = mic-agree key′ nego chal t in
+    record {
+      worked = v;
+      checked = λ e. (λ h. q .refused e .1 (sym v ∙ p .refused e .0 h), λ h. p .refused e .1 (v ∙ q .refused e .0 h));
+      from-c = λ room.
+          ap (λ (x : ℕ). after (roomHolds 16 room) (refusalNumber NoRoom) x)
+          (ap (λ (w : Verdict). outcomeNumber (handedOut w (whenClear (checkMessages (length key) nego chal s) (micOf key nego chal s)))) v
+          ∙ number-by (checkMessages (length key′) nego chal t) _ _);
+    }
+
+-- ---- kept
+
+pub mic-kept : MicKept
+unfolding workOut callNumber callOut
+mic-kept key nego chal auth out = go (leb 16 (length out)) refl (checkMessages (length key) nego chal auth) where
+  mic : List ℕ
+  mic = micOf key nego chal auth
+
+  go : (b : Bool) → leb 16 (length out) ≡ b → (v : Verdict) →
+      ((after (checked b) (refusalNumber NoRoom) (outcomeNumber (handedOut v (whenClear v mic))) ≡ 0) × (v ≡ Clear)
+      × Front (whenClear v mic) out (after (checked b) out (outcomeOut (handedOut v (whenClear v mic)) out)))
+      ⊎ (after (checked b) out (outcomeOut (handedOut v (whenClear v mic)) out) ≡ out)
+  go true e Clear = inl (refl, refl, at-front mic out (omega (arith, leb-true 16 (length out) e, mic-length key nego chal auth)))
+  go true e (Not d) = inr refl
+  go false e v = inr refl

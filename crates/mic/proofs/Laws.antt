@@ -1,0 +1,190 @@
+-- Laws of the MIC's checks, and of the three messages that are taken one after the other.
+use Prim.Native.Nat.{ℕ, _+_, _-_, _≤_}
+use mathlib.Core.Path.{_≡_, refl, sym, ap, _∙_}
+use mathlib.Core.Bool.{Bool, true, false}
+use mathlib.Core.List.{List, _++_}
+use native.Mathlib.Omega.{arith}
+use borrow.Author.Tests.{eqb-true}
+use lib.Dec.{eqb}
+use lib.ListN.{length, take, drop, replicate, length-drop}
+use lib.Seq.{take-all}
+use Rattle.wire.specs.declared.check.Verdict.{Verdict}
+use Rattle.wire.specs.declared.check.Verdict.the-variants.{Clear, Refused as Not}
+use Rattle.wire.specs.declared.refusal.Refusal.{Refusal}
+use Rattle.wire.specs.declared.refusal.Refusal.the-variants.{WrongSessionKey, NoMic}
+use Rattle.wire.specs.Check.{checked, after, onClear}
+use Rattle.wire.specs.Number.{standsAt}
+use Rattle.wire.proofs.Laws.{after-clear}
+use Rattle.head.specs.declared.Head.{Head}
+use Rattle.head.specs.declared.Head.the-variants.{Flags, Refused as Stopped}
+use Rattle.head.specs.Head.{readHead, onFlags}
+use Rattle.head.proofs.Heads.{head-short}
+use Rattle.negotiate_flags.specs.declared.NegotiateFlags.{NegotiateFlags}
+use Rattle.negotiate.specs.declared.Negotiate.{Negotiate}
+use Rattle.negotiate.specs.declared.Reading.{Reading as NegotiateReading}
+use Rattle.negotiate.specs.declared.Reading.the-variants.{Taken as NegotiateTaken, Refused as NegotiateRefused}
+use Rattle.negotiate.specs.Negotiate.{layout as negotiateLayout, readNegotiate}
+use Rattle.challenge.specs.declared.Answer.{Answer as ChallengeAnswer}
+use Rattle.challenge.specs.declared.Challenge.{Challenge}
+use Rattle.challenge.specs.declared.Reading.{Reading as ChallengeReading}
+use Rattle.challenge.specs.declared.Reading.the-variants.{Taken as ChallengeTaken, Refused as ChallengeRefused}
+use Rattle.challenge.specs.Challenge.{fieldsOf, onTaken, readingOf, readChallenge}
+use Rattle.challenge.proofs.Laws.{fields-short}
+use Rattle.authenticate.specs.declared.Answer.{Answer as AuthenticateAnswer}
+use Rattle.authenticate.specs.declared.Authenticate.{Authenticate}
+use Rattle.authenticate.specs.declared.Reading.{Reading as AuthenticateReading}
+use Rattle.authenticate.specs.declared.Reading.the-variants.{Taken as AuthenticateTaken, Refused as AuthenticateRefused}
+use Rattle.authenticate.specs.Authenticate.{layout as authenticateLayout, readingOf as authenticateReadingOf, readAuthenticate}
+use Rattle.authenticate.proofs.Laws.{taken-by}
+use Rattle.authenticate.proofs.Mic.{mic-room}
+use Rattle.md5.specs.State.{taken}
+use Rattle.md5.specs.declared.state.State.{State}
+use Rattle.md5.proofs.States.{taken-append}
+use Rattle.hmac_md5.specs.Hmac.{begun, ended}
+use Rattle.hmac_md5.proofs.Laws.{of-pieces}
+use Rattle.mic.specs.declared.Worked.{Worked}
+use Rattle.mic.specs.declared.Checking.the-variants.{Compared}
+use Rattle.mic.specs.Mic.{zeroed, micOf, negotiateVerdict, challengeVerdict, authenticateVerdict, checkMessages, workOut, checkMic}
+
+-- ---- each message's verdict, by what its reading is known to be
+
+pub negotiate-clear : (q r : NegotiateReading) (m : Negotiate) → r ≡ q → r ≡ NegotiateTaken m → Clear ≡ negotiateVerdict q
+negotiate-clear q r m e f = rw (← e, f)
+
+pub negotiate-not : (q r : NegotiateReading) (e : Refusal) → r ≡ q → r ≡ NegotiateRefused e → Not e ≡ negotiateVerdict q
+negotiate-not q r e p f = rw (← p, f)
+
+pub challenge-clear : (q r : ChallengeAnswer) (c : Challenge) → r ≡ q → r .reading ≡ ChallengeTaken c → Clear ≡ challengeVerdict (q .reading)
+challenge-clear q r c e f = rw (← e, f)
+
+pub challenge-not : (q r : ChallengeAnswer) (e : Refusal) → r ≡ q → r .reading ≡ ChallengeRefused e → Not e ≡ challengeVerdict (q .reading)
+challenge-not q r e p f = rw (← p, f)
+
+pub authenticate-taken : (q r : AuthenticateAnswer) (a : Authenticate) (v : Verdict) → r ≡ q → r .reading ≡ AuthenticateTaken a →
+    v ≡ after (checked (a .«mic_present»)) (Not NoMic) Clear → v ≡ authenticateVerdict (q .reading)
+authenticate-taken q r a v e f g = rw (← e, f) g
+
+pub authenticate-not : (q r : AuthenticateAnswer) (e : Refusal) → r ≡ q → r .reading ≡ AuthenticateRefused e → Not e ≡ authenticateVerdict (q .reading)
+authenticate-not q r e p f = rw (← p, f)
+
+-- ---- what no refusal tells
+
+zero-not-one : _≡_ {A = ℕ} 0 1 → ⊥
+zero-not-one h = omega arith
+
+negotiate-short : (s : List ℕ) → negotiateVerdict (readNegotiate s) ≡ Clear → length s ≤ 65535
+unfolding readNegotiate
+negotiate-short s h = go (readHead negotiateLayout s) _ refl h where
+  go : (k : Head) (x : NegotiateFlags → NegotiateReading) → readHead negotiateLayout s ≡ k → negotiateVerdict (onFlags NegotiateRefused k x) ≡ Clear →
+      length s ≤ 65535
+  go (Flags w) x e h = head-short negotiateLayout s (readHead negotiateLayout s) w refl e
+  go (Stopped d) x e h = absurd (zero-not-one cc)
+
+challenge-short : (s : List ℕ) → challengeVerdict (readChallenge s .reading) ≡ Clear → length s ≤ 65535
+unfolding readChallenge readingOf
+challenge-short s h = go (fieldsOf s) _ refl h where
+  go : (k : ChallengeReading) (x : Challenge → ChallengeReading) → fieldsOf s ≡ k → challengeVerdict (onTaken ChallengeRefused k x) ≡ Clear → length s ≤ 65535
+  go (ChallengeTaken c) x e h = fields-short s c e
+  go (ChallengeRefused d) x e h = absurd (zero-not-one cc)
+
+-- the AUTHENTICATE is not too long, and its MIC lies within it
+authenticate-room : (s : List ℕ) → authenticateVerdict (readAuthenticate s .reading) ≡ Clear → (length s ≤ 65535) × (88 ≤ length s)
+unfolding readAuthenticate
+authenticate-room s h = go (authenticateReadingOf s) refl h where
+  go : (r : AuthenticateReading) → authenticateReadingOf s ≡ r → authenticateVerdict r ≡ Clear → (length s ≤ 65535) × (88 ≤ length s)
+  go (AuthenticateTaken a) e h =
+      let t = taken-by s a e in (
+        head-short authenticateLayout s (readHead authenticateLayout s) (t .flags) refl (t .head),
+        mic-room s (AuthenticateTaken a) a (sym e) refl (after-clear (a .«mic_present») NoMic Clear h .0),
+      )
+  go (AuthenticateRefused d) e h = absurd (zero-not-one cc)
+
+on-clear-clear : (k x : Verdict) → onClear Not k x ≡ Clear → (k ≡ Clear) × (x ≡ Clear)
+on-clear-clear Clear x h = (refl, h)
+on-clear-clear (Not e) x h = (cc, cc)
+
+pub record Passed (n : ℕ) (nego chal auth : List ℕ) : Type 0 where
+  pub key : n ≡ 16
+  pub nego-short : length nego ≤ 65535
+  pub chal-short : length chal ≤ 65535
+  pub auth-short : length auth ≤ 65535
+  pub mic-inside : 88 ≤ length auth
+
+pub passed : (n : ℕ) (nego chal auth : List ℕ) → checkMessages n nego chal auth ≡ Clear → Passed n nego chal auth
+unfolding checkMessages
+passed n nego chal auth h =
+    let k = after-clear (eqb n 16) WrongSessionKey _ h in
+    let a = on-clear-clear (negotiateVerdict (readNegotiate nego)) _ (k .1) in
+    let b = on-clear-clear (challengeVerdict (readChallenge chal .reading)) _ (a .1) in
+    let c = authenticate-room auth (b .1) in
+    record {
+      key = eqb-true n 16 (k .0);
+      nego-short = negotiate-short nego (a .0);
+      chal-short = challenge-short chal (b .0);
+      auth-short = c .0;
+      mic-inside = c .1;
+    }
+
+module _ (key nego chal auth : List ℕ) (h : checkMessages (length key) nego chal auth ≡ Clear) where
+  pub key-short : length key ≤ 65535
+  key-short = omega (arith, passed (length key) nego chal auth h .key)
+
+  pub key-fits : length key ≤ 0x400000000000000
+  key-fits = omega (arith, passed (length key) nego chal auth h .key)
+
+  pub nego-fits : length nego ≤ 65535
+  nego-fits = passed (length key) nego chal auth h .nego-short
+
+  pub chal-fits : length chal ≤ 65535
+  chal-fits = passed (length key) nego chal auth h .chal-short
+
+  pub auth-fits : length auth ≤ 65535
+  auth-fits = passed (length key) nego chal auth h .auth-short
+
+  pub mic-fits : 88 ≤ length auth
+  mic-fits = passed (length key) nego chal auth h .mic-inside
+
+pub ruleset fits = (key-short, key-fits, nego-fits, chal-fits, auth-fits, mic-fits)
+
+-- ---- the answers
+
+pub clear-of : (n : ℕ) (nego chal auth : List ℕ) (v : Verdict) → v ≡ checkMessages n nego chal auth → v ≡ Clear → checkMessages n nego chal auth ≡ Clear
+clear-of n nego chal auth v e f = sym e ∙ f
+
+pub mic-there : (key nego chal auth : List ℕ) (v : Verdict) → v ≡ checkMessages (length key) nego chal auth → v ≡ Clear → 72 + 16 ≤ length auth
+mic-there key nego chal auth v e f = mic-fits key nego chal auth (clear-of (length key) nego chal auth v e f)
+
+pub worked-refused : (key nego chal auth : List ℕ) (v : Verdict) (e : Refusal) → v ≡ checkMessages (length key) nego chal auth → v ≡ Not e →
+    _≡_ {A = Worked} (record { verdict = v; mic = replicate 16 0 }) (workOut key nego chal auth)
+unfolding workOut
+worked-refused key nego chal auth v e p q = rw (← p, q)
+
+pub worked-clear : (key nego chal auth mic : List ℕ) (v : Verdict) → v ≡ checkMessages (length key) nego chal auth → v ≡ Clear → mic ≡ micOf key nego chal auth →
+    _≡_ {A = Worked} (record { verdict = v; mic = mic }) (workOut key nego chal auth)
+unfolding workOut
+worked-clear key nego chal auth mic v p q r = rw (← p, q, r)
+
+pub compared : (key nego chal auth mic : List ℕ) (b : Bool) → b ≡ standsAt auth 72 mic → mic ≡ micOf key nego chal auth →
+    Compared b ≡ Compared (standsAt auth 72 (micOf key nego chal auth))
+compared key nego chal auth mic b p q = rw (p, q)
+
+-- ---- the three messages
+
+pub is-zeroed : (s t u r : State) (m : List ℕ) → t ≡ taken s (take (72 - 0) (drop 0 m)) → u ≡ taken t (replicate 16 0) →
+    r ≡ taken u (take (length m - 88) (drop 88 m)) → r ≡ taken s (zeroed m)
+unfolding zeroed
+is-zeroed s t u r m e f g =
+    let all : take (length m - 88) (drop 88 m) ≡ drop 88 m = take-all (length m - 88) (drop 88 m) (simp length-drop (omega arith)) in
+    g ∙ ap (taken u) all ∙ ap (λ (v : State). taken v (drop 88 m)) (f ∙ ap (λ (v : State). taken v (replicate 16 0)) e)
+    ∙ sym (taken-append (taken s (take 72 m)) (replicate 16 0) (drop 88 m))
+    ∙ sym (taken-append s (take 72 m) (replicate 16 0 ++ drop 88 m))
+
+pub two-pieces : (s t r : State) (key a b : List ℕ) → s ≡ begun key → t ≡ taken s a → r ≡ taken t b → r ≡ taken (taken (begun key) a) b
+two-pieces s t r key a b e f g = simp (g, f, e)
+
+pub is-mic : (key a b m r : List ℕ) (s t : State) → s ≡ taken (taken (begun key) a) b → t ≡ taken s (zeroed m) → r ≡ ended key t → r ≡ micOf key a b m
+unfolding micOf
+is-mic key a b m r s t e f g =
+    g ∙ ap (ended key) (f ∙ ap (λ (u : State). taken u (zeroed m)) e ∙ sym (taken-append (taken (begun key) a) b (zeroed m))
+    ∙ sym (taken-append (begun key) a (b ++ zeroed m)))
+    ∙ of-pieces key (a ++ (b ++ zeroed m))

@@ -1,0 +1,11 @@
+use borrow.Author.Needs.{needs}
+use Rattle.mic.proofs.Laws.{clear-of, worked-refused, worked-clear}
+use Rattle.mic.proofs.work_out.Statement.{statement}
+use Rattle.mic.proofs.work_out.Tie as tie
+
+pub work-out-spec : {M : Type 1} → statement M
+work-out-spec =
+    tie.close
+    (tie.spec
+    (λ c κs. search needs) (λ c. search needs) (λ c. search needs) (λ c. search worked-refused) (λ c κs. search clear-of)
+    (λ c. search worked-clear))

@@ -1,0 +1,77 @@
+-- The MIC (MS-NLMP 2.2.1.3, source document 004), worked out and checked as document 02's request 10/12 says.
+use Prim.Native.Nat.{ℕ}
+use mathlib.Core.Bool.{Bool}
+use mathlib.Core.List.{List, _++_}
+use lib.Dec.{eqb}
+use lib.ListN.{length, take, drop, replicate}
+use Rattle.wire.specs.declared.check.Checked.{Checked}
+use Rattle.wire.specs.declared.check.Verdict.{Verdict}
+use Rattle.wire.specs.declared.check.Verdict.the-variants.{Clear, Refused as Not}
+use Rattle.wire.specs.declared.refusal.Refusal.the-variants.{WrongSessionKey, NoMic}
+use Rattle.wire.specs.Check.{checked, after, onClear}
+use Rattle.wire.specs.Number.{standsAt}
+use Rattle.hmac_md5.specs.Hmac.{hmac}
+use Rattle.negotiate.specs.declared.Reading.{Reading as NegotiateReading}
+use Rattle.negotiate.specs.declared.Reading.the-variants.{Taken as NegotiateTaken, Refused as NegotiateRefused}
+use Rattle.negotiate.specs.Negotiate.{readNegotiate}
+use Rattle.challenge.specs.declared.Reading.{Reading as ChallengeReading}
+use Rattle.challenge.specs.declared.Reading.the-variants.{Taken as ChallengeTaken, Refused as ChallengeRefused}
+use Rattle.challenge.specs.Challenge.{readChallenge}
+use Rattle.authenticate.specs.declared.Reading.{Reading as AuthenticateReading}
+use Rattle.authenticate.specs.declared.Reading.the-variants.{Taken as AuthenticateTaken, Refused as AuthenticateRefused}
+use Rattle.authenticate.specs.Authenticate.{readAuthenticate}
+use Rattle.mic.specs.declared.Worked.{Worked}
+use Rattle.mic.specs.declared.Checking.{Checking}
+use Rattle.mic.specs.declared.Checking.the-variants.{Compared, Refused}
+
+-- an AUTHENTICATE with the sixteen bytes of its MIC, 72 to 87, taken as zero
+unfoldable pub zeroed : List ℕ → List ℕ
+zeroed auth = take 72 auth ++ (replicate 16 0 ++ drop 88 auth)
+
+-- HMAC-MD5 with the session key over NEGOTIATE, CHALLENGE and AUTHENTICATE in that order
+unfoldable pub micOf : List ℕ → List ℕ → List ℕ → List ℕ → List ℕ
+micOf key nego chal auth = hmac key (nego ++ (chal ++ zeroed auth))
+
+-- check 55: the key has 16 bytes, of the n that it has
+abbrev pub keyHolds : ℕ → Checked
+keyHolds n = checked (eqb n 16)
+
+-- each message's reading refusals
+abbrev pub negotiateVerdict : NegotiateReading → Verdict
+negotiateVerdict (NegotiateTaken m) = Clear
+negotiateVerdict (NegotiateRefused e) = Not e
+
+abbrev pub challengeVerdict : ChallengeReading → Verdict
+challengeVerdict (ChallengeTaken c) = Clear
+challengeVerdict (ChallengeRefused e) = Not e
+
+-- and after the AUTHENTICATE's, check 56: it has a MIC
+abbrev pub authenticateVerdict : AuthenticateReading → Verdict
+authenticateVerdict (AuthenticateTaken a) = after (checked (a .«mic_present»)) (Not NoMic) Clear
+authenticateVerdict (AuthenticateRefused e) = Not e
+
+-- 55, then the reading refusals in the order of the messages, then 56
+unfoldable pub checkMessages : ℕ → List ℕ → List ℕ → List ℕ → Verdict
+checkMessages n nego chal auth =
+    after (keyHolds n) (Not WrongSessionKey) (
+    onClear Not (negotiateVerdict (readNegotiate nego)) (
+    onClear Not (challengeVerdict (readChallenge chal .reading))
+    (authenticateVerdict (readAuthenticate auth .reading))))
+
+-- sixteen bytes, which are zeros where there is a refusal
+abbrev pub whenClear : Verdict → List ℕ → List ℕ
+whenClear Clear bytes = bytes
+whenClear (Not e) bytes = replicate 16 0
+
+-- what working it out answers
+unfoldable pub workOut : List ℕ → List ℕ → List ℕ → List ℕ → Worked
+workOut key nego chal auth =
+    record {
+      verdict = checkMessages (length key) nego chal auth;
+      mic = whenClear (checkMessages (length key) nego chal auth) (micOf key nego chal auth);
+    }
+
+-- what checking it answers: whether those sixteen bytes stand at 72
+unfoldable pub checkMic : List ℕ → List ℕ → List ℕ → List ℕ → Checking
+checkMic key nego chal auth =
+    onClear Refused (checkMessages (length key) nego chal auth) (Compared (standsAt auth 72 (micOf key nego chal auth)))

@@ -1,0 +1,165 @@
+// The MIC of an AUTHENTICATE message: worked out from a session key and the three messages, and checked.
+ghost use mathlib.Core.Path.{_≡_};
+ghost use Prim.Native.Nat.{_+_, _≤_};
+ghost use lib.ListN.{length};
+ghost use Rattle.wire.specs.declared.check.Verdict.the-variants.{Clear, Refused as Not};
+ghost use Rattle.wire.specs.declared.refusal.Refusal.the-variants.{NoMic};
+ghost use Rattle.wire.specs.Check.{checked, after};
+ghost use Rattle.wire.specs.Number.{standsAt};
+ghost use Rattle.negotiate.specs.Negotiate.{readNegotiate};
+ghost use Rattle.challenge.specs.Challenge.{readChallenge};
+ghost use Rattle.authenticate.specs.Authenticate.{readAuthenticate};
+ghost use Rattle.md5.specs.State.{taken};
+ghost use Rattle.hmac_md5.specs.Hmac.{begun};
+ghost use Rattle.mic.specs.Mic.{zeroed, micOf, negotiateVerdict, challengeVerdict, authenticateVerdict, checkMessages, workOut, checkMic};
+use md5::state::State;
+use wire::check::Checked;
+use wire::check::Verdict;
+use wire::check::check;
+use wire::refusal::Refusal;
+
+// What working it out answers; the MIC's bytes are zeros where there is a refusal.
+pub struct Worked {
+    pub verdict: Verdict,
+    pub mic: [u8; 16],
+}
+
+// What checking it answers: whether the message has the MIC that was worked out.
+pub enum Checking {
+    Compared(bool),
+    Refused(Refusal),
+}
+
+fn negotiate_verdict(nego: &[u8]) -> Verdict
+    ensures { λ r. ⌜ r ≡ negotiateVerdict (readNegotiate (now (nego .entry))) ⌝ }
+{
+    let reading = negotiate::read(nego);
+    match reading {
+        negotiate::Reading::Taken(_) => Verdict::Clear,
+        negotiate::Reading::Refused(e) => Verdict::Refused(e),
+    }
+}
+
+fn challenge_verdict(chal: &[u8]) -> Verdict
+    ensures { λ r. ⌜ r ≡ challengeVerdict (readChallenge (now (chal .entry)) .reading) ⌝ }
+{
+    let reading = challenge::read(chal).reading;
+    match reading {
+        challenge::Reading::Taken(_) => Verdict::Clear,
+        challenge::Reading::Refused(e) => Verdict::Refused(e),
+    }
+}
+
+// The AUTHENTICATE's reading refusals, and then check 56.
+fn authenticate_verdict(auth: &[u8]) -> Verdict
+    ensures { λ r. ⌜ r ≡ authenticateVerdict (readAuthenticate (now (auth .entry)) .reading) ⌝ }
+{
+    let reading = authenticate::read(auth).reading;
+    match reading {
+        authenticate::Reading::Taken(a) => mic_verdict(a.mic_present),
+        authenticate::Reading::Refused(e) => Verdict::Refused(e),
+    }
+}
+
+// Check 56.
+fn mic_verdict(present: bool) -> Verdict
+    ensures { λ r. ⌜ r ≡ after (checked present) (Not NoMic) Clear ⌝ }
+{
+    let Checked::Held = check(present) else {
+        return Verdict::Refused(Refusal::NoMic);
+    };
+    Verdict::Clear
+}
+
+// Check 55 of a key of so many bytes, the three readings in the order of the messages, and check 56.
+fn check_messages(size: usize, nego: &[u8], chal: &[u8], auth: &[u8]) -> Verdict
+    ensures { λ r. ⌜ r ≡ checkMessages size (now (nego .entry)) (now (chal .entry)) (now (auth .entry)) ⌝ }
+{
+    let Checked::Held = check(size == 16) else {
+        return Verdict::Refused(Refusal::WrongSessionKey);
+    };
+    let first = negotiate_verdict(nego);
+    let Verdict::Clear = first else {
+        return first;
+    };
+    let second = challenge_verdict(chal);
+    let Verdict::Clear = second else {
+        return second;
+    };
+    authenticate_verdict(auth)
+}
+
+// The first two messages, after the key.
+fn two_taken(key: &[u8], nego: &[u8], chal: &[u8]) -> State
+    requires { ⌜ (length (now key) ≤ 65535) × ((length (now nego) ≤ 65535) × (length (now chal) ≤ 65535)) ⌝ }
+    ensures { λ r. ⌜ (r .count ≤ 0x100000) × (r ≡ taken (taken (begun (now (key .entry))) (now (nego .entry))) (now (chal .entry))) ⌝ }
+{
+    let s = hmac_md5::begin(key);
+    let t = s.update(nego);
+    t.update(chal)
+}
+
+// The AUTHENTICATE in three parts, of which the second is sixteen zeros.
+fn zeroed_taken(s: State, auth: &[u8]) -> State
+    requires { ⌜ (s .count ≤ 0x100000) × ((88 ≤ length (now auth)) × (length (now auth) ≤ 65535)) ⌝ }
+    ensures { λ r. ⌜ (r .count ≤ 0x200000) × (r ≡ taken s (zeroed (now (auth .entry)))) ⌝ }
+{
+    let front = s.update_part(auth, 0, 72);
+    let blank = front.zeros(16);
+    blank.update_part(auth, 88, auth.len())
+}
+
+// The MIC where no check failed.
+fn mic_of(key: &[u8], nego: &[u8], chal: &[u8], auth: &[u8]) -> [u8; 16]
+    requires { ⌜ checkMessages (length (now key)) (now nego) (now chal) (now auth) ≡ Clear ⌝ }
+    ensures { λ r. ⌜ r ≡ micOf (now (key .entry)) (now (nego .entry)) (now (chal .entry)) (now (auth .entry)) ⌝ }
+{
+    let s = two_taken(key, nego, chal);
+    let t = zeroed_taken(s, auth);
+    hmac_md5::end(key, t)
+}
+
+// Whether sixteen bytes stand at a place. All of them are looked at whatever they hold: an answer that came sooner at the first byte that
+// differs would tell whoever measures it how much of a guessed MIC is right.
+fn stands_at(s: &[u8], at: usize, xs: [u8; 16]) -> bool
+    requires { ⌜ at + 16 ≤ length (now s) ⌝ }
+    ensures { λ r. ⌜ r ≡ standsAt (now (s .entry)) at xs ⌝ }
+{
+    let mut same = true;
+    let mut i: usize = 0;
+    while i < 16 {
+        same = same & (s[at + i] == xs[i]);
+        i = i + 1;
+    }
+    same
+}
+
+// Works out the MIC: from a session key of 16 bytes and the three messages, the sixteen bytes of the AUTHENTICATE's MIC taken as zero.
+pub fn work_out(key: &[u8], nego: &[u8], chal: &[u8], auth: &[u8]) -> Worked
+    ensures { λ r. ⌜ r ≡ workOut (now (key .entry)) (now (nego .entry)) (now (chal .entry)) (now (auth .entry)) ⌝ }
+{
+    let verdict = check_messages(key.len(), nego, chal, auth);
+    let Verdict::Clear = verdict else {
+        return Worked {
+            verdict: verdict,
+            mic: [0u8; 16],
+        };
+    };
+    let mic = mic_of(key, nego, chal, auth);
+    Worked {
+        verdict: verdict,
+        mic: mic,
+    }
+}
+
+// Whether the AUTHENTICATE has that MIC.
+pub fn check_mic(key: &[u8], nego: &[u8], chal: &[u8], auth: &[u8]) -> Checking
+    ensures { λ r. ⌜ r ≡ checkMic (now (key .entry)) (now (nego .entry)) (now (chal .entry)) (now (auth .entry)) ⌝ }
+{
+    let verdict = check_messages(key.len(), nego, chal, auth);
+    let Verdict::Clear = verdict else {
+        return Checking::Refused(verdict.refusal());
+    };
+    let mic = mic_of(key, nego, chal, auth);
+    Checking::Compared(stands_at(auth, 72, mic))
+}
