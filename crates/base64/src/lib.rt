@@ -1,0 +1,246 @@
+// Base64 with padding (RFC 4648, section 4).
+ghost use mathlib.Core.Path.{_≡_};
+ghost use mathlib.Core.Bool.{true, false};
+ghost use mathlib.Core.List.{[], _∷_};
+ghost use Prim.Native.Nat.{_+_, _*_, _≤_, _<_};
+ghost use lib.ListN.{length};
+ghost use Rattle.place.specs.Place.{Wrote};
+ghost use Rattle.base64.specs.Base64.{letter, three, two, one, encode, isLetter, valueOf, groupHolds, groupBytes, good, decode};
+use place::Place;
+
+// The character of a value, worked out: no table of them is kept.
+fn letter(v: u8) -> u8
+    requires { ⌜ v < 64 ⌝ }
+    ensures { λ r. ⌜ r ≡ letter v ⌝ }
+{
+    if v < 26 {
+        return v + 65;
+    }
+    if v < 52 {
+        return v + 71;
+    }
+    if v < 62 {
+        return v - 4;
+    }
+    if v == 62 {
+        return 43;
+    }
+    47
+}
+
+// Four bytes.
+fn put_four(p: Place, out: &mut [u8], w: u8, x: u8, y: u8, z: u8) -> Place
+    requires { ⌜ p .at + 4 ≤ length (now out) ⌝ }
+    ensures { λ r. ⌜ Wrote (now (out .entry)) (now (out .exit)) (p .at) (r .at) (w ∷ x ∷ y ∷ z ∷ []) ⌝ }
+{
+    let at = p.at;
+    out[at] = w;
+    out[at + 1] = x;
+    out[at + 2] = y;
+    out[at + 3] = z;
+    Place { at: at + 4 }
+}
+
+// The characters of three bytes.
+fn put_three(p: Place, out: &mut [u8], a: u8, b: u8, c: u8) -> Place
+    requires { ⌜ p .at + 4 ≤ length (now out) ⌝ }
+    ensures { λ r. ⌜ Wrote (now (out .entry)) (now (out .exit)) (p .at) (r .at) (three a b c) ⌝ }
+{
+    let w = letter(a / 4);
+    let x = letter(a % 4 * 16 + b / 16);
+    let y = letter(b % 16 * 4 + c / 64);
+    let z = letter(c % 64);
+    put_four(p, out, w, x, y, z)
+}
+
+// Of two bytes at the end.
+fn put_two(p: Place, out: &mut [u8], a: u8, b: u8) -> Place
+    requires { ⌜ p .at + 4 ≤ length (now out) ⌝ }
+    ensures { λ r. ⌜ Wrote (now (out .entry)) (now (out .exit)) (p .at) (r .at) (two a b) ⌝ }
+{
+    let w = letter(a / 4);
+    let x = letter(a % 4 * 16 + b / 16);
+    let y = letter(b % 16 * 4);
+    put_four(p, out, w, x, y, 61)
+}
+
+// Of one byte at the end.
+fn put_one(p: Place, out: &mut [u8], a: u8) -> Place
+    requires { ⌜ p .at + 4 ≤ length (now out) ⌝ }
+    ensures { λ r. ⌜ Wrote (now (out .entry)) (now (out .exit)) (p .at) (r .at) (one a) ⌝ }
+{
+    let w = letter(a / 4);
+    let x = letter(a % 4 * 16);
+    put_four(p, out, w, x, 61, 61)
+}
+
+// Writes a message as base64.
+pub fn put_encoded(p: Place, out: &mut [u8], m: &[u8]) -> Place
+    requires { ⌜ p .at + length (encode (now m)) ≤ length (now out) ⌝ }
+    ensures { λ r. ⌜ Wrote (now (out .entry)) (now (out .exit)) (p .at) (r .at) (encode (now (m .entry))) ⌝ }
+{
+    let mut q = p;
+    let mut i: usize = 0;
+    while 3 <= m.len() - i {
+        q = put_three(q, out, m[i], m[i + 1], m[i + 2]);
+        i = i + 3;
+    }
+    let left = m.len() - i;
+    if left == 2 {
+        return put_two(q, out, m[i], m[i + 1]);
+    }
+    if left == 1 {
+        return put_one(q, out, m[i]);
+    }
+    q
+}
+
+// Whether a character is of the alphabet.
+fn is_letter(c: u8) -> bool
+    ensures { λ r. ⌜ r ≡ isLetter c ⌝ }
+{
+    ((65 <= c) & (c <= 90))
+        | ((97 <= c) & (c <= 122))
+        | ((48 <= c) & (c <= 57))
+        | (c == 43)
+        | (c == 47)
+}
+
+// Its value there, 0 for one that is not of it.
+fn value_of(c: u8) -> u8
+    ensures { λ r. ⌜ (r ≡ valueOf c) × (r < 64) ⌝ }
+{
+    if c == 43 {
+        return 62;
+    }
+    if c == 47 {
+        return 63;
+    }
+    if c < 48 {
+        return 0;
+    }
+    if c < 58 {
+        return c + 4;
+    }
+    if c < 65 {
+        return 0;
+    }
+    if c < 91 {
+        return c - 65;
+    }
+    if c < 97 {
+        return 0;
+    }
+    if c < 123 {
+        return c - 71;
+    }
+    0
+}
+
+// Whether a group before the last stands for bytes: four letters.
+fn letters_hold(a: u8, b: u8, c: u8, d: u8) -> bool
+    ensures { λ r. ⌜ r ≡ groupHolds false a b c d ⌝ }
+{
+    is_letter(a) & is_letter(b) & is_letter(c) & is_letter(d)
+}
+
+// Whether the last group does, with the padding and the bits left over.
+fn last_holds(a: u8, b: u8, c: u8, d: u8) -> bool
+    ensures { λ r. ⌜ r ≡ groupHolds true a b c d ⌝ }
+{
+    is_letter(a)
+        & is_letter(b)
+        & ((is_letter(c) & is_letter(d))
+            | (is_letter(c) & (d == 61) & (value_of(c) % 4 == 0))
+            | ((c == 61) & (d == 61) & (value_of(b) % 16 == 0)))
+}
+
+// Whether a text is in base64.
+pub fn good(t: &[u8]) -> bool
+    ensures { λ r. ⌜ r ≡ good (now (t .entry)) ⌝ }
+{
+    let mut ok = true;
+    let mut i: usize = 0;
+    while 4 < t.len() - i {
+        ok = ok & letters_hold(t[i], t[i + 1], t[i + 2], t[i + 3]);
+        i = i + 4;
+    }
+    let left = t.len() - i;
+    if left == 4 {
+        return ok & last_holds(t[i], t[i + 1], t[i + 2], t[i + 3]);
+    }
+    ok & (left == 0)
+}
+
+// Two bytes, and three.
+fn put_pair(p: Place, out: &mut [u8], x: u8, y: u8) -> Place
+    requires { ⌜ p .at + 2 ≤ length (now out) ⌝ }
+    ensures { λ r. ⌜ Wrote (now (out .entry)) (now (out .exit)) (p .at) (r .at) (x ∷ y ∷ []) ⌝ }
+{
+    let at = p.at;
+    out[at] = x;
+    out[at + 1] = y;
+    Place { at: at + 2 }
+}
+
+fn put_triple(p: Place, out: &mut [u8], x: u8, y: u8, z: u8) -> Place
+    requires { ⌜ p .at + 3 ≤ length (now out) ⌝ }
+    ensures { λ r. ⌜ Wrote (now (out .entry)) (now (out .exit)) (p .at) (r .at) (x ∷ y ∷ z ∷ []) ⌝ }
+{
+    let at = p.at;
+    out[at] = x;
+    out[at + 1] = y;
+    out[at + 2] = z;
+    Place { at: at + 3 }
+}
+
+// The bytes of a group.
+fn put_group(p: Place, out: &mut [u8], a: u8, b: u8, c: u8, d: u8) -> Place
+    requires { ⌜ p .at + length (groupBytes a b c d) ≤ length (now out) ⌝ }
+    ensures { λ r. ⌜ Wrote (now (out .entry)) (now (out .exit)) (p .at) (r .at) (groupBytes a b c d) ⌝ }
+{
+    let s = value_of(a);
+    let t = value_of(b);
+    let u = value_of(c);
+    let v = value_of(d);
+    if c == 61 {
+        return p.put_u8(out, s * 4 + t / 16);
+    }
+    if d == 61 {
+        return put_pair(p, out, s * 4 + t / 16, t % 16 * 16 + u / 4);
+    }
+    put_triple(p, out, s * 4 + t / 16, t % 16 * 16 + u / 4, u % 4 * 64 + v)
+}
+
+// Writes the bytes that a text stands for.
+pub fn put_decoded(p: Place, out: &mut [u8], t: &[u8]) -> Place
+    requires { ⌜ p .at + length (decode (now t)) ≤ length (now out) ⌝ }
+    ensures { λ r. ⌜ Wrote (now (out .entry)) (now (out .exit)) (p .at) (r .at) (decode (now (t .entry))) ⌝ }
+{
+    let mut q = p;
+    let mut i: usize = 0;
+    while 4 <= t.len() - i {
+        q = put_group(q, out, t[i], t[i + 1], t[i + 2], t[i + 3]);
+        i = i + 4;
+    }
+    q
+}
+
+// How many bytes a text in base64 stands for: three for each group, without those that the last one's padding leaves out.
+pub fn decoded_size(t: &[u8]) -> usize
+    requires { ⌜ good (now t) ≡ true ⌝ }
+    ensures { λ r. ⌜ r ≡ length (decode (now (t .entry))) ⌝ }
+{
+    let n = t.len();
+    if n < 4 {
+        return 0;
+    }
+    let size = n / 4 * 3;
+    if t[n - 2] == 61 {
+        return size - 2;
+    }
+    if t[n - 1] == 61 {
+        return size - 1;
+    }
+    size
+}
