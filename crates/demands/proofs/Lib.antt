@@ -31,3 +31,4 @@ pub mod DnsName
 pub mod DnsText
 pub mod StringShown
 pub mod Explained
+pub mod HeaderLine

@@ -29,3 +29,4 @@ pub mod ThinCalls
 pub mod DnsName
 pub mod StringShown
 pub mod Explained
+pub mod HeaderLine

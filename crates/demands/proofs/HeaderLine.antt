@@ -1,0 +1,2 @@
+-- The theorems on header lines.
+pub mod Text
