@@ -150,3 +150,149 @@ has-fault (a ∷ b ∷ c ∷ d ∷ t) g = go (good t) (isEmpty t) refl refl (has
   go true false e f i =
       inner-fails a b c d t (omega (arith, full-some t f, good-groups t e))
       (sym (ap (λ (z : Bool). groupHolds z a b c d) f) ∙ and-false (groupHolds (isEmpty t) a b c d) (good t) g e)
+
+-- ---- what is in base64 has none
+
+-- the three kinds of a group that holds
+pub data Kind (last : Bool) (a b c d : ℕ) : Type 0 where
+  four : isLetter a ≡ true → isLetter b ≡ true → isLetter c ≡ true → isLetter d ≡ true → Kind last a b c d
+  padded : last ≡ true → isLetter a ≡ true → isLetter b ≡ true → isLetter c ≡ true → d ≡ 61 → valueOf c % 4 ≡ 0 → Kind last a b c d
+  twice : last ≡ true → isLetter a ≡ true → isLetter b ≡ true → c ≡ 61 → d ≡ 61 → valueOf b % 16 ≡ 0 → Kind last a b c d
+
+kind-of : (last : Bool) (a b c d : ℕ) → groupHolds last a b c d ≡ true → Kind last a b c d
+unfolding groupHolds
+kind-of last a b c d h =
+    ⊎-elim
+    (λ g. ⊎-elim
+    (λ f. four la lb (and-left (isLetter c) (isLetter d) f) (and-right (isLetter c) (isLetter d) f))
+    (λ f.
+    let f1 = and-left (last && isLetter c && eqb d 61) (eqb (valueOf c % 4) 0) f in
+    let f2 = and-left (last && isLetter c) (eqb d 61) f1 in
+    padded (and-left last (isLetter c) f2) la lb (and-right last (isLetter c) f2) (eqb-true d 61 (and-right (last && isLetter c) (eqb d 61) f1))
+    (eqb-true (valueOf c % 4) 0 (and-right (last && isLetter c && eqb d 61) (eqb (valueOf c % 4) 0) f)))
+    (or-either (isLetter c && isLetter d) (last && isLetter c && eqb d 61 && eqb (valueOf c % 4) 0) g))
+    (λ g.
+    let g1 = and-left (last && eqb c 61 && eqb d 61) (eqb (valueOf b % 16) 0) g in
+    let g2 = and-left (last && eqb c 61) (eqb d 61) g1 in
+    twice (and-left last (eqb c 61) g2) la lb (eqb-true c 61 (and-right last (eqb c 61) g2)) (eqb-true d 61 (and-right (last && eqb c 61) (eqb d 61) g1))
+    (eqb-true (valueOf b % 16) 0 (and-right (last && eqb c 61 && eqb d 61) (eqb (valueOf b % 16) 0) g)))
+    (or-either ((isLetter c && isLetter d) || (last && isLetter c && eqb d 61 && eqb (valueOf c % 4) 0))
+    (last && eqb c 61 && eqb d 61 && eqb (valueOf b % 16) 0) (and-right (isLetter a && isLetter b) _ h))
+  where
+    lab : isLetter a && isLetter b ≡ true
+    lab = and-left (isLetter a && isLetter b) _ h
+
+    la : isLetter a ≡ true
+    la = and-left (isLetter a) (isLetter b) lab
+
+    lb : isLetter b ≡ true
+    lb = and-right (isLetter a) (isLetter b) lab
+
+-- no fault at a letter
+letter-right : (c : ℕ) → isLetter c ≡ true → ((v : ℕ) → HasValue c v → ⊥) → ⊥
+letter-right c l f = f (valueOf c) (has-value c l)
+
+module _ (a b c d : ℕ) (t : List ℕ) (groups : length t % 4 ≡ 0) (la : isLetter a ≡ true) (lb : isLetter b ≡ true) where
+  -- four letters, and none in the rest
+  four-right : isLetter c ≡ true → isLetter d ≡ true → (NotBase64 t → ⊥) → NotBase64 (a ∷ b ∷ c ∷ d ∷ t) → ⊥
+  four-right lc ld rest (inl (zero, l, e, f)) = letter-right a la f
+  four-right lc ld rest (inl (suc zero, l, e, f)) = letter-right b lb f
+  four-right lc ld rest (inl (suc (suc zero), l, e, f)) = letter-right c lc f
+  four-right lc ld rest (inl (suc (suc (suc zero)), l, e, f)) = letter-right d ld f
+  four-right lc ld rest (inl (suc (suc (suc (suc p))), l, e, f)) = rest (inl (p, omega arith, e, f))
+  four-right lc ld rest (inr (inl (zero, l, e, f))) = pad-is-none a e la
+  four-right lc ld rest (inr (inl (suc zero, l, e, f))) = pad-is-none b e lb
+  four-right lc ld rest (inr (inl (suc (suc zero), l, e, f))) = pad-is-none c e lc
+  four-right lc ld rest (inr (inl (suc (suc (suc zero)), l, e, f))) = pad-is-none d e ld
+  four-right lc ld rest (inr (inl (suc (suc (suc (suc p))), l, e, inl f))) = rest (inr (inl (p, omega arith, e, inl (omega arith))))
+  four-right lc ld rest (inr (inl (suc (suc (suc (suc p))), l, e, inr f))) =
+      rest (inr (inl (p, omega arith, e, inr (omega (arith, f .0), λ z. f .1 (moved a b c d t p 1 ∙ z)))))
+  four-right lc ld rest (inr (inr (inl f))) = f (omega (arith, groups))
+  four-right lc ld rest (inr (inr (inr (zero, v, h, inl f)))) = omega (arith, f .0)
+  four-right lc ld rest (inr (inr (inr (suc zero, v, h, inl f)))) = omega (arith, f .0)
+  four-right lc ld rest (inr (inr (inr (suc (suc zero), v, h, inl f)))) = pad-is-none d (f .1) ld
+  four-right lc ld rest (inr (inr (inr (suc (suc (suc zero)), v, h, inl f)))) = omega (arith, f .0, groups)
+  four-right lc ld rest (inr (inr (inr (suc (suc (suc (suc p))), v, h, inl f)))) =
+      rest (inr (inr (inr (p, v, h, inl (omega (arith, f .0), sym (moved a b c d t p 1) ∙ f .1, f .2)))))
+  four-right lc ld rest (inr (inr (inr (zero, v, h, inr f)))) = omega (arith, f .0)
+  four-right lc ld rest (inr (inr (inr (suc zero, v, h, inr f)))) = pad-is-none c (f .1) lc
+  four-right lc ld rest (inr (inr (inr (suc (suc zero), v, h, inr f)))) = omega (arith, f .0, groups)
+  four-right lc ld rest (inr (inr (inr (suc (suc (suc zero)), v, h, inr f)))) = omega (arith, f .0, groups)
+  four-right lc ld rest (inr (inr (inr (suc (suc (suc (suc p))), v, h, inr f)))) =
+      rest (inr (inr (inr (p, v, h, inr (omega (arith, f .0), sym (moved a b c d t p 1) ∙ f .1, sym (moved a b c d t p 2) ∙ f .2, f .3)))))
+
+  -- the last group, with one '='
+  padded-right : length t ≡ 0 → isLetter c ≡ true → d ≡ 61 → valueOf c % 4 ≡ 0 → NotBase64 (a ∷ b ∷ c ∷ d ∷ t) → ⊥
+  padded-right n lc pd z (inl (zero, l, e, f)) = letter-right a la f
+  padded-right n lc pd z (inl (suc zero, l, e, f)) = letter-right b lb f
+  padded-right n lc pd z (inl (suc (suc zero), l, e, f)) = letter-right c lc f
+  padded-right n lc pd z (inl (suc (suc (suc zero)), l, e, f)) = e pd
+  padded-right n lc pd z (inl (suc (suc (suc (suc p))), l, e, f)) = omega (arith, l, n)
+  padded-right n lc pd z (inr (inl (zero, l, e, f))) = pad-is-none a e la
+  padded-right n lc pd z (inr (inl (suc zero, l, e, f))) = pad-is-none b e lb
+  padded-right n lc pd z (inr (inl (suc (suc zero), l, e, f))) = pad-is-none c e lc
+  padded-right n lc pd z (inr (inl (suc (suc (suc p)), l, e, inl f))) = omega (arith, f, n)
+  padded-right n lc pd z (inr (inl (suc (suc (suc p)), l, e, inr f))) = omega (arith, f .0, n)
+  padded-right n lc pd z (inr (inr (inl f))) = f (omega (arith, groups))
+  padded-right n lc pd z (inr (inr (inr (zero, v, h, inl f)))) = omega (arith, f .0)
+  padded-right n lc pd z (inr (inr (inr (suc zero, v, h, inl f)))) = omega (arith, f .0)
+  padded-right n lc pd z (inr (inr (inr (suc (suc zero), v, h, inl f)))) = f .2 (ap (λ (x : ℕ). x % 4) (sym (the-value c v h)) ∙ z)
+  padded-right n lc pd z (inr (inr (inr (suc (suc (suc p)), v, h, inl f)))) = omega (arith, f .0, n)
+  padded-right n lc pd z (inr (inr (inr (zero, v, h, inr f)))) = omega (arith, f .0)
+  padded-right n lc pd z (inr (inr (inr (suc zero, v, h, inr f)))) = pad-is-none c (f .1) lc
+  padded-right n lc pd z (inr (inr (inr (suc (suc p), v, h, inr f)))) = omega (arith, f .0, n)
+
+  -- and with two
+  twice-right : length t ≡ 0 → c ≡ 61 → d ≡ 61 → valueOf b % 16 ≡ 0 → NotBase64 (a ∷ b ∷ c ∷ d ∷ t) → ⊥
+  twice-right n pc pd z (inl (zero, l, e, f)) = letter-right a la f
+  twice-right n pc pd z (inl (suc zero, l, e, f)) = letter-right b lb f
+  twice-right n pc pd z (inl (suc (suc zero), l, e, f)) = e pc
+  twice-right n pc pd z (inl (suc (suc (suc zero)), l, e, f)) = e pd
+  twice-right n pc pd z (inl (suc (suc (suc (suc p))), l, e, f)) = omega (arith, l, n)
+  twice-right n pc pd z (inr (inl (zero, l, e, f))) = pad-is-none a e la
+  twice-right n pc pd z (inr (inl (suc zero, l, e, f))) = pad-is-none b e lb
+  twice-right n pc pd z (inr (inl (suc (suc zero), l, e, inl f))) = omega (arith, f, n)
+  twice-right n pc pd z (inr (inl (suc (suc zero), l, e, inr f))) = f .1 pd
+  twice-right n pc pd z (inr (inl (suc (suc (suc p)), l, e, inl f))) = omega (arith, f, n)
+  twice-right n pc pd z (inr (inl (suc (suc (suc p)), l, e, inr f))) = omega (arith, f .0, n)
+  twice-right n pc pd z (inr (inr (inl f))) = f (omega (arith, groups))
+  twice-right n pc pd z (inr (inr (inr (zero, v, h, inl f)))) = omega (arith, f .0)
+  twice-right n pc pd z (inr (inr (inr (suc zero, v, h, inl f)))) = omega (arith, f .0)
+  twice-right n pc pd z (inr (inr (inr (suc (suc zero), v, h, inl f)))) = pad-is-none c pc (value-is-letter c v h)
+  twice-right n pc pd z (inr (inr (inr (suc (suc (suc p)), v, h, inl f)))) = omega (arith, f .0, n)
+  twice-right n pc pd z (inr (inr (inr (zero, v, h, inr f)))) = omega (arith, f .0)
+  twice-right n pc pd z (inr (inr (inr (suc zero, v, h, inr f)))) = f .3 (ap (λ (x : ℕ). x % 16) (sym (the-value b v h)) ∙ z)
+  twice-right n pc pd z (inr (inr (inr (suc (suc p), v, h, inr f)))) = omega (arith, f .0, n)
+
+none-empty : NotBase64 [] → ⊥
+none-empty (inl (p, l, e, f)) = omega (arith, l)
+none-empty (inr (inl (p, l, e, f))) = omega (arith, l)
+none-empty (inr (inr (inl f))) = f refl
+none-empty (inr (inr (inr (p, v, h, inl f)))) = omega (arith, f .0)
+none-empty (inr (inr (inr (p, v, h, inr f)))) = omega (arith, f .0)
+
+pub no-fault : (t : List ℕ) → good t ≡ true → NotBase64 t → ⊥
+no-fault [] g = none-empty
+no-fault (a ∷ []) g = absurd (true-not-false (sym g))
+no-fault (a ∷ b ∷ []) g = absurd (true-not-false (sym g))
+no-fault (a ∷ b ∷ c ∷ []) g = absurd (true-not-false (sym g))
+no-fault (a ∷ b ∷ c ∷ d ∷ t) g =
+    by-kind (kind-of (isEmpty t) a b c d (and-left (groupHolds (isEmpty t) a b c d) (good t) g))
+    (good-groups t rest) (no-fault t rest)
+  where
+    rest : good t ≡ true
+    rest = and-right (groupHolds (isEmpty t) a b c d) (good t) g
+
+    by-kind : Kind (isEmpty t) a b c d → length t % 4 ≡ 0 → (NotBase64 t → ⊥) → NotBase64 (a ∷ b ∷ c ∷ d ∷ t) → ⊥
+    by-kind (four la lb lc ld) n i = four-right a b c d t n la lb lc ld i
+    by-kind (padded l la lb lc pd z) n i = padded-right a b c d t n la lb (empty-none t l) lc pd z
+    by-kind (twice l la lb pc pd z) n i = twice-right a b c d t n la lb (empty-none t l) pc pd z
+
+-- ---- how many bytes it stands for
+
+pub size-is : (t : List ℕ) → good t ≡ true → length (decode t) ≡ decodedSize t
+size-is [] g = refl
+size-is (a ∷ []) g = absurd (true-not-false (sym g))
+size-is (a ∷ b ∷ []) g = absurd (true-not-false (sym g))
+size-is (a ∷ b ∷ c ∷ []) g = absurd (true-not-false (sym g))
+size-is (a ∷ b ∷ c ∷ d ∷ t) g = decoded-length (a ∷ b ∷ c ∷ d ∷ t) g (omega arith)
