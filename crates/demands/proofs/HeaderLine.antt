@@ -284,4 +284,21 @@ every-byte-counts m k out other n p hm hk em ek e =
 
 pub worked-lines : WorkedLines
 unfolding alphabet isLetter valueOf groupHolds groupBytes three two one headerLine checkExport exportAnswer exportOut schemeHolds textOf checkText checkImport importAnswer importOut
-worked-lines = record { written = refl; one-space = refl; three-spaces = refl; empty = refl }
+worked-lines =
+    record {
+      written = refl;
+      one-space = refl;
+      three-spaces = refl;
+      empty-written = refl;
+      empty-read = refl;
+      no-space = (refl, refl);
+      space-first = (refl, refl);
+      other-word = (refl, refl);
+      tab = (refl, refl);
+      last-bits = (refl, refl);
+      no-padding = (refl, refl);
+      space-after = (refl, refl);
+      section-5 = (refl, refl);
+      no-room = (refl, refl);
+      just-room = refl;
+    }

@@ -13,7 +13,7 @@ use Rattle.place.specs.declared.written.Written.the-variants.{Length}
 use Rattle.http_header.specs.HttpHeader.{exportAnswer, exportOut, importAnswer, importOut}
 use Rattle.demands.specs.Order.{check}
 use Rattle.demands.specs.Kept.{Kept}
-use Rattle.demands.specs.WrittenExactly.{WrittenExactly, Fails33}
+use Rattle.demands.specs.WrittenExactly.{WritingRefusedWith, WrittenExactly, Fails33}
 
 -- ---- RFC 4648, section 4: the text b of a line
 
@@ -182,10 +182,25 @@ EveryByteCounts =
     (m k out other : List ℕ) (n p : ℕ) → Bytes m → Bytes k → exportAnswer (length out) m ≡ Length n → exportAnswer (length other) k ≡ Length p →
     take n (exportOut out m) ≡ take p (exportOut other k) → m ≡ k
 
--- ---- worked lines: RFC 4648, section 10, in both calls; two lines that differ in case and spaces; and a refusal by each number
+-- ---- worked lines
 
+-- an example of RFC 4648, section 10, written; two lines of one message; and the empty message
 pub record WorkedLines : Type 0 where
   pub written : exportOut (replicate 13 0) (ascii "foobar") ≡ ascii "NTLM Zm9vYmFy"
   pub one-space : importOut (replicate 4 0) (ascii "NTLM Zm9vYg==") ≡ ascii "foob"
   pub three-spaces : importOut (replicate 4 0) (ascii "ntLm   Zm9vYg==") ≡ ascii "foob"
-  pub empty : importAnswer 0 (ascii "NTLM ") ≡ Length 0
+  pub empty-written : exportOut (replicate 5 0) [] ≡ ascii "NTLM "
+  pub empty-read : importAnswer 0 (ascii "NTLM ") ≡ Length 0
+  -- no space, a space in front, another word, a tab
+  pub no-space : WritingRefusedWith (importAnswer 9 (ascii "NTLM")) 57 0
+  pub space-first : WritingRefusedWith (importAnswer 9 (ascii " NTLM Zg==")) 57 0
+  pub other-word : WritingRefusedWith (importAnswer 9 (ascii "NTLMX Zg==")) 57 0
+  pub tab : WritingRefusedWith (importAnswer 9 (0x4E ∷ 0x54 ∷ 0x4C ∷ 0x4D ∷ 0x09 ∷ ascii "Zg==")) 57 0
+  -- last bits, padding that is missing, something after the text, and section 5's characters
+  pub last-bits : WritingRefusedWith (importAnswer 0 (ascii "NTLM Zh==")) 58 0
+  pub no-padding : WritingRefusedWith (importAnswer 9 (ascii "NTLM Zg")) 58 0
+  pub space-after : WritingRefusedWith (importAnswer 9 (ascii "NTLM Zm9v ")) 58 0
+  pub section-5 : WritingRefusedWith (importAnswer 9 (ascii "NTLM Zm9_")) 58 0
+  -- the room goes by the message
+  pub no-room : WritingRefusedWith (importAnswer 0 (ascii "NTLM Zg==")) 33 0
+  pub just-room : importAnswer 1 (ascii "NTLM Zg==") ≡ Length 1
