@@ -1,5 +1,5 @@
 -- The alphabet: what the code works out for a value or a character is what the table has.
-use Prim.Native.Nat.{ℕ, suc, _+_, _-_, _<_}
+use Prim.Native.Nat.{ℕ, suc, _+_, _%_, _<_}
 use mathlib.Core.Path.{_≡_, refl, sym, ap, _∙_}
 use mathlib.Core.Bool.{Bool, true, false, not, cond, _&&_, _||_}
 use mathlib.Core.List.{List, [], _∷_}
@@ -26,22 +26,19 @@ same-is false false t = refl
 
 -- ---- as the code works it out
 
-abbrev pub workedLetter : ℕ → ℕ
-workedLetter v = cond (ltb v 26) (v + 65) (cond (ltb v 52) (v + 71) (cond (ltb v 62) (v - 4) (cond (eqb v 62) 43 47)))
+abbrev workedLetter : ℕ → ℕ
+workedLetter v = cond (ltb v 26) (v + 65) (cond (ltb v 52) (v + 71) (cond (ltb v 62) ((v + 60) % 64) (cond (eqb v 62) 43 47)))
 
-abbrev pub workedTest : ℕ → Bool
+abbrev workedTest : ℕ → Bool
 workedTest c = (leb 65 c && leb c 90) || (leb 97 c && leb c 122) || (leb 48 c && leb c 57) || eqb c 43 || eqb c 47
 
-abbrev pub workedValue : ℕ → ℕ
+abbrev workedValue : ℕ → ℕ
 workedValue c =
+    cond (leb 65 c && leb c 90) ((c % 64 + 63) % 64) (
+    cond (leb 97 c && leb c 122) ((c % 64 + 57) % 64) (
+    cond (leb 48 c && leb c 57) ((c % 64 + 4) % 64) (
     cond (eqb c 43) 62 (
-    cond (eqb c 47) 63 (
-    cond (ltb c 48) 0 (
-    cond (ltb c 58) (c + 4) (
-    cond (ltb c 65) 0 (
-    cond (ltb c 91) (c - 65) (
-    cond (ltb c 97) 0 (
-    cond (ltb c 123) (c - 71) 0)))))))
+    cond (eqb c 47) 63 0))))
 
 -- ---- tests that are computed, over the alphabet and over all bytes
 
@@ -71,9 +68,14 @@ and-right false b t = absurd t
 
 -- ---- what they tell
 
-pub is-letter-of : (v r : ℕ) → v < 64 → r ≡ workedLetter v → r ≡ letter v
-is-letter-of v r h e =
-    e ∙ sym (eqb→eq (letter v) (workedLetter v) (at (λ k x. eqb x (workedLetter k)) alphabet letters-test v (rw alphabet-long h)))
+-- of the numbers chosen one after the other, the last is the letter
+pub is-letter-of : (v r x y z : ℕ) → v < 64 → z ≡ cond (eqb v 62) 43 47 → y ≡ cond (ltb v 62) ((v + 60) % 64) z →
+    x ≡ cond (ltb v 52) (v + 71) y → r ≡ cond (ltb v 26) (v + 65) x → r ≡ letter v
+is-letter-of v r x y z h ez ey ex er =
+    er
+    ∙ ap (λ (n : ℕ). cond (ltb v 26) (v + 65) n)
+    (ex ∙ ap (λ (n : ℕ). cond (ltb v 52) (v + 71) n) (ey ∙ ap (λ (n : ℕ). cond (ltb v 62) ((v + 60) % 64) n) ez))
+    ∙ sym (eqb→eq (letter v) (workedLetter v) (at (λ k x. eqb x (workedLetter k)) alphabet letters-test v (rw alphabet-long h)))
 
 module _ (v : ℕ) (h : v < 64) where
   test-at : T (eqb (valueOf (letter v)) v && isLetter (letter v))
@@ -92,9 +94,19 @@ module _ (c : ℕ) (h : c < 256) where
   pub is-tested : workedTest c ≡ isLetter c
   is-tested = same-is (workedTest c) (isLetter c) (and-left (same (workedTest c) (isLetter c)) (eqb (workedValue c) (valueOf c)) byte-at)
 
-  pub is-value : (r : ℕ) → r ≡ workedValue c → r ≡ valueOf c
-  is-value r e =
-      e ∙ eqb→eq (workedValue c) (valueOf c) (and-right (same (workedTest c) (isLetter c)) (eqb (workedValue c) (valueOf c)) byte-at)
+  worked-is : workedValue c ≡ valueOf c
+  worked-is = eqb→eq (workedValue c) (valueOf c) (and-right (same (workedTest c) (isLetter c)) (eqb (workedValue c) (valueOf c)) byte-at)
+
+  -- of the numbers chosen one after the other, the last is the value
+  pub is-value : (r w x y z : ℕ) → z ≡ cond (eqb c 47) 63 0 → y ≡ cond (eqb c 43) 62 z → x ≡ cond (leb 48 c && leb c 57) ((c % 64 + 4) % 64) y →
+      w ≡ cond (leb 97 c && leb c 122) ((c % 64 + 57) % 64) x → r ≡ cond (leb 65 c && leb c 90) ((c % 64 + 63) % 64) w → r ≡ valueOf c
+  is-value r w x y z ez ey ex ew er =
+      er
+      ∙ ap (λ (n : ℕ). cond (leb 65 c && leb c 90) ((c % 64 + 63) % 64) n)
+      (ew ∙ ap (λ (n : ℕ). cond (leb 97 c && leb c 122) ((c % 64 + 57) % 64) n)
+      (ex ∙ ap (λ (n : ℕ). cond (leb 48 c && leb c 57) ((c % 64 + 4) % 64) n)
+      (ey ∙ ap (λ (n : ℕ). cond (eqb c 43) 62 n) ez)))
+      ∙ worked-is
 
 -- ---- of any number
 
@@ -118,6 +130,11 @@ value-small c = go (ltb (placeAmong alphabet c) 64) refl where
   go : (b : Bool) → ltb (placeAmong alphabet c) 64 ≡ b → cond b (placeAmong alphabet c) 0 < 64
   go true e = ltb-true (placeAmong alphabet c) 64 e
   go false e = omega arith
+
+-- so a value that was worked out is below 64
+pub value-below : (c r w x y z : ℕ) → c < 256 → z ≡ cond (eqb c 47) 63 0 → y ≡ cond (eqb c 43) 62 z → x ≡ cond (leb 48 c && leb c 57) ((c % 64 + 4) % 64) y →
+    w ≡ cond (leb 97 c && leb c 122) ((c % 64 + 57) % 64) x → r ≡ cond (leb 65 c && leb c 90) ((c % 64 + 63) % 64) w → r < 64
+value-below c r w x y z h ez ey ex ew er = omega (arith, is-value c h r w x y z ez ey ex ew er, value-small c)
 
 -- the padding character is no letter
 pub pad-no-letter : isLetter 61 ≡ false

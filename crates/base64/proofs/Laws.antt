@@ -1,4 +1,4 @@
--- Laws of branches on numbers, and of the characters of a group.
+-- Laws of the characters of a group.
 use Prim.Native.Nat.{ℕ, suc, _+_, _-_, _*_, _/_, _%_, _≤_, _<_}
 use mathlib.Core.Path.{_≡_, refl, sym, ap, _∙_}
 use mathlib.Core.Bool.{Bool, true, false, cond, _&&_}
@@ -9,20 +9,6 @@ use lib.ListN.{length, getD, take, drop}
 use borrow.Author.Tests.{lt-ltb, le-ltb, eq-eqb, ne-eqb}
 use Rattle.place.specs.Place.{Wrote}
 use Rattle.base64.specs.Base64.{letter, pad, three, two, one}
-
-pub when-eq : {A : Type 0} (m n : ℕ) (x y z : A) → m ≡ n → z ≡ x → z ≡ cond (eqb m n) x y
-when-eq m n x y z p q = simp (eq-eqb m n p) q
-
-pub when-ne : {A : Type 0} (m n : ℕ) (x y z : A) → (m ≡ n → ⊥) → z ≡ y → z ≡ cond (eqb m n) x y
-when-ne m n x y z p q = simp (ne-eqb m n p) q
-
-pub when-lt : {A : Type 0} (m n : ℕ) (x y z : A) → m < n → z ≡ x → z ≡ cond (ltb m n) x y
-when-lt m n x y z p q = simp (lt-ltb m n p) q
-
-pub when-ge : {A : Type 0} (m n : ℕ) (x y z : A) → n ≤ m → z ≡ y → z ≡ cond (ltb m n) x y
-when-ge m n x y z p q = simp (le-ltb m n p) q
-
-pub ruleset branches = (when-eq, when-ne, when-lt, when-ge)
 
 module _ (l r : List ℕ) (p q w x y z : ℕ) where
   pub is-three : (a b c : ℕ) → w ≡ letter (a / 4) → x ≡ letter (a % 4 * 16 + b / 16) → y ≡ letter (b % 16 * 4 + c / 64) → z ≡ letter (c % 64) →

@@ -8,7 +8,7 @@ use borrow.Author.Tests.{eq-eqb, ne-eqb}
 use lib.Dec.{eqb}
 use lib.ListN.{length, getD, drop, length-drop}
 use Rattle.base64.specs.Base64.{isLetter, valueOf, groupHolds, isEmpty, good}
-use Rattle.base64.proofs.Writing.{at-four}
+use Rattle.base64.proofs.Writing.{at-four, more}
 
 -- ---- a group
 
@@ -39,10 +39,6 @@ pub record Tested (t : List ℕ) (ok : Bool) (i : ℕ) : Type 0 where
 
 pub tested-none : (t : List ℕ) → Tested t true 0
 tested-none t = record { rest = refl }
-
-more : (s : List ℕ) → 0 < length s → isEmpty s ≡ false
-more [] h = absurd (omega arith)
-more (x ∷ s) h = refl
 
 none : (s : List ℕ) → length s ≡ 0 → s ≡ []
 none [] h = refl

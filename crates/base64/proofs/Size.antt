@@ -9,8 +9,7 @@ use lib.Dec.{eqb}
 use lib.ListN.{length, getD, length-append}
 use Rattle.wire.proofs.Bools.{and-left, and-right}
 use Rattle.base64.specs.Base64.{pad, three, two, one, encode, isLetter, valueOf, groupHolds, isEmpty, good, groupBytes, decode}
-use Rattle.base64.proofs.Alphabet.{no-pad}
-use Rattle.base64.proofs.Writing.{short}
+use Rattle.base64.proofs.Writing.{short, third-letter, fourth-letter}
 
 pub length-encode : (m : List ℕ) → length (encode m) ≡ 4 * ((length m + 2) / 3)
 unfolding one two three
@@ -35,16 +34,9 @@ group-length a b c d = go (eqb c 61) (eqb d 61)
     go false true = refl
     go false false = refl
 
-or-neither : (a : Bool) → (a || false) || false ≡ true → a ≡ true
-or-neither true h = refl
-or-neither false h = h
-
 -- a group before the last has no padding
 no-pads : (a b c d : ℕ) → groupHolds false a b c d ≡ true → pads c d ≡ 0
-unfolding groupHolds
-no-pads a b c d h =
-    let both = or-neither (isLetter c && isLetter d) (and-right (isLetter a && isLetter b) _ h) in
-    simp (no-pad c (and-left (isLetter c) (isLetter d) both), no-pad d (and-right (isLetter c) (isLetter d) both))
+no-pads a b c d h = simp (third-letter a b c d h, fourth-letter a b c d h)
 
 pads-few : (c d : ℕ) → pads c d ≤ 2
 pads-few c d = go (eqb c 61) (eqb d 61) where

@@ -1,6 +1,6 @@
 // Base64 with padding (RFC 4648, section 4).
 ghost use mathlib.Core.Path.{_≡_};
-ghost use mathlib.Core.Bool.{true, false};
+ghost use mathlib.Core.Bool.{true, false, cond};
 ghost use mathlib.Core.List.{[], _∷_};
 ghost use Prim.Native.Nat.{_+_, _*_, _≤_, _<_};
 ghost use lib.ListN.{length};
@@ -8,24 +8,25 @@ ghost use Rattle.place.specs.Place.{Wrote};
 ghost use Rattle.base64.specs.Base64.{letter, three, two, one, encode, isLetter, valueOf, groupHolds, groupBytes, good, decode};
 use place::Place;
 
+// One of two numbers. Both are worked out before, so that no jump depends on the bytes of a message.
+fn choose(first: bool, x: u8, y: u8) -> u8
+    ensures { λ r. ⌜ r ≡ cond first x y ⌝ }
+{
+    if first {
+        return x;
+    }
+    y
+}
+
 // The character of a value, worked out: no table of them is kept.
 fn letter(v: u8) -> u8
     requires { ⌜ v < 64 ⌝ }
     ensures { λ r. ⌜ r ≡ letter v ⌝ }
 {
-    if v < 26 {
-        return v + 65;
-    }
-    if v < 52 {
-        return v + 71;
-    }
-    if v < 62 {
-        return v - 4;
-    }
-    if v == 62 {
-        return 43;
-    }
-    47
+    let sign = choose(v == 62, 43, 47);
+    let digit = choose(v < 62, (v + 60) % 64, sign);
+    let small = choose(v < 52, v + 71, digit);
+    choose(v < 26, v + 65, small)
 }
 
 // Four bytes.
@@ -110,31 +111,12 @@ fn is_letter(c: u8) -> bool
 fn value_of(c: u8) -> u8
     ensures { λ r. ⌜ (r ≡ valueOf c) × (r < 64) ⌝ }
 {
-    if c == 43 {
-        return 62;
-    }
-    if c == 47 {
-        return 63;
-    }
-    if c < 48 {
-        return 0;
-    }
-    if c < 58 {
-        return c + 4;
-    }
-    if c < 65 {
-        return 0;
-    }
-    if c < 91 {
-        return c - 65;
-    }
-    if c < 97 {
-        return 0;
-    }
-    if c < 123 {
-        return c - 71;
-    }
-    0
+    let low = c % 64;
+    let slash = choose(c == 47, 63, 0);
+    let sign = choose(c == 43, 62, slash);
+    let digit = choose((48 <= c) & (c <= 57), (low + 4) % 64, sign);
+    let small = choose((97 <= c) & (c <= 122), (low + 57) % 64, digit);
+    choose((65 <= c) & (c <= 90), (low + 63) % 64, small)
 }
 
 // Whether a group before the last stands for bytes: four letters.
@@ -194,8 +176,20 @@ fn put_triple(p: Place, out: &mut [u8], x: u8, y: u8, z: u8) -> Place
     Place { at: at + 3 }
 }
 
-// The bytes of a group.
-fn put_group(p: Place, out: &mut [u8], a: u8, b: u8, c: u8, d: u8) -> Place
+// The bytes of a group before the last.
+fn put_full(p: Place, out: &mut [u8], a: u8, b: u8, c: u8, d: u8) -> Place
+    requires { ⌜ (groupHolds false a b c d ≡ true) × (p .at + length (groupBytes a b c d) ≤ length (now out)) ⌝ }
+    ensures { λ r. ⌜ Wrote (now (out .entry)) (now (out .exit)) (p .at) (r .at) (groupBytes a b c d) ⌝ }
+{
+    let s = value_of(a);
+    let t = value_of(b);
+    let u = value_of(c);
+    let v = value_of(d);
+    put_triple(p, out, s * 4 + t / 16, t % 16 * 16 + u / 4, u % 4 * 64 + v)
+}
+
+// The bytes of the last group, by its padding.
+fn put_last(p: Place, out: &mut [u8], a: u8, b: u8, c: u8, d: u8) -> Place
     requires { ⌜ p .at + length (groupBytes a b c d) ≤ length (now out) ⌝ }
     ensures { λ r. ⌜ Wrote (now (out .entry)) (now (out .exit)) (p .at) (r .at) (groupBytes a b c d) ⌝ }
 {
@@ -212,16 +206,20 @@ fn put_group(p: Place, out: &mut [u8], a: u8, b: u8, c: u8, d: u8) -> Place
     put_triple(p, out, s * 4 + t / 16, t % 16 * 16 + u / 4, u % 4 * 64 + v)
 }
 
-// Writes the bytes that a text stands for.
+// Writes the bytes that a text in base64 stands for.
 pub fn put_decoded(p: Place, out: &mut [u8], t: &[u8]) -> Place
-    requires { ⌜ p .at + length (decode (now t)) ≤ length (now out) ⌝ }
+    requires { ⌜ (good (now t) ≡ true) × (p .at + length (decode (now t)) ≤ length (now out)) ⌝ }
     ensures { λ r. ⌜ Wrote (now (out .entry)) (now (out .exit)) (p .at) (r .at) (decode (now (t .entry))) ⌝ }
 {
     let mut q = p;
     let mut i: usize = 0;
-    while 4 <= t.len() - i {
-        q = put_group(q, out, t[i], t[i + 1], t[i + 2], t[i + 3]);
+    while 4 < t.len() - i {
+        q = put_full(q, out, t[i], t[i + 1], t[i + 2], t[i + 3]);
         i = i + 4;
+    }
+    let left = t.len() - i;
+    if left == 4 {
+        return put_last(q, out, t[i], t[i + 1], t[i + 2], t[i + 3]);
     }
     q
 }
