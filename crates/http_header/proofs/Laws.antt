@@ -133,16 +133,24 @@ module _ (t : List ℕ) (s : ℕ) (e : s ≡ length (decode t)) where
 
 pub ruleset checking = (go-on, ends, good-of, message-of, room-of)
 
--- a text whose checks held has room for its message
-pub text-fits : (t : List ℕ) (r : Verdict) (room : ℕ) → r ≡ checkText room t → r ≡ Clear → length (decode t) ≤ room
-unfolding checkText
-text-fits t r room e h =
-    leb-true (length (decode t)) room
-    (after-clear (leb (length (decode t)) room) NoRoom Clear
-    (after-clear (leb (length (decode t)) 65535) TooLong _ (after-clear (good t) WrongBase64 _ (sym e ∙ h) .1) .1) .0)
+-- a text whose checks held is in base64, and has room for its message
+module _ (t : List ℕ) (r : Verdict) (room : ℕ) (e : r ≡ checkText room t) (h : r ≡ Clear) where
+  unfolded : after (checked (good t)) (Not WrongBase64) (
+      after (messageHolds (length (decode t))) (Not TooLong) (after (roomHolds (length (decode t)) room) (Not NoRoom) Clear)) ≡ Clear
+  unfolding checkText
+  unfolded = sym e ∙ h
 
-pub text-fits-at : (t : List ℕ) (r : Verdict) (room : ℕ) → r ≡ checkText room t → r ≡ Clear → 0 + length (decode t) ≤ room
-text-fits-at t r room e h = omega (arith, text-fits t r room e h)
+  pub text-good : good t ≡ true
+  text-good = after-clear (good t) WrongBase64 _ unfolded .0
+
+  pub text-fits : length (decode t) ≤ room
+  text-fits =
+      leb-true (length (decode t)) room
+      (after-clear (leb (length (decode t)) room) NoRoom Clear
+      (after-clear (leb (length (decode t)) 65535) TooLong _ (after-clear (good t) WrongBase64 _ unfolded .1) .1) .0)
+
+  pub text-fits-at : 0 + length (decode t) ≤ room
+  text-fits-at = omega (arith, text-fits)
 
 -- ---- the whole line: check 57, and then what the text is answered
 
