@@ -27,10 +27,13 @@ use Rattle.base64.proofs.Alphabet.{is-letter}
 use Rattle.base64.proofs.Back.{back, encoded-good, one-text}
 use Rattle.http_header.specs.HttpHeader.{messageHolds, headerLine, checkExport, exportAnswer, exportOut, schemeHolds, afterSpaces, textOf, base64Holds, checkText, checkImport, importAnswer, importOut}
 use Rattle.http_header.proofs.Laws.{line-length, line-fits}
+use Rattle.c_number.specs.Number.{writtenNumber}
+use Rattle.demands.specs.Answers.{TellsWritten}
 use Rattle.demands.specs.Order.{placeIn}
 use Rattle.demands.specs.WrittenExactly.{WrittenExactly}
-use Rattle.demands.specs.HeaderLine.{TextAfter, decodedSize, ImportFails, importOrder, HeaderIsImported, lineSize, ExportFails, HeaderIsExported, ExportKept, ImportKept, Gives, Bytes, ImportOfExport, LineOf, DifferInCaseOrSpaces, OneMessage, AnsweredAlike, CaseAndSpacesIgnored, BytesUnread, EveryByteCounts, WorkedLines}
+use Rattle.demands.specs.HeaderLine.{TextAfter, decodedSize, ImportFails, importOrder, HeaderIsImported, lineSize, ExportFails, HeaderIsExported, ExportKept, ImportKept, ExportTells, ImportTells, ExportShort, ImportShort, Gives, Bytes, ImportOfExport, LineOf, DifferInCaseOrSpaces, OneMessage, AnsweredAlike, CaseAndSpacesIgnored, BytesUnread, EveryByteCounts, WorkedLines}
 use Rattle.demands.proofs.Bools.{failed-false, chained, after-held, both-ways}
+use Rattle.demands.proofs.Answers.Told.{tells-refusal, tells-length}
 use Rattle.demands.proofs.Kept.{by-verdict as kept-by-verdict}
 use Rattle.demands.proofs.Order.Rank.{FreeBy, JudgedBy, first-by}
 use Rattle.demands.proofs.WrittenExactly.{Rows, rows, free-at-first, next, room-judged, by-verdict}
@@ -123,6 +126,7 @@ header-is-exported room m =
 pub record ImportHolds (room : ℕ) (t : List ℕ) : Type 0 where
   pub scheme : schemeHolds t ≡ Held
   pub in-base64 : good (textOf t) ≡ true
+  pub size : length (decode (textOf t)) ≤ 65535
   pub room-there : length (decode (textOf t)) ≤ room
 
 pub import-holds : (room : ℕ) (t : List ℕ) → checkImport room t ≡ Clear → ImportHolds room t
@@ -135,6 +139,7 @@ import-holds room t h =
     record {
       scheme = s .0;
       in-base64 = held-true (good (textOf t)) (g .0);
+      size = leb-true (length (decode (textOf t))) 65535 (held-true _ (n .0));
       room-there = leb-true (length (decode (textOf t))) room (held-true _ (r .0));
     }
 
@@ -146,6 +151,40 @@ pub import-kept : ImportKept
 unfolding importAnswer importOut
 import-kept out t =
     kept-by-verdict (checkImport (length out) t) (decode (textOf t)) out (λ h. import-holds (length out) t h .room-there)
+
+-- ---- from C
+
+module _ (room : ℕ) (m : List ℕ) where
+  abbrev ExportTold : Verdict → Type 0
+  ExportTold v = TellsWritten (writtenNumber (answered v (headerLine m))) (answered v (headerLine m))
+
+  export-told : ExportTold (checkExport room m)
+  unfolding checkExport
+  export-told =
+      chained ExportTold (messageHolds (length m)) (Not TooLong) _ (λ f. tells-refusal TooLong (omega arith))
+      (λ h. chained ExportTold (roomHolds (length (headerLine m)) room) (Not NoRoom) Clear (λ f. tells-refusal NoRoom (omega arith))
+      (λ k. tells-length (length (headerLine m)) (omega (arith, line-length m, leb-true (length m) 65535 (held-true _ h)))))
+
+module _ (room : ℕ) (t : List ℕ) where
+  abbrev ImportTold : Verdict → Type 0
+  ImportTold v = TellsWritten (writtenNumber (answered v (decode (textOf t)))) (answered v (decode (textOf t)))
+
+  import-told : ImportTold (checkImport room t)
+  unfolding checkImport checkText
+  import-told =
+      chained ImportTold (schemeHolds t) (Not WrongScheme) _ (λ f. tells-refusal WrongScheme (omega arith))
+      (λ s. chained ImportTold (base64Holds (textOf t)) (Not WrongBase64) _ (λ f. tells-refusal WrongBase64 (omega arith))
+      (λ g. chained ImportTold (messageHolds (length (decode (textOf t)))) (Not TooLong) _ (λ f. tells-refusal TooLong (omega arith))
+      (λ h. chained ImportTold (roomHolds (length (decode (textOf t))) room) (Not NoRoom) Clear (λ f. tells-refusal NoRoom (omega arith))
+      (λ k. tells-length (length (decode (textOf t))) (omega (arith, leb-true (length (decode (textOf t))) 65535 (held-true _ h)))))))
+
+pub export-tells : ExportTells
+unfolding exportAnswer
+export-tells room m = export-told room m
+
+pub import-tells : ImportTells
+unfolding importAnswer
+import-tells room t = import-told room t
 
 -- ---- import of an export
 
@@ -172,6 +211,20 @@ short-message : (room : ℕ) (m : List ℕ) (n : ℕ) → exportAnswer room m �
 unfolding exportAnswer checkExport
 short-message room m n h =
     leb-true (length m) 65535 (held-true _ (after-held (messageHolds (length m)) TooLong _ (clear-answer (headerLine m) [] n (checkExport room m) h) .0))
+
+pub export-short : ExportShort
+unfolding exportAnswer
+export-short room m n h =
+    omega (arith, short-message room m n h, line-length m, length-answer (headerLine m) [] n (checkExport room m) h)
+
+pub import-short : ImportShort
+unfolding importAnswer
+import-short room t n h =
+    omega (
+      arith,
+      import-holds room t (clear-answer (decode (textOf t)) [] n (checkImport room t) h) .size,
+      length-answer (decode (textOf t)) [] n (checkImport room t) h,
+    )
 
 are-bytes : (m : List ℕ) → Bytes m → areBytes m ≡ true
 are-bytes [] h = refl

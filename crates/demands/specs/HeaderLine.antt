@@ -11,6 +11,8 @@ use lib.ListN.{length, take, drop, getD, replicate}
 use Rattle.text.specs.Text.{ascii}
 use Rattle.place.specs.declared.written.Written.the-variants.{Length}
 use Rattle.http_header.specs.HttpHeader.{exportAnswer, exportOut, importAnswer, importOut}
+use Rattle.c_number.specs.Number.{writtenNumber}
+use Rattle.demands.specs.Answers.{TellsWritten}
 use Rattle.demands.specs.Order.{check}
 use Rattle.demands.specs.Kept.{Kept}
 use Rattle.demands.specs.WrittenExactly.{WritingRefusedWith, WrittenExactly, Fails33}
@@ -120,6 +122,19 @@ ExportKept = (out m : List ℕ) → Kept (exportAnswer (length out) m) out (expo
 
 abbrev pub ImportKept : Type 0
 ImportKept = (out t : List ℕ) → Kept (importAnswer (length out) t) out (importOut out t)
+
+-- "A refusal gives its number and field", from C; so many bytes always suffice
+abbrev pub ExportTells : Type 0
+ExportTells = (room : ℕ) (m : List ℕ) → TellsWritten (writtenNumber (exportAnswer room m)) (exportAnswer room m)
+
+abbrev pub ImportTells : Type 0
+ImportTells = (room : ℕ) (t : List ℕ) → TellsWritten (writtenNumber (importAnswer room t)) (importAnswer room t)
+
+abbrev pub ExportShort : Type 0
+ExportShort = (room : ℕ) (m : List ℕ) (n : ℕ) → exportAnswer room m ≡ Length n → n ≤ 87385
+
+abbrev pub ImportShort : Type 0
+ImportShort = (room : ℕ) (t : List ℕ) (n : ℕ) → importAnswer room t ≡ Length n → n ≤ 65535
 
 -- ---- "Import of an export gives the message back"
 
