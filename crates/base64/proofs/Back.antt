@@ -9,7 +9,7 @@ use borrow.Author.Tests.{ltb-true, eqb-true}
 use lib.Dec.{eqb, ltb}
 use lib.Pow.{areBytes}
 use Rattle.wire.proofs.Bools.{and-left, and-right}
-use Rattle.base64.specs.Base64.{alphabet, letter, pad, three, two, one, encode, isLetter, valueOf, groupHolds, isEmpty, good, groupBytes, decode}
+use Rattle.base64.specs.Base64.{alphabet, letter, pad, three, two, one, encode, isLetter, valueOf, groupHolds, isEmpty, isBase64, groupBytes, decode}
 use Rattle.base64.proofs.Alphabet.{value-letter, is-letter, letter-value, value-small, pad-no-letter, no-pad}
 
 byte : (a : ℕ) (m : List ℕ) → areBytes (a ∷ m) ≡ true → a < 256
@@ -61,14 +61,14 @@ back (a ∷ b ∷ c ∷ m) h =
     )
 
 -- what is encoded is in base64
-pub encoded-good : (m : List ℕ) → areBytes m ≡ true → good (encode m) ≡ true
+pub encoded-base64 : (m : List ℕ) → areBytes m ≡ true → isBase64 (encode m) ≡ true
 unfolding one two three groupHolds
-encoded-good [] h = refl
-encoded-good (a ∷ []) h =
+encoded-base64 [] h = refl
+encoded-base64 (a ∷ []) h =
     let ha = byte a [] h in
     let e : a % 4 * 16 % 16 ≡ 0 = omega arith in
     simp (is-letter (a / 4) (omega arith), is-letter (a % 4 * 16) (omega arith), value-letter (a % 4 * 16) (omega arith), pad-no-letter, e)
-encoded-good (a ∷ b ∷ []) h =
+encoded-base64 (a ∷ b ∷ []) h =
     let ha = byte a (b ∷ []) h in
     let hb = byte b [] (bytes a (b ∷ []) h) in
     let e : b % 16 * 4 % 4 ≡ 0 = omega arith in
@@ -80,7 +80,7 @@ encoded-good (a ∷ b ∷ []) h =
       pad-no-letter,
       e,
     )
-encoded-good (a ∷ b ∷ c ∷ m) h =
+encoded-base64 (a ∷ b ∷ c ∷ m) h =
     let ha = byte a (b ∷ c ∷ m) h in
     let g = bytes a (b ∷ c ∷ m) h in
     let hb = byte b (c ∷ m) g in
@@ -91,7 +91,7 @@ encoded-good (a ∷ b ∷ c ∷ m) h =
       is-letter (a % 4 * 16 + b / 16) (omega arith),
       is-letter (b % 16 * 4 + c / 64) (omega arith),
       is-letter (c % 64) (omega arith),
-      encoded-good m (bytes c m f),
+      encoded-base64 m (bytes c m f),
     )
 
 -- ---- back and there
@@ -167,19 +167,19 @@ module _ (a b c d : ℕ) (la : isLetter a ≡ true) (lb : isLetter b ≡ true) w
       (isEmpty t && eqb c pad && eqb d pad && eqb (valueOf b % 16) 0) h)
 
 -- a text in base64 is the encoding of what it decodes to
-pub there : (t : List ℕ) → good t ≡ true → encode (decode t) ≡ t
+pub there : (t : List ℕ) → isBase64 t ≡ true → encode (decode t) ≡ t
 unfolding groupHolds
 there [] g = refl
 there (a ∷ []) g = cc
 there (a ∷ b ∷ []) g = cc
 there (a ∷ b ∷ c ∷ []) g = cc
 there (a ∷ b ∷ c ∷ d ∷ t) g =
-    let k = and-left (groupHolds (isEmpty t) a b c d) (good t) g in
+    let k = and-left (groupHolds (isEmpty t) a b c d) (isBase64 t) g in
     let l = and-left (isLetter a && isLetter b) _ k in
     of-group a b c d
     (and-left (isLetter a) (isLetter b) l) (and-right (isLetter a) (isLetter b) l) t
-    (there t (and-right (groupHolds (isEmpty t) a b c d) (good t) g)) (and-right (isLetter a && isLetter b) _ k)
+    (there t (and-right (groupHolds (isEmpty t) a b c d) (isBase64 t) g)) (and-right (isLetter a && isLetter b) _ k)
 
 -- so two texts that stand for one message are one text
-pub one-text : (s t : List ℕ) → good s ≡ true → good t ≡ true → decode s ≡ decode t → s ≡ t
+pub one-text : (s t : List ℕ) → isBase64 s ≡ true → isBase64 t ≡ true → decode s ≡ decode t → s ≡ t
 one-text s t gs gt e = sym (there s gs) ∙ ap encode e ∙ there t gt

@@ -7,7 +7,7 @@ use native.Mathlib.Omega.{arith}
 use borrow.Author.Tests.{eq-eqb, ne-eqb}
 use lib.Dec.{eqb}
 use lib.ListN.{length, getD, drop, length-drop}
-use Rattle.base64.specs.Base64.{isLetter, valueOf, groupHolds, isEmpty, good}
+use Rattle.base64.specs.Base64.{isLetter, valueOf, groupHolds, isEmpty, isBase64}
 use Rattle.base64.proofs.Writing.{at-four, more}
 
 -- ---- a group
@@ -35,7 +35,7 @@ last-held a b c d v u la lb lc ld le e f g h i j k = simp (e, f, g, h, i, j, k)
 -- ---- a text of which the groups before i were tested
 
 pub record Tested (t : List ℕ) (ok : Bool) (i : ℕ) : Type 0 where
-  pub rest : ok && good (drop i t) ≡ good t
+  pub rest : ok && isBase64 (drop i t) ≡ isBase64 t
 
 pub tested-none : (t : List ℕ) → Tested t true 0
 tested-none t = record { rest = refl }
@@ -51,10 +51,10 @@ tested-next t ok r i d h e =
     let some : isEmpty s ≡ false = more s (simp length-drop (omega arith)) in
     record {
       rest =
-          and-assoc ok r (good s)
-          ∙ ap (λ (b : Bool). ok && (b && good s))
+          and-assoc ok r (isBase64 s)
+          ∙ ap (λ (b : Bool). ok && (b && isBase64 s))
           (e ∙ ap (λ (b : Bool). groupHolds b (getD t i 0) (getD t (i + 1) 0) (getD t (i + 2) 0) (getD t (i + 3) 0)) (sym some))
-          ∙ ap (λ (x : List ℕ). ok && good x) (sym (at-four t i (omega arith))) ∙ d .rest;
+          ∙ ap (λ (x : List ℕ). ok && isBase64 x) (sym (at-four t i (omega arith))) ∙ d .rest;
     }
 
 and-true : (a : Bool) → a ≡ a && true
@@ -63,21 +63,21 @@ and-true false = refl
 
 -- one group is left
 pub tested-last : (t : List ℕ) (ok r : Bool) (i : ℕ) → Tested t ok i → length t - i ≡ 4 →
-    r ≡ groupHolds true (getD t i 0) (getD t (i + 1) 0) (getD t (i + 2) 0) (getD t (i + 3) 0) → ok && r ≡ good t
+    r ≡ groupHolds true (getD t i 0) (getD t (i + 1) 0) (getD t (i + 2) 0) (getD t (i + 3) 0) → ok && r ≡ isBase64 t
 tested-last t ok r i d h e =
     let nil : drop (i + 4) t ≡ [] = none (drop (i + 4) t) (simp length-drop (omega arith)) in
     ap (λ (b : Bool). ok && b) (and-true r ∙ ap (λ (b : Bool). b && true) e)
-    ∙ ap (λ (x : List ℕ). ok && good (getD t i 0 ∷ getD t (i + 1) 0 ∷ getD t (i + 2) 0 ∷ getD t (i + 3) 0 ∷ x)) (sym nil)
-    ∙ ap (λ (x : List ℕ). ok && good x) (sym (at-four t i (omega arith))) ∙ d .rest
+    ∙ ap (λ (x : List ℕ). ok && isBase64 (getD t i 0 ∷ getD t (i + 1) 0 ∷ getD t (i + 2) 0 ∷ getD t (i + 3) 0 ∷ x)) (sym nil)
+    ∙ ap (λ (x : List ℕ). ok && isBase64 x) (sym (at-four t i (omega arith))) ∙ d .rest
 
-short-good : (s : List ℕ) (n : ℕ) → length s ≡ n → n < 4 → eqb n 0 ≡ good s
-short-good [] n e h = eq-eqb n 0 (sym e)
-short-good (a ∷ []) n e h = ne-eqb n 0 (λ z. omega (arith, e))
-short-good (a ∷ b ∷ []) n e h = ne-eqb n 0 (λ z. omega (arith, e))
-short-good (a ∷ b ∷ c ∷ []) n e h = ne-eqb n 0 (λ z. omega (arith, e))
-short-good (a ∷ b ∷ c ∷ d ∷ s) n e h = absurd (omega (arith, e))
+short-base64 : (s : List ℕ) (n : ℕ) → length s ≡ n → n < 4 → eqb n 0 ≡ isBase64 s
+short-base64 [] n e h = eq-eqb n 0 (sym e)
+short-base64 (a ∷ []) n e h = ne-eqb n 0 (λ z. omega (arith, e))
+short-base64 (a ∷ b ∷ []) n e h = ne-eqb n 0 (λ z. omega (arith, e))
+short-base64 (a ∷ b ∷ c ∷ []) n e h = ne-eqb n 0 (λ z. omega (arith, e))
+short-base64 (a ∷ b ∷ c ∷ d ∷ s) n e h = absurd (omega (arith, e))
 
 -- and less than one
-pub tested-all : (t : List ℕ) (ok : Bool) (i : ℕ) → Tested t ok i → length t - i ≤ 4 → (length t - i ≡ 4 → ⊥) → ok && eqb (length t - i) 0 ≡ good t
+pub tested-all : (t : List ℕ) (ok : Bool) (i : ℕ) → Tested t ok i → length t - i ≤ 4 → (length t - i ≡ 4 → ⊥) → ok && eqb (length t - i) 0 ≡ isBase64 t
 tested-all t ok i d h g =
-    ap (λ (b : Bool). ok && b) (short-good (drop i t) (length t - i) (length-drop i t) (omega (arith, g))) ∙ d .rest
+    ap (λ (b : Bool). ok && b) (short-base64 (drop i t) (length t - i) (length-drop i t) (omega (arith, g))) ∙ d .rest

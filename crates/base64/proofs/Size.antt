@@ -8,7 +8,7 @@ use borrow.Author.Tests.{eq-eqb, ne-eqb}
 use lib.Dec.{eqb}
 use lib.ListN.{length, getD, length-append}
 use Rattle.wire.proofs.Bools.{and-left, and-right}
-use Rattle.base64.specs.Base64.{pad, three, two, one, encode, isLetter, valueOf, groupHolds, isEmpty, good, groupBytes, decode}
+use Rattle.base64.specs.Base64.{pad, three, two, one, encode, isLetter, valueOf, groupHolds, isEmpty, isBase64, groupBytes, decode}
 use Rattle.base64.proofs.Writing.{short, third-letter, fourth-letter}
 
 pub length-encode : (m : List ℕ) → length (encode m) ≡ 4 * ((length m + 2) / 3)
@@ -57,7 +57,7 @@ from-end a b c d u k h =
     ap (λ (n : ℕ). getD (a ∷ b ∷ c ∷ d ∷ u) n 0) e
 
 -- three bytes for each group, without those that the padding leaves out
-pub decoded-length : (t : List ℕ) → good t ≡ true → 4 ≤ length t →
+pub decoded-length : (t : List ℕ) → isBase64 t ≡ true → 4 ≤ length t →
     length (decode t) ≡ length t / 4 * 3 - padsOf t
 decoded-length [] g l = absurd (omega arith)
 decoded-length (a ∷ []) g l = absurd (omega arith)
@@ -69,8 +69,8 @@ decoded-length (a ∷ b ∷ c ∷ d ∷ e ∷ f ∷ []) g l = let z = and-right 
 decoded-length (a ∷ b ∷ c ∷ d ∷ e ∷ f ∷ h ∷ []) g l = let z = and-right (groupHolds false a b c d) false g in cc
 decoded-length (a ∷ b ∷ c ∷ d ∷ e ∷ f ∷ h ∷ i ∷ t) g l =
     let u : List ℕ = e ∷ f ∷ h ∷ i ∷ t in
-    let held = and-left (groupHolds false a b c d) (good u) g in
-    let less = and-right (groupHolds false a b c d) (good u) g in
+    let held = and-left (groupHolds false a b c d) (isBase64 u) g in
+    let less = and-right (groupHolds false a b c d) (isBase64 u) g in
     let same : padsOf (a ∷ b ∷ c ∷ d ∷ e ∷ f ∷ h ∷ i ∷ t) ≡ padsOf (e ∷ f ∷ h ∷ i ∷ t) =
     ap₂ pads (from-end a b c d (e ∷ f ∷ h ∷ i ∷ t) 2 (omega arith)) (from-end a b c d (e ∷ f ∷ h ∷ i ∷ t) 1 (omega arith)) in
     omega (
@@ -84,7 +84,7 @@ decoded-length (a ∷ b ∷ c ∷ d ∷ e ∷ f ∷ h ∷ i ∷ t) g l =
     )
 
 -- the same by cases, as `decoded_size` has them
-module _ (t : List ℕ) (g : good t ≡ true) where
+module _ (t : List ℕ) (g : isBase64 t ≡ true) where
   pub size-none : length t < 4 → 0 ≡ length (decode t)
   size-none h = sym (ap length (short t h))
 

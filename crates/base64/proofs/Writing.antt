@@ -14,7 +14,7 @@ use Rattle.place.specs.Place.{Wrote}
 use Rattle.place.proofs.Laws.{kept}
 use Rattle.place.proofs.Parts.{Partly, still-kept, all-written, room-left, goes-on}
 use Rattle.wire.proofs.Bools.{and-left, and-right}
-use Rattle.base64.specs.Base64.{three, two, one, encode, isLetter, valueOf, groupHolds, isEmpty, good, groupBytes, decode}
+use Rattle.base64.specs.Base64.{three, two, one, encode, isLetter, valueOf, groupHolds, isEmpty, isBase64, groupBytes, decode}
 use Rattle.base64.proofs.Alphabet.{no-pad}
 
 -- the elements of a list from a place on
@@ -164,20 +164,20 @@ module _ (a b c d : ℕ) (h : groupHolds false a b c d ≡ true) where
 
 -- the rest of a text in base64 is in base64
 pub record Sound (t : List ℕ) (i : ℕ) : Type 0 where
-  pub rest : good (drop i t) ≡ true
+  pub rest : isBase64 (drop i t) ≡ true
 
-pub sound-start : (t : List ℕ) → good t ≡ true → Sound t 0
+pub sound-start : (t : List ℕ) → isBase64 t ≡ true → Sound t 0
 sound-start t h = record { rest = h }
 
 module _ (t : List ℕ) (i : ℕ) (s : Sound t i) (h : 4 < length t - i) where
-  as-held : groupHolds false (getD t i 0) (getD t (i + 1) 0) (getD t (i + 2) 0) (getD t (i + 3) 0) && good (drop (i + 4) t) ≡ true
+  as-held : groupHolds false (getD t i 0) (getD t (i + 1) 0) (getD t (i + 2) 0) (getD t (i + 3) 0) && isBase64 (drop (i + 4) t) ≡ true
   as-held =
-      sym (ap (λ (x : Bool). groupHolds x (getD t i 0) (getD t (i + 1) 0) (getD t (i + 2) 0) (getD t (i + 3) 0) && good (drop (i + 4) t))
+      sym (ap (λ (x : Bool). groupHolds x (getD t i 0) (getD t (i + 1) 0) (getD t (i + 2) 0) (getD t (i + 3) 0) && isBase64 (drop (i + 4) t))
       (more (drop (i + 4) t) (simp length-drop (omega arith))))
-      ∙ sym (ap good (at-four t i (omega arith))) ∙ s .rest
+      ∙ sym (ap isBase64 (at-four t i (omega arith))) ∙ s .rest
 
   pub sound-group : groupHolds false (getD t i 0) (getD t (i + 1) 0) (getD t (i + 2) 0) (getD t (i + 3) 0) ≡ true
-  sound-group = and-left _ (good (drop (i + 4) t)) as-held
+  sound-group = and-left _ (isBase64 (drop (i + 4) t)) as-held
 
   pub sound-next : Sound t (i + 4)
   sound-next = record { rest = and-right (groupHolds false (getD t i 0) (getD t (i + 1) 0) (getD t (i + 2) 0) (getD t (i + 3) 0)) _ as-held }

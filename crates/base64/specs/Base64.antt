@@ -62,12 +62,12 @@ isEmpty [] = true
 isEmpty (x ∷ t) = false
 
 -- whether a text is in base64
-abbrev pub good : List ℕ → Bool
-good [] = true
-good (a ∷ []) = false
-good (a ∷ b ∷ []) = false
-good (a ∷ b ∷ c ∷ []) = false
-good (a ∷ b ∷ c ∷ d ∷ t) = groupHolds (isEmpty t) a b c d && good t
+abbrev pub isBase64 : List ℕ → Bool
+isBase64 [] = true
+isBase64 (a ∷ []) = false
+isBase64 (a ∷ b ∷ []) = false
+isBase64 (a ∷ b ∷ c ∷ []) = false
+isBase64 (a ∷ b ∷ c ∷ d ∷ t) = groupHolds (isEmpty t) a b c d && isBase64 t
 
 -- the bytes of a group
 unfoldable pub groupBytes : ℕ → ℕ → ℕ → ℕ → List ℕ

@@ -5,10 +5,10 @@ ghost use mathlib.Core.List.{[], _∷_};
 ghost use Prim.Native.Nat.{_+_, _*_, _≤_, _<_};
 ghost use lib.ListN.{length};
 ghost use Rattle.place.specs.Place.{Wrote};
-ghost use Rattle.base64.specs.Base64.{letter, three, two, one, encode, isLetter, valueOf, groupHolds, groupBytes, good, decode};
+ghost use Rattle.base64.specs.Base64.{letter, three, two, one, encode, isLetter, valueOf, groupHolds, groupBytes, isBase64, decode};
 use place::Place;
 
-// One of two numbers. Both are worked out before, so that no jump depends on the bytes of a message.
+// One of two numbers. Both are worked out before, so that the compiler needs no jump: those on a message's bytes can't be foreseen.
 fn choose(first: bool, x: u8, y: u8) -> u8
     ensures { λ r. ⌜ r ≡ cond first x y ⌝ }
 {
@@ -23,10 +23,10 @@ fn letter(v: u8) -> u8
     requires { ⌜ v < 64 ⌝ }
     ensures { λ r. ⌜ r ≡ letter v ⌝ }
 {
-    let sign = choose(v == 62, 43, 47);
+    let sign = choose(v == 62, b'+', b'/');
     let digit = choose(v < 62, (v + 60) % 64, sign);
     let small = choose(v < 52, v + 71, digit);
-    choose(v < 26, v + 65, small)
+    choose(v < 26, v + b'A', small)
 }
 
 // Four bytes.
@@ -62,7 +62,7 @@ fn put_two(p: Place, out: &mut [u8], a: u8, b: u8) -> Place
     let w = letter(a / 4);
     let x = letter(a % 4 * 16 + b / 16);
     let y = letter(b % 16 * 4);
-    put_four(p, out, w, x, y, 61)
+    put_four(p, out, w, x, y, b'=')
 }
 
 // Of one byte at the end.
@@ -72,7 +72,7 @@ fn put_one(p: Place, out: &mut [u8], a: u8) -> Place
 {
     let w = letter(a / 4);
     let x = letter(a % 4 * 16);
-    put_four(p, out, w, x, 61, 61)
+    put_four(p, out, w, x, b'=', b'=')
 }
 
 // Writes a message as base64.
@@ -100,11 +100,11 @@ pub fn put_encoded(p: Place, out: &mut [u8], m: &[u8]) -> Place
 fn is_letter(c: u8) -> bool
     ensures { λ r. ⌜ r ≡ isLetter c ⌝ }
 {
-    ((65 <= c) & (c <= 90))
-        | ((97 <= c) & (c <= 122))
-        | ((48 <= c) & (c <= 57))
-        | (c == 43)
-        | (c == 47)
+    ((b'A' <= c) & (c <= b'Z'))
+        | ((b'a' <= c) & (c <= b'z'))
+        | ((b'0' <= c) & (c <= b'9'))
+        | (c == b'+')
+        | (c == b'/')
 }
 
 // Its value there, 0 for one that is not of it.
@@ -112,11 +112,11 @@ fn value_of(c: u8) -> u8
     ensures { λ r. ⌜ (r ≡ valueOf c) × (r < 64) ⌝ }
 {
     let low = c % 64;
-    let slash = choose(c == 47, 63, 0);
-    let sign = choose(c == 43, 62, slash);
-    let digit = choose((48 <= c) & (c <= 57), (low + 4) % 64, sign);
-    let small = choose((97 <= c) & (c <= 122), (low + 57) % 64, digit);
-    choose((65 <= c) & (c <= 90), (low + 63) % 64, small)
+    let slash = choose(c == b'/', 63, 0);
+    let sign = choose(c == b'+', 62, slash);
+    let digit = choose((b'0' <= c) & (c <= b'9'), (low + 4) % 64, sign);
+    let small = choose((b'a' <= c) & (c <= b'z'), (low + 57) % 64, digit);
+    choose((b'A' <= c) & (c <= b'Z'), (low + 63) % 64, small)
 }
 
 // Whether a group before the last stands for bytes: four letters.
@@ -133,13 +133,13 @@ fn last_holds(a: u8, b: u8, c: u8, d: u8) -> bool
     is_letter(a)
         & is_letter(b)
         & ((is_letter(c) & is_letter(d))
-            | (is_letter(c) & (d == 61) & (value_of(c) % 4 == 0))
-            | ((c == 61) & (d == 61) & (value_of(b) % 16 == 0)))
+            | (is_letter(c) & (d == b'=') & (value_of(c) % 4 == 0))
+            | ((c == b'=') & (d == b'=') & (value_of(b) % 16 == 0)))
 }
 
 // Whether a text is in base64.
-pub fn good(t: &[u8]) -> bool
-    ensures { λ r. ⌜ r ≡ good (now (t .entry)) ⌝ }
+pub fn is_base64(t: &[u8]) -> bool
+    ensures { λ r. ⌜ r ≡ isBase64 (now (t .entry)) ⌝ }
 {
     let mut ok = true;
     let mut i: usize = 0;
@@ -197,10 +197,10 @@ fn put_last(p: Place, out: &mut [u8], a: u8, b: u8, c: u8, d: u8) -> Place
     let t = value_of(b);
     let u = value_of(c);
     let v = value_of(d);
-    if c == 61 {
+    if c == b'=' {
         return p.put_u8(out, s * 4 + t / 16);
     }
-    if d == 61 {
+    if d == b'=' {
         return put_pair(p, out, s * 4 + t / 16, t % 16 * 16 + u / 4);
     }
     put_triple(p, out, s * 4 + t / 16, t % 16 * 16 + u / 4, u % 4 * 64 + v)
@@ -208,7 +208,7 @@ fn put_last(p: Place, out: &mut [u8], a: u8, b: u8, c: u8, d: u8) -> Place
 
 // Writes the bytes that a text in base64 stands for.
 pub fn put_decoded(p: Place, out: &mut [u8], t: &[u8]) -> Place
-    requires { ⌜ (good (now t) ≡ true) × (p .at + length (decode (now t)) ≤ length (now out)) ⌝ }
+    requires { ⌜ (isBase64 (now t) ≡ true) × (p .at + length (decode (now t)) ≤ length (now out)) ⌝ }
     ensures { λ r. ⌜ Wrote (now (out .entry)) (now (out .exit)) (p .at) (r .at) (decode (now (t .entry))) ⌝ }
 {
     let mut q = p;
@@ -226,7 +226,7 @@ pub fn put_decoded(p: Place, out: &mut [u8], t: &[u8]) -> Place
 
 // How many bytes a text in base64 stands for: three for each group, without those that the last one's padding leaves out.
 pub fn decoded_size(t: &[u8]) -> usize
-    requires { ⌜ good (now t) ≡ true ⌝ }
+    requires { ⌜ isBase64 (now t) ≡ true ⌝ }
     ensures { λ r. ⌜ r ≡ length (decode (now (t .entry))) ⌝ }
 {
     let n = t.len();
@@ -234,10 +234,10 @@ pub fn decoded_size(t: &[u8]) -> usize
         return 0;
     }
     let size = n / 4 * 3;
-    if t[n - 2] == 61 {
+    if t[n - 2] == b'=' {
         return size - 2;
     }
-    if t[n - 1] == 61 {
+    if t[n - 1] == b'=' {
         return size - 1;
     }
     size

@@ -22,9 +22,9 @@ use Rattle.wire.proofs.Laws.{held-true}
 use Rattle.wire.proofs.Bools.{and-left}
 use Rattle.place.specs.declared.written.Written.the-variants.{Length, Refused}
 use Rattle.place.specs.Written.{answered, outAfter, atFront, roomHolds}
-use Rattle.base64.specs.Base64.{alphabet, letter, three, two, one, encode, isLetter, valueOf, groupHolds, groupBytes, good, decode}
+use Rattle.base64.specs.Base64.{alphabet, letter, three, two, one, encode, isLetter, valueOf, groupHolds, groupBytes, isBase64, decode}
 use Rattle.base64.proofs.Alphabet.{is-letter}
-use Rattle.base64.proofs.Back.{back, encoded-good, one-text}
+use Rattle.base64.proofs.Back.{back, encoded-base64, one-text}
 use Rattle.http_header.specs.HttpHeader.{messageHolds, headerLine, checkExport, exportAnswer, exportOut, schemeHolds, afterSpaces, textOf, base64Holds, checkText, checkImport, importAnswer, importOut}
 use Rattle.http_header.proofs.Laws.{line-length, line-fits}
 use Rattle.c_number.specs.Number.{writtenNumber}
@@ -62,9 +62,9 @@ module _ (room : ℕ) (t : List ℕ) where
   unfolding checkText
   text-judged free =
       chained (JudgedBy rank F 0) (base64Holds text) (Not WrongBase64) _
-      (λ f. first-by rank F 58 0 free (refl, has-fault text (failed-false (good text) f)))
+      (λ f. first-by rank F 58 0 free (refl, has-fault text (failed-false (isBase64 text) f)))
       (λ h58.
-      let g = held-true (good text) h58 in
+      let g = held-true (isBase64 text) h58 in
       let size = size-is text g in
       let free1 = next importOrder F 58 1 refl (omega arith) free (λ j x. no-fault text g (x .1)) in
       chained (JudgedBy rank F 0) (messageHolds (length (decode text))) (Not TooLong) _
@@ -85,15 +85,15 @@ module _ (room : ℕ) (t : List ℕ) where
       never : Held ≡ Failed → ⊥
       never e = let z : _≡_ {A = ℕ} 0 1 = cc in omega arith
 
-  import-good : checkImport room t ≡ Clear → good text ≡ true
+  import-base64 : checkImport room t ≡ Clear → isBase64 text ≡ true
   unfolding checkImport checkText
-  import-good h = held-true (good text) (after-held (base64Holds text) WrongBase64 _ (after-held (schemeHolds t) WrongScheme _ h .1) .0)
+  import-base64 h = held-true (isBase64 text) (after-held (base64Holds text) WrongBase64 _ (after-held (schemeHolds t) WrongScheme _ h .1) .0)
 
   import-exactly : WrittenExactly (importAnswer room t) importOrder F (decodedSize text)
   unfolding importAnswer
   import-exactly =
       by-clear importOrder F (rows importOrder F (λ n i z h. simp (z .0, z .1 .0, z .1 .1 .0, z .1 .1 .1 .0) at h)) 0 refl
-      (checkImport room t) (decode text) (decodedSize text) (λ c. size-is text (import-good c)) import-judged
+      (checkImport room t) (decode text) (decodedSize text) (λ c. size-is text (import-base64 c)) import-judged
 
 pub header-is-imported : HeaderIsImported
 header-is-imported room t b a =
@@ -125,7 +125,7 @@ header-is-exported room m =
 -- what a line's message needs where its import is not refused
 pub record ImportHolds (room : ℕ) (t : List ℕ) : Type 0 where
   pub scheme : schemeHolds t ≡ Held
-  pub in-base64 : good (textOf t) ≡ true
+  pub in-base64 : isBase64 (textOf t) ≡ true
   pub size : length (decode (textOf t)) ≤ 65535
   pub room-there : length (decode (textOf t)) ≤ room
 
@@ -138,7 +138,7 @@ import-holds room t h =
     let r = after-held (roomHolds (length (decode (textOf t))) room) NoRoom _ (n .1) in
     record {
       scheme = s .0;
-      in-base64 = held-true (good (textOf t)) (g .0);
+      in-base64 = held-true (isBase64 (textOf t)) (g .0);
       size = leb-true (length (decode (textOf t))) 65535 (held-true _ (n .0));
       room-there = leb-true (length (decode (textOf t))) room (held-true _ (r .0));
     }
@@ -258,7 +258,7 @@ module _ (m : List ℕ) (h : areBytes m ≡ true) where
   check-back : (room : ℕ) → length m ≤ 65535 → length m ≤ room → checkImport room (headerLine m) ≡ Clear
   unfolding checkImport checkText
   check-back room size g =
-      simp (scheme-back, text-back, encoded-good m h, back m h, le-leb (length m) 65535 size, le-leb (length m) room g)
+      simp (scheme-back, text-back, encoded-base64 m h, back m h, le-leb (length m) 65535 size, le-leb (length m) room g)
 
   message-back : decode (textOf (headerLine m)) ≡ m
   message-back = ap decode text-back ∙ back m h
@@ -283,7 +283,7 @@ import-of-export m out other n b e room =
 -- a line that gives a message has its checks held, and its text stands for the message
 record Given (t m : List ℕ) : Type 0 where
   scheme : schemeHolds t ≡ Held
-  in-base64 : good (textOf t) ≡ true
+  in-base64 : isBase64 (textOf t) ≡ true
   stands-for : decode (textOf t) ≡ m
 
 given : (t out m : List ℕ) → Gives t out m → Given t m

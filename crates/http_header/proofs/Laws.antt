@@ -24,7 +24,7 @@ use Rattle.place.specs.declared.written.Written.the-variants.{Refused}
 use Rattle.place.specs.Place.{Wrote}
 use Rattle.place.specs.Written.{roomHolds, answered, outAfter}
 use Rattle.place.proofs.Laws.{kept}
-use Rattle.base64.specs.Base64.{encode, good, decode}
+use Rattle.base64.specs.Base64.{encode, isBase64, decode}
 use Rattle.base64.proofs.Size.{length-encode}
 use Rattle.http_header.specs.HttpHeader.{messageHolds, headerLine, checkExport, upper, schemeHolds, afterSpaces, textOf, checkText}
 
@@ -118,11 +118,11 @@ pub ruleset skipped = (at-text, at-end)
 
 -- ---- the text
 
-pub good-held : (t : List ℕ) (g : Bool) (r : Checked) → g ≡ good t → r ≡ checked g → r ≡ Held → good t ≡ true
-good-held t g r e h k = sym e ∙ held-true g (sym h ∙ k)
+pub base64-held : (t : List ℕ) (g : Bool) (r : Checked) → g ≡ isBase64 t → r ≡ checked g → r ≡ Held → isBase64 t ≡ true
+base64-held t g r e h k = sym e ∙ held-true g (sym h ∙ k)
 
-pub good-of : (t : List ℕ) (g : Bool) (r : Checked) → g ≡ good t → r ≡ checked g → r ≡ checked (good t)
-good-of t g r e h = simp (← e) h
+pub base64-of : (t : List ℕ) (g : Bool) (r : Checked) → g ≡ isBase64 t → r ≡ checked g → r ≡ checked (isBase64 t)
+base64-of t g r e h = simp (← e) h
 
 module _ (t : List ℕ) (s : ℕ) (e : s ≡ length (decode t)) where
   pub message-of : (r : Checked) → r ≡ messageHolds s → r ≡ messageHolds (length (decode t))
@@ -131,23 +131,23 @@ module _ (t : List ℕ) (s : ℕ) (e : s ≡ length (decode t)) where
   pub room-of : (r : Checked) (room : ℕ) → r ≡ roomHolds s room → r ≡ roomHolds (length (decode t)) room
   room-of r room h = simp (← e) h
 
-pub ruleset checking = (go-on, ends, good-of, message-of, room-of)
+pub ruleset checking = (go-on, ends, base64-of, message-of, room-of)
 
 -- a text whose checks held is in base64, and has room for its message
 module _ (t : List ℕ) (r : Verdict) (room : ℕ) (e : r ≡ checkText room t) (h : r ≡ Clear) where
-  unfolded : after (checked (good t)) (Not WrongBase64) (
+  unfolded : after (checked (isBase64 t)) (Not WrongBase64) (
       after (messageHolds (length (decode t))) (Not TooLong) (after (roomHolds (length (decode t)) room) (Not NoRoom) Clear)) ≡ Clear
   unfolding checkText
   unfolded = sym e ∙ h
 
-  pub text-good : good t ≡ true
-  text-good = after-clear (good t) WrongBase64 _ unfolded .0
+  pub text-base64 : isBase64 t ≡ true
+  text-base64 = after-clear (isBase64 t) WrongBase64 _ unfolded .0
 
   pub text-fits : length (decode t) ≤ room
   text-fits =
       leb-true (length (decode t)) room
       (after-clear (leb (length (decode t)) room) NoRoom Clear
-      (after-clear (leb (length (decode t)) 65535) TooLong _ (after-clear (good t) WrongBase64 _ unfolded .1) .1) .0)
+      (after-clear (leb (length (decode t)) 65535) TooLong _ (after-clear (isBase64 t) WrongBase64 _ unfolded .1) .1) .0)
 
   pub text-fits-at : 0 + length (decode t) ≤ room
   text-fits-at = omega (arith, text-fits)

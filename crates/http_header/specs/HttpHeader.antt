@@ -12,7 +12,7 @@ use Rattle.wire.specs.declared.refusal.Refusal.the-variants.{TooLong, NoRoom, W
 use Rattle.wire.specs.Check.{checked, after}
 use Rattle.place.specs.declared.written.Written.{Written}
 use Rattle.place.specs.Written.{roomHolds, answered, outAfter}
-use Rattle.base64.specs.Base64.{encode, good, decode}
+use Rattle.base64.specs.Base64.{encode, isBase64, decode}
 
 -- check 1: a message has at most 65,535 bytes
 abbrev pub messageHolds : ℕ → Checked
@@ -60,7 +60,7 @@ textOf t = afterSpaces (drop 4 t)
 
 -- check 58: the text is in base64
 abbrev pub base64Holds : List ℕ → Checked
-base64Holds text = checked (good text)
+base64Holds text = checked (isBase64 text)
 
 -- for an output of so many bytes: 58, 1, 33; the room goes by the message's own length
 unfoldable pub checkText : ℕ → List ℕ → Verdict

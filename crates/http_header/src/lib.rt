@@ -7,7 +7,7 @@ ghost use Rattle.place.specs.Written.{answered, outAfter};
 ghost use Rattle.base64.specs.Base64.{decode};
 ghost use Rattle.http_header.specs.HttpHeader.{headerLine, messageHolds, checkExport, exportAnswer, exportOut, upper, schemeHolds, textOf, checkText, importAnswer, importOut};
 use base64::decoded_size;
-use base64::good;
+use base64::is_base64;
 use base64::put_decoded;
 use base64::put_encoded;
 use place::Place;
@@ -65,8 +65,8 @@ pub fn export(out: &mut [u8], msg: &[u8]) -> Written
 fn upper(c: u8) -> u8
     ensures { λ r. ⌜ r ≡ upper c ⌝ }
 {
-    if 97 <= c {
-        if c <= 122 {
+    if b'a' <= c {
+        if c <= b'z' {
             return c - 32;
         }
     }
@@ -81,11 +81,11 @@ fn scheme_holds(line: &[u8]) -> Checked
         return Checked::Failed;
     }
     check(
-        (upper(line[0]) == 0x4E)
-            & (upper(line[1]) == 0x54)
-            & (upper(line[2]) == 0x4C)
-            & (upper(line[3]) == 0x4D)
-            & (line[4] == 0x20),
+        (upper(line[0]) == b'N')
+            & (upper(line[1]) == b'T')
+            & (upper(line[2]) == b'L')
+            & (upper(line[3]) == b'M')
+            & (line[4] == b' '),
     )
 }
 
@@ -96,7 +96,7 @@ fn text_start(line: &[u8]) -> usize
 {
     let mut i: usize = 4;
     while i < line.len() {
-        if line[i] != 0x20 {
+        if line[i] != b' ' {
             return i;
         }
         i = i + 1;
@@ -108,7 +108,7 @@ fn text_start(line: &[u8]) -> usize
 fn check_text(room: usize, text: &[u8]) -> Verdict
     ensures { λ r. ⌜ r ≡ checkText room (now (text .entry)) ⌝ }
 {
-    let Checked::Held = check(good(text)) else {
+    let Checked::Held = check(is_base64(text)) else {
         return Verdict::Refused(Refusal::WrongBase64);
     };
     let n = decoded_size(text);

@@ -9,7 +9,7 @@ use lib.Dec.{eqb}
 use lib.ListN.{length, getD}
 use borrow.Author.Tests.{eqb-true, eqb-false, eq-eqb, ne-eqb}
 use Rattle.wire.proofs.Bools.{and-left, and-right}
-use Rattle.base64.specs.Base64.{alphabet, letter, isLetter, valueOf, groupHolds, isEmpty, good, decode}
+use Rattle.base64.specs.Base64.{alphabet, letter, isLetter, valueOf, groupHolds, isEmpty, isBase64, decode}
 use Rattle.base64.proofs.Alphabet.{value-letter, is-letter, letter-value, value-small, pad-no-letter}
 use Rattle.base64.proofs.Size.{decoded-length}
 use Rattle.base64.proofs.Writing.{short}
@@ -115,12 +115,12 @@ module _ (a b c d : ℕ) (t : List ℕ) where
         ends (isLetter c) (isLetter d) (eqb c 61) (eqb d 61) (eqb (valueOf b % 16) 0) (eqb (valueOf c % 4) 0) eb refl refl refl refl refl refl g
 
 -- a text in base64 is made of groups
-pub good-groups : (t : List ℕ) → good t ≡ true → length t % 4 ≡ 0
-good-groups [] g = refl
-good-groups (a ∷ []) g = absurd (true-not-false (sym g))
-good-groups (a ∷ b ∷ []) g = absurd (true-not-false (sym g))
-good-groups (a ∷ b ∷ c ∷ []) g = absurd (true-not-false (sym g))
-good-groups (a ∷ b ∷ c ∷ d ∷ t) g = omega (arith, good-groups t (and-right (groupHolds (isEmpty t) a b c d) (good t) g))
+pub base64-groups : (t : List ℕ) → isBase64 t ≡ true → length t % 4 ≡ 0
+base64-groups [] g = refl
+base64-groups (a ∷ []) g = absurd (true-not-false (sym g))
+base64-groups (a ∷ b ∷ []) g = absurd (true-not-false (sym g))
+base64-groups (a ∷ b ∷ c ∷ []) g = absurd (true-not-false (sym g))
+base64-groups (a ∷ b ∷ c ∷ d ∷ t) g = omega (arith, base64-groups t (and-right (groupHolds (isEmpty t) a b c d) (isBase64 t) g))
 
 empty-none : (t : List ℕ) → isEmpty t ≡ true → length t ≡ 0
 empty-none [] h = refl
@@ -136,20 +136,20 @@ and-false false y h k = refl
 
 -- ---- what is not in base64 has a fault
 
-pub has-fault : (t : List ℕ) → good t ≡ false → NotBase64 t
+pub has-fault : (t : List ℕ) → isBase64 t ≡ false → NotBase64 t
 has-fault [] g = absurd (true-not-false g)
 has-fault (a ∷ []) g = inr (inr (inl (λ e. omega (arith, e))))
 has-fault (a ∷ b ∷ []) g = inr (inr (inl (λ e. omega (arith, e))))
 has-fault (a ∷ b ∷ c ∷ []) g = inr (inr (inl (λ e. omega (arith, e))))
-has-fault (a ∷ b ∷ c ∷ d ∷ t) g = go (good t) (isEmpty t) refl refl (has-fault t) where
-  go : (x y : Bool) → good t ≡ x → isEmpty t ≡ y → (good t ≡ false → NotBase64 t) → NotBase64 (a ∷ b ∷ c ∷ d ∷ t)
+has-fault (a ∷ b ∷ c ∷ d ∷ t) g = go (isBase64 t) (isEmpty t) refl refl (has-fault t) where
+  go : (x y : Bool) → isBase64 t ≡ x → isEmpty t ≡ y → (isBase64 t ≡ false → NotBase64 t) → NotBase64 (a ∷ b ∷ c ∷ d ∷ t)
   go false y e f i = later a b c d t (i e)
   go true true e f i =
       last-fails a b c d t (empty-none t f)
-      (sym (ap (λ (z : Bool). groupHolds z a b c d) f) ∙ and-false (groupHolds (isEmpty t) a b c d) (good t) g e)
+      (sym (ap (λ (z : Bool). groupHolds z a b c d) f) ∙ and-false (groupHolds (isEmpty t) a b c d) (isBase64 t) g e)
   go true false e f i =
-      inner-fails a b c d t (omega (arith, full-some t f, good-groups t e))
-      (sym (ap (λ (z : Bool). groupHolds z a b c d) f) ∙ and-false (groupHolds (isEmpty t) a b c d) (good t) g e)
+      inner-fails a b c d t (omega (arith, full-some t f, base64-groups t e))
+      (sym (ap (λ (z : Bool). groupHolds z a b c d) f) ∙ and-false (groupHolds (isEmpty t) a b c d) (isBase64 t) g e)
 
 -- ---- what is in base64 has none
 
@@ -271,17 +271,17 @@ none-empty (inr (inr (inl f))) = f refl
 none-empty (inr (inr (inr (p, v, h, inl f)))) = omega (arith, f .0)
 none-empty (inr (inr (inr (p, v, h, inr f)))) = omega (arith, f .0)
 
-pub no-fault : (t : List ℕ) → good t ≡ true → NotBase64 t → ⊥
+pub no-fault : (t : List ℕ) → isBase64 t ≡ true → NotBase64 t → ⊥
 no-fault [] g = none-empty
 no-fault (a ∷ []) g = absurd (true-not-false (sym g))
 no-fault (a ∷ b ∷ []) g = absurd (true-not-false (sym g))
 no-fault (a ∷ b ∷ c ∷ []) g = absurd (true-not-false (sym g))
 no-fault (a ∷ b ∷ c ∷ d ∷ t) g =
-    by-kind (kind-of (isEmpty t) a b c d (and-left (groupHolds (isEmpty t) a b c d) (good t) g))
-    (good-groups t rest) (no-fault t rest)
+    by-kind (kind-of (isEmpty t) a b c d (and-left (groupHolds (isEmpty t) a b c d) (isBase64 t) g))
+    (base64-groups t rest) (no-fault t rest)
   where
-    rest : good t ≡ true
-    rest = and-right (groupHolds (isEmpty t) a b c d) (good t) g
+    rest : isBase64 t ≡ true
+    rest = and-right (groupHolds (isEmpty t) a b c d) (isBase64 t) g
 
     by-kind : Kind (isEmpty t) a b c d → length t % 4 ≡ 0 → (NotBase64 t → ⊥) → NotBase64 (a ∷ b ∷ c ∷ d ∷ t) → ⊥
     by-kind (four la lb lc ld) n i = four-right a b c d t n la lb lc ld i
@@ -290,7 +290,7 @@ no-fault (a ∷ b ∷ c ∷ d ∷ t) g =
 
 -- ---- how many bytes it stands for
 
-pub size-is : (t : List ℕ) → good t ≡ true → length (decode t) ≡ decodedSize t
+pub size-is : (t : List ℕ) → isBase64 t ≡ true → length (decode t) ≡ decodedSize t
 size-is [] g = refl
 size-is (a ∷ []) g = absurd (true-not-false (sym g))
 size-is (a ∷ b ∷ []) g = absurd (true-not-false (sym g))

@@ -3,8 +3,8 @@ use borrow.Author.Needs.{needs}
 use Prim.Native.Nat.{_≤_, _-_}
 use lib.ListN.{length}
 use Rattle.base64.proofs.Reading.{Tested, tested-none, tested-next, tested-last, tested-all}
-use Rattle.base64.proofs.good.Statement.{statement}
-use Rattle.base64.proofs.good.Tie as tie
+use Rattle.base64.proofs.is_base64.Statement.{statement}
+use Rattle.base64.proofs.is_base64.Tie as tie
 
 abbrev Inv-loop : tie.InvT-loop
 Inv-loop t ok₀ i₀ ok i = (i ≤ length t) × Tested t ok i
@@ -12,8 +12,8 @@ Inv-loop t ok₀ i₀ ok i = (i ≤ length t) × Tested t ok i
 abbrev μ-loop : tie.MeasureT-loop
 μ-loop t ok₀ i₀ ok i = length t - i
 
-pub good-spec : {M : Type 1} → statement M
-good-spec =
+pub is-base64-spec : {M : Type 1} → statement M
+is-base64-spec =
     tie.close
     (tie.spec
     Inv-loop μ-loop
