@@ -17,6 +17,7 @@ ghost use Rattle.nl_auth.specs.NlAuth.{readNlAuth};
 ghost use Rattle.nl_auth_flags.specs.Flags.{known};
 ghost use Rattle.nl_auth_text.specs.StringText.{textAnswer, textAfter};
 ghost use Rattle.nl_auth_writing.specs.Writing.{requestAnswer, requestOut, responseAnswer, responseOut};
+ghost use Rattle.http_header.specs.HttpHeader.{exportAnswer, exportOut, importAnswer, importOut};
 ghost use Rattle.explain.specs.Explain.{explanation};
 ghost use Rattle.line.specs.Line.{negotiateLine, authenticateLine, challengeLine, nlAuthLine, ntlmLine, shownLine};
 ghost use Rattle.respond.specs.Answer.{respondAnswer, respondOut};
@@ -519,4 +520,20 @@ pub extern "C" fn dialtable_check_mic(
     ensures { λ r. ⌜ r ≡ checkingNumber (checkMic (now (key .entry)) (now (negotiate .entry)) (now (challenge .entry)) (now (authenticate .entry))) ⌝ }
 {
     c_mic::check_mic(key, negotiate, challenge, authenticate)
+}
+
+#[no_mangle]
+pub extern "C" fn dialtable_export_header(out: &mut [u8], msg: &[u8]) -> u64
+    ensures answer { λ r. ⌜ r ≡ writtenNumber (exportAnswer (length (now (out .entry))) (now (msg .entry))) ⌝ }
+    ensures content { λ _. ⌜ now (out .exit) ≡ exportOut (now (out .entry)) (now (msg .entry)) ⌝ }
+{
+    written_number(http_header::export(out, msg))
+}
+
+#[no_mangle]
+pub extern "C" fn dialtable_import_header(out: &mut [u8], text: &[u8]) -> u64
+    ensures answer { λ r. ⌜ r ≡ writtenNumber (importAnswer (length (now (out .entry))) (now (text .entry))) ⌝ }
+    ensures content { λ _. ⌜ now (out .exit) ≡ importOut (now (out .entry)) (now (text .entry)) ⌝ }
+{
+    written_number(http_header::import(out, text))
 }

@@ -1,0 +1,85 @@
+-- Base64 with padding: RFC 4648, section 4.
+use Prim.Native.Nat.{ℕ, suc, _+_, _*_, _/_, _%_}
+use mathlib.Core.Bool.{Bool, true, false, cond, _&&_, _||_}
+use mathlib.Core.List.{List, [], _∷_, _++_}
+use lib.Dec.{eqb, ltb}
+use lib.ListN.{getD}
+use Rattle.text.specs.Text.{ascii}
+
+-- table 1: the characters in the order of their values
+unfoldable pub alphabet : List ℕ
+alphabet = ascii "ABCDEFGHIJKLMNOPQRSTUVWXYZabcdefghijklmnopqrstuvwxyz0123456789+/"
+
+abbrev pub letter : ℕ → ℕ
+letter v = getD alphabet v 0
+
+-- the padding character, '='
+abbrev pub pad : ℕ
+pad = 61
+
+-- ---- encoding: the characters of three bytes, and of two and one at the end
+
+unfoldable pub three : ℕ → ℕ → ℕ → List ℕ
+three a b c = letter (a / 4) ∷ letter (a % 4 * 16 + b / 16) ∷ letter (b % 16 * 4 + c / 64) ∷ letter (c % 64) ∷ []
+
+unfoldable pub two : ℕ → ℕ → List ℕ
+two a b = letter (a / 4) ∷ letter (a % 4 * 16 + b / 16) ∷ letter (b % 16 * 4) ∷ pad ∷ []
+
+unfoldable pub one : ℕ → List ℕ
+one a = letter (a / 4) ∷ letter (a % 4 * 16) ∷ pad ∷ pad ∷ []
+
+abbrev pub encode : List ℕ → List ℕ
+encode [] = []
+encode (a ∷ []) = one a
+encode (a ∷ b ∷ []) = two a b
+encode (a ∷ b ∷ c ∷ m) = three a b c ++ encode m
+
+-- ---- decoding
+
+-- the place of a character among others; how many they are, where it is none of them
+abbrev pub placeAmong : List ℕ → ℕ → ℕ
+placeAmong [] c = 0
+placeAmong (x ∷ xs) c = cond (eqb c x) 0 (suc (placeAmong xs c))
+
+-- whether a character is of the alphabet, and its value there, 0 for one that is not
+unfoldable pub isLetter : ℕ → Bool
+isLetter c = ltb (placeAmong alphabet c) 64
+
+unfoldable pub valueOf : ℕ → ℕ
+valueOf c = cond (isLetter c) (placeAmong alphabet c) 0
+
+-- whether a group stands for bytes: four letters, and in the last group also three and a pad, or two and two pads, with no bit
+-- left over
+unfoldable pub groupHolds : Bool → ℕ → ℕ → ℕ → ℕ → Bool
+groupHolds last a b c d =
+    isLetter a && isLetter b
+    && ((isLetter c && isLetter d)
+    || (last && isLetter c && eqb d pad && eqb (valueOf c % 4) 0)
+    || (last && eqb c pad && eqb d pad && eqb (valueOf b % 16) 0))
+
+abbrev pub isEmpty : List ℕ → Bool
+isEmpty [] = true
+isEmpty (x ∷ t) = false
+
+-- whether a text is in base64
+abbrev pub isBase64 : List ℕ → Bool
+isBase64 [] = true
+isBase64 (a ∷ []) = false
+isBase64 (a ∷ b ∷ []) = false
+isBase64 (a ∷ b ∷ c ∷ []) = false
+isBase64 (a ∷ b ∷ c ∷ d ∷ t) = groupHolds (isEmpty t) a b c d && isBase64 t
+
+-- the bytes of a group
+unfoldable pub groupBytes : ℕ → ℕ → ℕ → ℕ → List ℕ
+groupBytes a b c d =
+    cond (eqb c pad) ((valueOf a * 4 + valueOf b / 16) ∷ []) (
+    cond (eqb d pad) ((valueOf a * 4 + valueOf b / 16) ∷ (valueOf b % 16 * 16 + valueOf c / 4) ∷ [])
+    ((valueOf a * 4 + valueOf b / 16) ∷ (valueOf b % 16 * 16 + valueOf c / 4) ∷ (valueOf c % 4 * 64 + valueOf d) ∷ []))
+
+-- the bytes that a text stands for
+abbrev pub decode : List ℕ → List ℕ
+decode [] = []
+decode (a ∷ []) = []
+decode (a ∷ b ∷ []) = []
+decode (a ∷ b ∷ c ∷ []) = []
+decode (a ∷ b ∷ c ∷ d ∷ t) = groupBytes a b c d ++ decode t
