@@ -76,7 +76,10 @@ fn fresh_folder(name: &str) -> PathBuf {
     path
 }
 
-fn folder_of(name: &str, files: &[(&str, &[u8])]) -> PathBuf {
+/// Names and contents.
+type Files<'a> = &'a [(&'a str, &'a [u8])];
+
+fn folder_of(name: &str, files: Files<'_>) -> PathBuf {
     let folder = fresh_folder(name);
     for (name, content) in files {
         fs::write(folder.join(name), content).expect("a file");
@@ -300,7 +303,7 @@ fn both_programs_are_given_the_buffer_and_the_index() {
 
 #[test]
 fn a_night_that_cannot_be_run_is_one_plain_line() {
-    let cases: [(&str, &[(&str, &[u8])], &str); 4] = [
+    let cases: [(&str, Files<'_>, &str); 4] = [
         ("no_buffer", &[("a.index", b"")], "there is no file "),
         ("no_index", &[("a.night", b"")], "the index "),
         (

@@ -21,6 +21,9 @@ fn messages() -> Vec<Vec<u8>> {
     vec![bad, authenticate, challenge, negotiate]
 }
 
+/// A faulty library.
+type Fault = fn(&Call<'_>, &mut [u8], &mut [u64]) -> u64;
+
 /// The fault must be found, and told by `what`.
 fn found(what: &str, library: impl Library) {
     let report = run_on(library, 5, messages(), 0, &[], &mut sink());
@@ -237,7 +240,7 @@ fn a_mark_that_does_not_decide_is_found() {
 fn a_buffer_that_is_too_long_or_a_list_that_is_empty_is_found() {
     let mut long = messages().swap_remove(1);
     long.resize(65_536, 0);
-    let faults: [fn(&Call<'_>, &mut [u8], &mut [u64]) -> u64; 3] = [
+    let faults: [Fault; 3] = [
         // Answered where the list is empty.
         |call, out, numbers| match call {
             Call::CheckMessages { places: [], .. } => 0,
