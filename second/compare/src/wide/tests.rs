@@ -16,19 +16,41 @@ use super::{run_on, second, Report};
 /// Drawn cases that a planted fault is tried on.
 const TRIED: usize = 400;
 
-fn captured() -> Vec<Vec<u8>> {
-    let files = [
-        "challenge-smbd.bin",
-        "authenticate-smbclient.bin",
-        "negotiate-names-escapes.bin",
-    ];
+/// Messages of the folder of messages, raw, by their names.
+fn files<const N: usize>(names: [&str; N]) -> Vec<Vec<u8>> {
     let folder = concat!(env!("CARGO_MANIFEST_DIR"), "/../../messages/");
-    let read = |name| std::fs::read(format!("{folder}{name}")).expect("a message");
-    files.map(read).to_vec()
+    let read = |name| std::fs::read(format!("{folder}{name}.bin")).expect("a message");
+    names.map(read).to_vec()
+}
+
+fn captured() -> Vec<Vec<u8>> {
+    files([
+        "challenge-smbd",
+        "authenticate-smbclient",
+        "negotiate-names-escapes",
+    ])
+}
+
+/// The messages that are always tried, so that a fault needs no luck to be found:
+/// sound ones, and one for each refusal that is seldom drawn.
+fn given() -> Vec<Vec<u8>> {
+    let refused = files([
+        "authenticate-p2-name-over-response",
+        "authenticate-cut",
+        "negotiate-cut",
+        "challenge-list-runs-out",
+        "challenge-value-past-end",
+        "challenge-timestamp-short",
+        "challenge-byte-after-end-pair",
+    ]);
+    // A list that ends one byte after a pair should have started.
+    let mut cut = captured().swap_remove(0);
+    cut[40] = 49;
+    [captured(), refused, vec![cut]].concat()
 }
 
 fn report(library: impl Library) -> Report {
-    run_on(library, 5, captured(), TRIED, &captured(), &mut sink())
+    run_on(library, 5, given(), TRIED, &captured(), &mut sink())
 }
 
 fn printed(library: impl Library) -> (usize, String) {
@@ -49,7 +71,7 @@ fn the_reader_agrees_with_itself_and_reaches_every_call() {
     for name in NAMES {
         assert!(out.contains(&format!("\n  {name} ")), "{name}");
     }
-    assert!(out.contains(&format!("\n{} passed, ", TRIED + captured().len())));
+    assert!(out.contains(&format!("\n{} passed, ", TRIED + given().len())));
 }
 
 #[test]
