@@ -20,7 +20,7 @@ const VERSION: u32 = 0x200_0000;
 const KEY_EXCH: u32 = 0x4000_0000;
 
 const P1_LINE: &[u8] =
-    b"auth flags=00000201 set=U domain= user=box7 work= lm=0 nt=24 key=0 mic=1 kind=v1\n";
+    b"auth flags=00000201 set=U domain= user=box7 work= lm=0 nt=24 key=0 mic=1 kind=v1 max=000000\n";
 const P12: &[u8] = b"\0\0\0\0\x01\0\0\0LINE\0";
 /// Strings A, C and D: D's name ends in a jump to C.
 const NAMES: &[u8] = b"\0\0\0\0\x0D\0\0\0A.\0\x03x.y\x03com\0\x02dc\xC0\x03";
@@ -411,10 +411,10 @@ fn lines() {
     assert!(room[P1_LINE.len()..].iter().all(|&byte| byte == 0xEE));
     assert_eq!(ntlm_line(&p1(), &mut room), Ok(P1_LINE));
     assert_eq!(ntlm_program_line(&p1(), &mut room), Ok(P1_LINE));
-    let chal = b"chal flags=628A8215 set=U target=PEERSRV pairs=5 time=01DD750F3F7F2C5C\n";
+    let chal = b"chal flags=628A8215 set=U target=PEERSRV pairs=5 time=01DD750F3F7F2C5C max=00\n";
     assert_eq!(challenge_line(&challenge(), &mut room), Ok(&chal[..]));
     assert_eq!(ntlm_line(&challenge(), &mut room), Ok(&chal[..]));
-    let nego = b"nego flags=A208B207 domain=LINE\\x2031 work=box\\x5C\\xFC\n";
+    let nego = b"nego flags=A208B207 domain=LINE\\x2031 work=box\\x5C\\xFC max=00\n";
     for line in [negotiate_line, ntlm_line, ntlm_program_line] {
         assert_eq!(line(&negotiate(), &mut room), Ok(&nego[..]));
         assert_eq!(

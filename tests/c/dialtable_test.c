@@ -71,7 +71,7 @@ static void read_file(const char *path, message_t *message)
 }
 
 static const char p1_line[] =
-    "auth flags=00000201 set=U domain= user=box7 work= lm=0 nt=24 key=0 mic=1 kind=v1\n";
+    "auth flags=00000201 set=U domain= user=box7 work= lm=0 nt=24 key=0 mic=1 kind=v1 max=000000\n";
 static const uint8_t box7[] = {'b', 0, 'o', 0, 'x', 0, '7', 0};
 static const uint8_t p12[] = {0, 0, 0, 0, 1, 0, 0, 0, 'L', 'I', 'N', 'E', 0};
 /* UNICODE and both names, of odd length: domain at 40, workstation at 47. The string's own zero byte is left out. */
@@ -484,8 +484,8 @@ static void has_line(line_call *call, const uint8_t *msg, dialtable_len msg_len,
 
 static void prints_lines(const message_t *p1, const message_t *challenge)
 {
-    static const char chal[] = "chal flags=628A8215 set=U target=PEERSRV pairs=5 time=01DD750F3F7F2C5C\n";
-    static const char opening[] = "nego flags=A208B207 domain=LINE\\x2031 work=box\\x5C\\xFC\n";
+    static const char chal[] = "chal flags=628A8215 set=U target=PEERSRV pairs=5 time=01DD750F3F7F2C5C max=00\n";
+    static const char opening[] = "nego flags=A208B207 domain=LINE\\x2031 work=box\\x5C\\xFC max=00\n";
     static const char nl[] = "nl type=0 flags=00000001 a=LINE\n";
     uint8_t out[256];
 

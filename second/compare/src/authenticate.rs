@@ -245,7 +245,7 @@ fn long_messages(random: &mut Random, messages: &mut Vec<Vec<u8>>) {
 
 /// Lines of exactly the longest length, just under and over it, and far over.
 fn long_lines(random: &mut Random, messages: &mut Vec<Vec<u8>>) {
-    let words = "auth flags=00000000 set=U domain= user= work= lm=0 nt=0 key=0 mic=1 kind=none\n";
+    let words = "auth flags=00000000 set=U domain= user= work= lm=0 nt=0 key=0 mic=1 kind=none max=000000\n";
     long_names(random, words, |random, set, name| {
         let mut contents: [Vec<u8>; 6] = Default::default();
         contents[random.pick(&NAMES)] = name;
@@ -288,6 +288,7 @@ pub fn drawn(random: &mut Random) -> Vec<u8> {
         let (check, field) = (random.between(6, 9), random.below(6));
         spoil(random, &mut message, check, field);
     }
+    message.stir_max_lens(random);
     maybe_damaged(random, message.bytes())
 }
 

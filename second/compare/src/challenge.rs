@@ -36,6 +36,7 @@ pub static KIND: Kind<2> = Kind {
     misplaced: [Some((NAME, 0xFFFF_FFFF)), Some((INFO, 3)), None, None],
     with_head,
     own: &[
+        |random, messages| KIND.max_lens(random, messages),
         two_faults,
         ids,
         times,
@@ -313,7 +314,7 @@ fn long_messages(random: &mut Random, messages: &mut Vec<Vec<u8>>) {
 
 /// Lines of exactly the longest length, just under and over it, and far over.
 fn long_lines(random: &mut Random, messages: &mut Vec<Vec<u8>>) {
-    let words = "chal flags=00000000 set=U target= pairs=0\n";
+    let words = "chal flags=00000000 set=U target= pairs=0 max=00\n";
     long_names(random, words, |random, set, name| {
         messages.push(with_name(random, set, &name));
     });
@@ -332,6 +333,7 @@ pub fn drawn(random: &mut Random) -> Vec<u8> {
     let units = random.pick(&[0, 1, 4, 7, 20]);
     let target = name(random, set_of(flags), units);
     let start = random.pick(&[FIXED, 50, PAYLOAD, PAYLOAD, 60, 64]);
-    let message = KIND.of(random, flags, start, [&target, &list]);
+    let mut message = KIND.of(random, flags, start, [&target, &list]);
+    message.stir_max_lens(random);
     maybe_damaged(random, message.bytes())
 }

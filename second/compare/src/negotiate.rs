@@ -147,7 +147,7 @@ fn long_messages(random: &mut Random, messages: &mut Vec<Vec<u8>>) {
 
 /// Lines of exactly the longest length, just under and over it, and far over.
 fn long_lines(random: &mut Random, messages: &mut Vec<Vec<u8>>) {
-    let words = "nego flags=00000000 domain= work=\n";
+    let words = "nego flags=00000000 domain= work= max=00\n";
     for line in LONG_LINES {
         for set in [OEM, UNICODE] {
             let long = bytes_of_line(random, line, words);
@@ -180,5 +180,6 @@ pub fn drawn(random: &mut Random) -> Vec<u8> {
         let (check, field) = (random.between(6, 7), random.below(2));
         spoil(random, &mut message, check, field);
     }
+    message.stir_max_lens(random);
     maybe_damaged(random, message.bytes())
 }

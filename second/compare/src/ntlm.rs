@@ -86,6 +86,19 @@ impl<const N: usize> Message<N> {
         self.heads = [Head::default(); N];
     }
 
+    /// Gives some heads any MaxLen, mostly none.
+    pub fn stir_max_lens(&mut self, random: &mut Random) {
+        if !random.one_in(3) {
+            return;
+        }
+        for head in &mut self.heads {
+            if random.one_in(2) {
+                let any = u16::from_le_bytes(random.array());
+                head.max_len = random.pick(&[0, 5, head.len ^ 0x100, any]);
+            }
+        }
+    }
+
     /// Makes check 6 fail at a field.
     pub fn pass_end(&mut self, random: &mut Random, field: usize) {
         let total = u32::try_from(self.len()).expect("a length");
@@ -210,13 +223,29 @@ impl<const N: usize> Kind<N> {
         }
     }
 
-    /// Each field with a MaxLen unlike its length.
+    /// A MaxLen unlike the length in every set of fields, then in each field alone
+    /// at every boundary, also where the field is empty and where it doesn't count.
     pub fn max_lens(&self, random: &mut Random, messages: &mut Vec<Vec<u8>>) {
-        for field in 0..N {
-            for max_len in [0, 1, 0xFFFF, 0x100] {
-                let mut message = (self.usual)(random, UNICODE | self.counting);
-                message.heads[field].max_len = max_len;
-                messages.push(message.bytes());
+        for set in 0..1_usize << N {
+            let mut message = (self.usual)(random, UNICODE | self.counting);
+            for (field, head) in message.heads.iter_mut().enumerate() {
+                if set >> field & 1 == 1 {
+                    head.max_len = !head.len;
+                }
+            }
+            messages.push(message.bytes());
+        }
+        let each = (0..N).flat_map(|field| [true, false].map(|empty| (field, empty)));
+        for (field, empty) in each {
+            for counting in [self.counting, 0] {
+                let mut message = (self.usual)(random, UNICODE | counting);
+                if empty {
+                    message.heads[field].len = 0;
+                }
+                for max_len in max_lens(message.heads[field].len) {
+                    message.heads[field].max_len = max_len;
+                    messages.push(message.bytes());
+                }
             }
         }
     }
@@ -243,6 +272,21 @@ impl<const N: usize> Kind<N> {
             }
         }
     }
+}
+
+/// A field's own length, one byte of it unlike, one less and one more, and others.
+fn max_lens(len: u16) -> [u16; 9] {
+    [
+        len,
+        len ^ 1,
+        len ^ 0x100,
+        len ^ 0x8000,
+        len.wrapping_sub(1),
+        len.wrapping_add(1),
+        0,
+        5,
+        0xFFFF,
+    ]
 }
 
 /// Every byte, as a name.

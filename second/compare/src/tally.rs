@@ -24,6 +24,12 @@ pub enum Kind {
         number: u8,
         field: u8,
     },
+    /// A digit of the last word of a line: whether MaxLen is unlike Len.
+    MaxLen {
+        line: &'static str,
+        field: u8,
+        unlike: bool,
+    },
     /// None of the forms of documents 01 and 02.
     Other,
 }
@@ -48,6 +54,9 @@ const CHECKS: [&[u8]; 3] = [
     &[1, 2, 3, 4, 5, 6, 7, 8, 9],
     &[1, 2, 3, 4, 5, 6, 7, 8, 11, 12, 10, 13],
 ];
+
+/// The lines whose last word has a digit for each field, and how many.
+const WITH_MAX: [(&str, u8); 3] = [("auth", 6), ("chal", 2), ("nego", 2)];
 
 /// The number of a refusal, and each field that it can have.
 pub type Refusals = (u8, &'static [u8]);
@@ -88,8 +97,9 @@ impl Kind {
         let words: Vec<&[u8]> = text.split(|&byte| byte == b' ').collect();
         match words.as_slice() {
             [b"check", ..] => Self::checks(text).unwrap_or(Self::Other),
+            [b"auth" | b"chal" | b"nego", ..] if digits(&words).is_none() => Self::Other,
             [b"auth", ..] => Self::Authenticate,
-            [b"chal", .., last] if last.starts_with(b"time=") => Self::ChallengeWithTime,
+            [b"chal", .., time, _] if time.starts_with(b"time=") => Self::ChallengeWithTime,
             [b"chal", ..] => Self::ChallengeWithoutTime,
             [b"nego", ..] => Self::Negotiate,
             [b"nl", b"type=0", ..] => Self::NlAuthRequest,
@@ -99,6 +109,22 @@ impl Kind {
             }
             _ => Self::Other,
         }
+    }
+
+    /// What the digits of a line's last word say.
+    fn max_lens(line: &[u8]) -> Vec<Self> {
+        let text = line.strip_suffix(b"\n").unwrap_or_default();
+        let words: Vec<&[u8]> = text.split(|&byte| byte == b' ').collect();
+        let Some((line, digits)) = digits(&words) else {
+            return Vec::new();
+        };
+        let fields = (1..).zip(digits);
+        let kinds = fields.map(|(field, &digit)| Self::MaxLen {
+            line,
+            field,
+            unlike: digit == b'1',
+        });
+        kinds.collect()
     }
 
     /// The kind of a print of checks: those of one kind of message, in order,
@@ -155,6 +181,18 @@ impl Kind {
     }
 }
 
+/// The first word of a line and the digits of its last one, where it has as many as
+/// the line has fields.
+fn digits<'a>(words: &[&'a [u8]]) -> Option<(&'static str, &'a [u8])> {
+    let (first, last) = (words.first()?, words.last()?);
+    let mut lines = WITH_MAX.into_iter();
+    let (line, fields) = lines.find(|(line, _)| line.as_bytes() == *first)?;
+    let digits = last.strip_prefix(b"max=")?;
+    let right = digits.len() == usize::from(fields);
+    let plain = digits.iter().all(|digit| matches!(digit, b'0' | b'1'));
+    (right && plain).then_some((line, digits))
+}
+
 fn parse<N: FromStr>(digits: &[u8]) -> Option<N> {
     std::str::from_utf8(digits).ok()?.parse().ok()
 }
@@ -168,6 +206,14 @@ impl fmt::Display for Kind {
             Self::Failed { number, field } => {
                 return write!(f, "check {number} failed field={field}");
             }
+            Self::MaxLen {
+                line,
+                field,
+                unlike,
+            } => {
+                let digit = u8::from(*unlike);
+                return write!(f, "{line} max={digit} field={field}");
+            }
             _ => {}
         }
         let taken = TAKEN.iter().find(|(kind, _)| kind == self);
@@ -178,6 +224,20 @@ impl fmt::Display for Kind {
 /// The refusals that are checks of an NTLM message.
 fn of_checks() -> impl Iterator<Item = (u8, u8)> {
     each_refusal(&REFUSALS).filter(|(number, _)| *number <= 13)
+}
+
+/// Both digits of each field of each line.
+fn of_max_lens() -> impl Iterator<Item = Kind> {
+    let fields = WITH_MAX
+        .iter()
+        .flat_map(|&(line, fields)| (1..=fields).map(move |field| (line, field)));
+    fields.flat_map(|(line, field)| {
+        [false, true].map(|unlike| Kind::MaxLen {
+            line,
+            field,
+            unlike,
+        })
+    })
 }
 
 /// Each number of a table with each of its fields.
@@ -234,7 +294,9 @@ pub struct Tally(BTreeMap<Kind, u64>);
 impl Tally {
     /// Counts the answer to one message.
     pub fn add(&mut self, line: &[u8]) {
-        *self.0.entry(Kind::of(line)).or_default() += 1;
+        for kind in [Kind::of(line)].into_iter().chain(Kind::max_lens(line)) {
+            *self.0.entry(kind).or_default() += 1;
+        }
     }
 
     fn count(&self, kind: Kind) -> u64 {
@@ -250,6 +312,7 @@ impl Tally {
         taken
             .chain(refused)
             .chain(failed)
+            .chain(of_max_lens())
             .filter(|&kind| self.count(kind) == 0)
             .collect()
     }
@@ -282,6 +345,20 @@ impl fmt::Display for Tally {
             COLUMNS.row(f, name, self.count(kind))?;
             writeln!(f)?;
         }
+        for (line, fields) in WITH_MAX {
+            let unlike = (1..=fields).map(|field| Kind::MaxLen {
+                line,
+                field,
+                unlike: true,
+            });
+            let counts: Vec<u64> = unlike.map(|kind| self.count(kind)).collect();
+            COLUMNS.row(f, &format!("{line} max=1"), counts.iter().sum())?;
+            let each: Vec<String> = (1..)
+                .zip(counts)
+                .map(|(field, count): (u8, u64)| format!("field {field}: {count}"))
+                .collect();
+            writeln!(f, "   {}", each.join(", "))?;
+        }
         let refused = |number, field| self.count(Kind::Refused { number, field });
         COLUMNS.refusals(f, "refused", &REFUSALS, refused)?;
         let checks = REFUSALS.iter().filter(|(number, _)| *number <= 13);
@@ -293,25 +370,46 @@ impl fmt::Display for Tally {
 
 #[cfg(test)]
 mod tests {
-    use super::{Kind, Tally, CHECKS};
+    use super::{of_max_lens, Kind, Tally, CHECKS};
 
     #[test]
     fn each_line_has_its_kind() {
-        let cases: [(&[u8], Kind); 17] = [
-            (b"auth flags=00000201 set=U domain=\n", Kind::Authenticate),
+        let cases: [(&[u8], Kind); 23] = [
             (
-                b"chal flags=1 set=U target= pairs=0\n",
+                b"auth flags=00000201 set=U domain= max=010000\n",
+                Kind::Authenticate,
+            ),
+            (b"auth flags=00000201 set=U domain=\n", Kind::Other),
+            (
+                b"auth flags=00000201 set=U domain= max=01000\n",
+                Kind::Other,
+            ),
+            (
+                b"auth flags=00000201 set=U domain= max=010002\n",
+                Kind::Other,
+            ),
+            (
+                b"chal flags=1 set=U target= pairs=0 max=00\n",
                 Kind::ChallengeWithoutTime,
             ),
             (
-                b"chal flags=1 set=U target= pairs=1 time=00\n",
+                b"chal flags=1 set=U target= pairs=1 time=00 max=00\n",
                 Kind::ChallengeWithTime,
             ),
             (
-                b"chal flags=1 set=U target=time=1 pairs=0\n",
+                b"chal flags=1 set=U target= pairs=1 max=00 time=00\n",
+                Kind::Other,
+            ),
+            (
+                b"chal flags=1 set=U target=time=1 pairs=0 max=10\n",
                 Kind::ChallengeWithoutTime,
             ),
-            (b"nego flags=00000001 domain= work=\n", Kind::Negotiate),
+            (
+                b"nego flags=00000001 domain= work= max=01\n",
+                Kind::Negotiate,
+            ),
+            (b"nego flags=00000001 domain= work=\n", Kind::Other),
+            (b"nego max=00 domain= work=\n", Kind::Other),
             (b"nl type=0 flags=00000001 a=LINE\n", Kind::NlAuthRequest),
             (b"nl type=1 flags=00000000\n", Kind::NlAuthResponse),
             (
@@ -390,11 +488,25 @@ mod tests {
     #[test]
     fn what_was_not_reached_is_named() {
         let mut tally = Tally::default();
-        assert_eq!(tally.not_reached().len(), 9 + 49 + 28);
+        assert_eq!(of_max_lens().count(), 20);
+        assert_eq!(tally.not_reached().len(), 9 + 49 + 28 + 20);
         tally.add(b"refused 8 field=5 at=0\n");
-        tally.add(b"auth\n");
+        tally.add(b"auth max=001000\n");
         let missing = tally.not_reached();
-        assert_eq!(missing.len(), 9 + 49 + 28 - 2);
+        assert_eq!(missing.len(), 9 + 49 + 28 + 20 - 2 - 6);
+        let max = |field, unlike| Kind::MaxLen {
+            line: "auth",
+            field,
+            unlike,
+        };
+        for field in 1..=6 {
+            assert_ne!(
+                missing.contains(&max(field, true)),
+                missing.contains(&max(field, false))
+            );
+        }
+        assert!(missing.contains(&max(2, true)) && !missing.contains(&max(3, true)));
+        assert_eq!(max(3, true).to_string(), "auth max=1 field=3");
         assert!(!missing.contains(&Kind::Authenticate));
         assert!(!missing.contains(&Kind::Refused {
             number: 8,

@@ -75,10 +75,11 @@ pub(crate) trait Line {
 
 /// More than any line has outside its names: the longest is
 /// `auth flags=FFFFFFFF set=U domain= user= work= lm=65535 nt=65535 key=65535
-/// mic=1 kind=none`.
+/// mic=1 kind=none max=000000`.
 const WORDS_LIMIT: usize = 128;
 
-/// `auth flags=H set=S domain=N user=N work=N lm=D nt=D key=D mic=B kind=K`
+/// `auth flags=H set=S domain=N user=N work=N lm=D nt=D key=D mic=B kind=K`, and
+/// since request 9/12 ` max=` with a digit for each field.
 impl Line for Authenticate<'_> {
     fn length_limit(&self) -> usize {
         limit_with([self.domain, self.user, self.workstation])
@@ -106,20 +107,22 @@ impl Line for Authenticate<'_> {
             b" mic=0"
         });
         sink.put(kind(self.nt.bytes.len()));
+        put_max(sink, &self.fields());
+        sink.put(b"\n");
     }
 }
 
 /// "K goes by NT response length: 0 `none`, 24 `v1`, any other `v2`."
 const fn kind(nt_len: usize) -> &'static [u8] {
     match nt_len {
-        0 => b" kind=none\n",
-        24 => b" kind=v1\n",
-        _ => b" kind=v2\n",
+        0 => b" kind=none",
+        24 => b" kind=v1",
+        _ => b" kind=v2",
     }
 }
 
 /// `chal flags=H set=S target=N pairs=D time=T`; "with no timestamp, the last
-/// word and its space are left out".
+/// word and its space are left out"; ` max=` "comes after it".
 impl Line for Challenge<'_> {
     fn length_limit(&self) -> usize {
         limit_with([self.target_name])
@@ -137,11 +140,13 @@ impl Line for Challenge<'_> {
             sink.put(b" time=");
             put_hex(sink, time.to_be_bytes());
         }
+        put_max(sink, &self.fields());
         sink.put(b"\n");
     }
 }
 
-/// `nego flags=H domain=N work=N`, the names as bytes also where UNICODE is set.
+/// `nego flags=H domain=N work=N`, the names as bytes also where UNICODE is set, and
+/// ` max=`.
 impl Line for Negotiate<'_> {
     fn length_limit(&self) -> usize {
         limit_with([self.domain, self.workstation])
@@ -154,6 +159,7 @@ impl Line for Negotiate<'_> {
         put_name(sink, CharacterSet::Oem, self.domain.bytes);
         sink.put(b" work=");
         put_name(sink, CharacterSet::Oem, self.workstation.bytes);
+        put_max(sink, &self.fields());
         sink.put(b"\n");
     }
 }
@@ -194,6 +200,15 @@ impl Line for Refusal {
         sink.put(b" at=");
         put_decimal(sink, self.place);
         sink.put(b"\n");
+    }
+}
+
+/// "A last word `max=` with a digit for each field in order: 1 where a field that
+/// counts has MaxLen unlike Len, else 0."
+fn put_max<S: Sink>(sink: &mut S, fields: &[Field<'_>]) {
+    sink.put(b" max=");
+    for field in fields {
+        sink.put_byte(b'0' + u8::from(field.max_len_differs()));
     }
 }
 

@@ -51,22 +51,29 @@ pub(crate) fn open<const FIXED: usize>(
     Ok(fixed)
 }
 
-/// A field's place in its message and its own bytes. "An empty field's offset
-/// is ignored and its place is 0."
+/// A field's place in its message, its own bytes and its MaxLen. "An empty
+/// field's offset is ignored and its place is 0."
 #[derive(Clone, Copy, Debug, Default, PartialEq, Eq)]
 pub struct Field<'a> {
     /// Where the field begins, from the start of the message.
     pub place: usize,
     /// The field's bytes.
     pub bytes: &'a [u8],
+    /// MaxLen as the head has it, also of an empty field; "0 where the field
+    /// doesn't count".
+    pub max_len: u16,
 }
 
 /// "Each field's place and bytes": the `len` bytes of `message` from `offset`
 /// on. Where the message doesn't reach so far it is no field of it: refused 6,
 /// with no field's number.
 pub fn field_bytes(message: &[u8], offset: u32, len: u16) -> Result<&[u8], Refusal> {
-    Head { len, offset }
-        .slice_of(message)
+    let head = Head {
+        len,
+        max_len: 0,
+        offset,
+    };
+    head.slice_of(message)
         .map(|field| field.bytes)
         .ok_or(Reason::FieldPastEnd.of_message())
 }
@@ -80,6 +87,12 @@ impl Field<'_> {
     /// The place after the field. A located field ends inside its message.
     const fn end(&self) -> usize {
         self.place.saturating_add(self.bytes.len())
+    }
+
+    /// "1 where a field that counts has MaxLen unlike Len": one that doesn't count
+    /// has neither.
+    pub(crate) const fn max_len_differs(&self) -> bool {
+        self.max_len as usize != self.bytes.len()
     }
 
     /// Whether both fields hold one byte of the message.
@@ -108,10 +121,12 @@ impl Field<'_> {
 }
 
 /// "A field head is Len (2 bytes), MaxLen (2), offset (4) from the start of
-/// the message. MaxLen is never looked at when reading."
+/// the message." No check looks at MaxLen; since request 9/12 "the record of a
+/// field .. holds MaxLen as well".
 #[derive(Clone, Copy, Default)]
 pub(crate) struct Head {
     pub(crate) len: u16,
+    max_len: u16,
     pub(crate) offset: u32,
 }
 
@@ -122,9 +137,10 @@ pub(crate) fn head_of<const N: usize>(heads: [Head; N], field: u8) -> Option<Hea
 
 impl Head {
     pub(crate) fn read<const AT: usize, const FIXED: usize>(fixed: &[u8; FIXED]) -> Self {
-        let [len_low, len_high, _, _, offset @ ..] = part::<AT, 8, FIXED>(fixed);
+        let [len_low, len_high, max_low, max_high, offset @ ..] = part::<AT, 8, FIXED>(fixed);
         Self {
             len: u16::from_le_bytes([len_low, len_high]),
+            max_len: u16::from_le_bytes([max_low, max_high]),
             offset: u32::from_le_bytes(offset),
         }
     }
@@ -134,14 +150,21 @@ impl Head {
         if counts {
             self
         } else {
-            Self { len: 0, offset: 0 }
+            Self {
+                len: 0,
+                max_len: 0,
+                offset: 0,
+            }
         }
     }
 
     /// Check 6, "a nonempty field ends past the message"; otherwise the field.
     fn locate(self, message: &[u8], field: u8) -> Result<Field<'_>, Refusal> {
         if self.len == 0 {
-            return Ok(Field::default());
+            return Ok(Field {
+                max_len: self.max_len,
+                ..Field::default()
+            });
         }
         self.slice_of(message)
             .ok_or(Reason::FieldPastEnd.of_field(field))
@@ -152,7 +175,11 @@ impl Head {
         let place = usize::try_from(self.offset).ok()?;
         let end = place.checked_add(usize::from(self.len))?;
         let bytes = message.get(place..end)?;
-        Some(Field { place, bytes })
+        Some(Field {
+            place,
+            bytes,
+            max_len: self.max_len,
+        })
     }
 }
 

@@ -9,7 +9,7 @@ use reader::{
 };
 
 const P1_LINE: &str =
-    "auth flags=00000201 set=U domain= user=box7 work= lm=0 nt=24 key=0 mic=1 kind=v1\n";
+    "auth flags=00000201 set=U domain= user=box7 work= lm=0 nt=24 key=0 mic=1 kind=v1 max=000000\n";
 
 #[test]
 fn p1_prints_its_line_whole() {
@@ -49,7 +49,7 @@ fn p3_user_in_the_fixed_part_or_right_after_it() {
     assert_eq!(
         line(ntlm_line, &message),
         "auth flags=00000201 set=U domain= user=\\u0000\\u0000\\u0000\\u0000 work= \
-         lm=0 nt=24 key=0 mic=0 kind=v1\n"
+         lm=0 nt=24 key=0 mic=0 kind=v1 max=000000\n"
     );
 }
 
@@ -65,7 +65,7 @@ fn p5_an_empty_user_at_any_offset() {
     assert_eq!(Authenticate::read(&message).unwrap().user.place, 0);
     assert_eq!(
         line(ntlm_line, &message),
-        "auth flags=00000201 set=U domain= user= work= lm=0 nt=24 key=0 mic=1 kind=v1\n"
+        "auth flags=00000201 set=U domain= user= work= lm=0 nt=24 key=0 mic=1 kind=v1 max=000000\n"
     );
 }
 

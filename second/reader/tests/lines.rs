@@ -23,7 +23,7 @@ fn every_word_of_an_auth_line() {
         .0;
     assert_eq!(
         line(authenticate_line, &message),
-        "auth flags=4A0B0C01 set=U domain=DOM user=me work=W lm=24 nt=60 key=16 mic=1 kind=v2\n"
+        "auth flags=4A0B0C01 set=U domain=DOM user=me work=W lm=24 nt=60 key=16 mic=1 kind=v2 max=000000\n"
     );
 }
 
@@ -41,7 +41,7 @@ fn kind_goes_by_the_nt_response_length() {
         assert_eq!(
             line(ntlm_line, &message),
             format!(
-                "auth flags=00000002 set=O domain= user= work= lm=0 nt={len} key=0 mic=1 kind={kind}\n"
+                "auth flags=00000002 set=O domain= user= work= lm=0 nt={len} key=0 mic=1 kind={kind} max=000000\n"
             )
         );
     }
@@ -54,23 +54,23 @@ fn every_word_of_a_chal_line() {
     let flags = UNICODE | REQUEST_TARGET | TARGET_INFO;
     assert_eq!(
         line(challenge_line, &challenge(flags, &utf16("SRV"), &info)),
-        "chal flags=00800005 set=U target=SRV pairs=4 time=01DD750F3F7F2C5C\n"
+        "chal flags=00800005 set=U target=SRV pairs=4 time=01DD750F3F7F2C5C max=00\n"
     );
     assert_eq!(
         line(challenge_line, &challenge(flags, b"", &list(&[]))),
-        "chal flags=00800005 set=U target= pairs=0\n"
+        "chal flags=00800005 set=U target= pairs=0 max=00\n"
     );
     assert_eq!(
         line(
             challenge_line,
             &challenge(OEM | REQUEST_TARGET, b"S V", &info)
         ),
-        "chal flags=00000006 set=O target=S\\x20V pairs=0\n"
+        "chal flags=00000006 set=O target=S\\x20V pairs=0 max=00\n"
     );
     let zero = list(&[(7, &[0; 8])]);
     assert_eq!(
         line(challenge_line, &challenge(OEM | TARGET_INFO, b"", &zero)),
-        "chal flags=00800002 set=O target= pairs=1 time=0000000000000000\n"
+        "chal flags=00800002 set=O target= pairs=1 time=0000000000000000 max=00\n"
     );
 }
 
@@ -80,16 +80,16 @@ fn every_word_of_a_nego_line() {
     for call in [negotiate_line, ntlm_line] {
         assert_eq!(
             line(call, &negotiate(OEM | both, b"CLIGRP", b"BOX 7")),
-            "nego flags=00003002 domain=CLIGRP work=BOX\\x207\n"
+            "nego flags=00003002 domain=CLIGRP work=BOX\\x207 max=00\n"
         );
         // Bytes also where UNICODE is set, of odd length too.
         assert_eq!(
             line(call, &negotiate(UNICODE | both, b"D\0\\", b"\xE9!~\x7F")),
-            "nego flags=00003001 domain=D\\x00\\x5C work=\\xE9!~\\x7F\n"
+            "nego flags=00003001 domain=D\\x00\\x5C work=\\xE9!~\\x7F max=00\n"
         );
         assert_eq!(
             line(call, &negotiate(!both, b"DOM", b"BOX")),
-            "nego flags=FFFFCFFF domain= work=\n"
+            "nego flags=FFFFCFFF domain= work= max=00\n"
         );
         assert_eq!(
             line(call, &negotiate(both, b"DOM", b"BOX")),
@@ -134,7 +134,9 @@ fn every_byte_in_a_name() {
             let flags = set | OEM_DOMAIN | OEM_WORK;
             assert_eq!(
                 line(ntlm_line, &negotiate(flags, &[byte], &[byte, byte])),
-                format!("nego flags={flags:08X} domain={expected} work={expected}{expected}\n")
+                format!(
+                    "nego flags={flags:08X} domain={expected} work={expected}{expected} max=00\n"
+                )
             );
         }
     }
@@ -195,13 +197,13 @@ fn the_ntlm_program_chooses_by_the_type() {
     let message = challenge(OEM, b"", b"");
     assert_eq!(
         line(ntlm_line, &message[..48]),
-        "chal flags=00000002 set=O target= pairs=0\n"
+        "chal flags=00000002 set=O target= pairs=0 max=00\n"
     );
     // 32 suffice for a NEGOTIATE only, and 12 to be read as one.
     let nego = negotiate(OEM, b"", b"");
     assert_eq!(
         line(ntlm_line, &nego[..32]),
-        "nego flags=00000002 domain= work=\n"
+        "nego flags=00000002 domain= work= max=00\n"
     );
     let mut unsigned = nego.clone();
     unsigned[0] = b'?';
@@ -269,7 +271,7 @@ fn a_program_prints_lines_up_to_65536_bytes() {
     let fits = message_with_line_of(65_536);
     let printed = Program::Ntlm.line(&fits, &mut room).to_vec();
     assert_eq!(printed.len(), 65_536);
-    assert!(printed.ends_with(b" kind=none\n"));
+    assert!(printed.ends_with(b" kind=none max=000000\n"));
     assert_eq!(printed, line(ntlm_line, &fits).into_bytes());
 
     let passes = message_with_line_of(65_537);

@@ -444,13 +444,14 @@ fn a_challenge_reads_as_its_fields() {
     assert_eq!(read.pairs.computer.unwrap().value, utf16("SRV"));
 }
 
+/// What MaxLen changes is in max_len.rs.
 #[test]
-fn max_len_and_ignored_bytes_change_nothing() {
+fn ignored_bytes_change_nothing() {
     let flags = UNICODE | REQUEST_TARGET | TARGET_INFO;
     let message = challenge(flags, &utf16("SRV"), &list(&[(8, b"x")]));
     let read = Challenge::read(&message).unwrap();
     let mut other = message.clone();
-    for at in (14..16).chain(32..40).chain(42..44).chain(48..56) {
+    for at in (32..40).chain(48..56) {
         other[at] ^= 0x5A;
     }
     assert_eq!(Challenge::read(&other), Ok(read));
@@ -458,18 +459,14 @@ fn max_len_and_ignored_bytes_change_nothing() {
     let message = negotiate(BOTH, b"DOM", b"BOX");
     let read = Negotiate::read(&message).unwrap();
     let mut other = message.clone();
-    for at in (18..20).chain(26..28).chain(32..40) {
-        other[at] ^= 0x5A;
+    for byte in &mut other[32..40] {
+        *byte ^= 0x5A;
     }
     assert_eq!(Negotiate::read(&other), Ok(read));
 
     let message = p1();
     let read = Authenticate::read(&message).unwrap();
     let mut other = message.clone();
-    for head in HEADS {
-        other[head + 2] ^= 0x5A;
-        other[head + 3] ^= 0x5A;
-    }
     for byte in &mut other[64..72] {
         *byte = 0x5A;
     }

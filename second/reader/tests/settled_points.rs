@@ -356,7 +356,7 @@ fn point_22_the_time_word() {
     let message = challenge(OEM | TARGET_INFO, b"", &info);
     assert_eq!(
         line(challenge_line, &message),
-        "chal flags=00800002 set=O target= pairs=2 time=F807060504030201\n"
+        "chal flags=00800002 set=O target= pairs=2 time=F807060504030201 max=00\n"
     );
 }
 

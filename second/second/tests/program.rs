@@ -4,7 +4,7 @@ use std::io::Write;
 use std::process::{Command, Output, Stdio};
 
 const P1_LINE: &str =
-    "auth flags=00000201 set=U domain= user=box7 work= lm=0 nt=24 key=0 mic=1 kind=v1\n";
+    "auth flags=00000201 set=U domain= user=box7 work= lm=0 nt=24 key=0 mic=1 kind=v1 max=000000\n";
 
 const P1_HEX: &str = "4E544C4D535350000300000000000000600000001800180060000000\
      0000000058000000080008005800000000000000600000000000000078000000\
@@ -55,7 +55,7 @@ fn ntlm_chooses_the_challenge_reader() {
     message[20] = 2;
     assert_eq!(
         printed(&["ntlm"], &message),
-        "chal flags=00000002 set=O target= pairs=0\n"
+        "chal flags=00000002 set=O target= pairs=0 max=00\n"
     );
 }
 
@@ -66,7 +66,7 @@ fn ntlm_chooses_the_negotiate_reader() {
     message.extend(b"D\\");
     assert_eq!(
         printed(&["ntlm"], &message),
-        "nego flags=00001001 domain=D\\x5C work=\n"
+        "nego flags=00001001 domain=D\\x5C work= max=00\n"
     );
 }
 

@@ -280,8 +280,8 @@ impl Call<'_> {
     /// How many numbers it gives.
     pub const fn numbers(&self) -> usize {
         match self {
-            Self::ReadAuthenticate { .. } => 14,
-            Self::ReadChallenge { .. } | Self::ReadNegotiate { .. } => 5,
+            Self::ReadAuthenticate { .. } => 20,
+            Self::ReadChallenge { .. } | Self::ReadNegotiate { .. } => 7,
             Self::ReadTimestamp { .. } | Self::ReadServerNames { .. } => 2,
             Self::ReadNlAuth { .. } => 15,
             Self::CountPairs { .. } => 1,

@@ -79,7 +79,7 @@ fn mutated(random: &mut Random, mut message: Vec<u8>) -> Vec<u8> {
     message
 }
 
-/// A head's length or offset, or both, at a boundary.
+/// A head's length or offset, or both, at a boundary; or its MaxLen.
 fn boundary_head(random: &mut Random, message: &mut [u8]) {
     let total = message.len();
     let head = random.pick(&head_places());
@@ -87,7 +87,12 @@ fn boundary_head(random: &mut Random, message: &mut [u8]) {
         return;
     };
     let mut len = u16::from_le_bytes([bytes[0], bytes[1]]);
-    let change = random.below(3);
+    let change = random.below(4);
+    if change == 3 {
+        let max_len = random.pick(&[0, 1, len ^ 1, len ^ 0x100, 0xFFFF]);
+        bytes[2..4].copy_from_slice(&max_len.to_le_bytes());
+        return;
+    }
     if change != 0 {
         len = boundary_len(random, total);
         bytes[..2].copy_from_slice(&len.to_le_bytes());

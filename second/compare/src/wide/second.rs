@@ -248,10 +248,14 @@ fn put(numbers: &mut [u64], values: &[u64]) {
     numbers[..values.len()].copy_from_slice(values);
 }
 
-/// Each field's offset and length.
+/// Each field's offset and length, then each field's MaxLen.
 fn put_fields(numbers: &mut [u64], fields: &[Field<'_>]) {
     for (numbers, field) in numbers.chunks_exact_mut(2).zip(fields) {
         put(numbers, &[field.place as u64, field.bytes.len() as u64]);
+    }
+    let last = &mut numbers[2 * fields.len()..];
+    for (number, field) in last.iter_mut().zip(fields) {
+        *number = u64::from(field.max_len);
     }
 }
 

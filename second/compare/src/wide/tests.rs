@@ -1,5 +1,6 @@
 mod dns_names;
 mod explain;
+mod max_len;
 mod night;
 mod response_pairs;
 
@@ -300,8 +301,8 @@ fn a_short_array_that_is_read_for_is_found() {
         "DIFFERENT",
         "read_challenge",
         |call, out, numbers| match call {
-            Call::ReadChallenge { .. } if numbers.len() < 5 => {
-                let answer = second(call, &mut [0; 8], &mut [0; 5]);
+            Call::ReadChallenge { .. } if numbers.len() < 7 => {
+                let answer = second(call, &mut [0; 8], &mut [0; 7]);
                 if refusal(answer).is_some() {
                     answer
                 } else {
