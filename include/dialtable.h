@@ -134,7 +134,8 @@ enum {
 #define DIALTABLE_MIC_AT 72
 
 /* ---- Reading. A field that is empty or doesn't count has length 0 and offset 0. Offsets are from the message's
- * start. */
+ * start. MAX_LEN is what stands in the field's head beside its length, also for an empty field, and 0 for one that
+ * doesn't count; nothing is decided by it. */
 
 enum {
     DIALTABLE_AUTHENTICATE_FLAGS,
@@ -151,6 +152,12 @@ enum {
     DIALTABLE_AUTHENTICATE_WORKSTATION_LEN,
     DIALTABLE_AUTHENTICATE_KEY_OFFSET,
     DIALTABLE_AUTHENTICATE_KEY_LEN,
+    DIALTABLE_AUTHENTICATE_LM_MAX_LEN,
+    DIALTABLE_AUTHENTICATE_NT_MAX_LEN,
+    DIALTABLE_AUTHENTICATE_DOMAIN_MAX_LEN,
+    DIALTABLE_AUTHENTICATE_USER_MAX_LEN,
+    DIALTABLE_AUTHENTICATE_WORKSTATION_MAX_LEN,
+    DIALTABLE_AUTHENTICATE_KEY_MAX_LEN,
     DIALTABLE_AUTHENTICATE_NUMBERS
 };
 /* 16 bytes of mic: the MIC, or zeros where there is none. Answers 0. */
@@ -163,6 +170,8 @@ enum {
     DIALTABLE_CHALLENGE_TARGET_NAME_LEN,
     DIALTABLE_CHALLENGE_TARGET_INFO_OFFSET,
     DIALTABLE_CHALLENGE_TARGET_INFO_LEN,
+    DIALTABLE_CHALLENGE_TARGET_NAME_MAX_LEN,
+    DIALTABLE_CHALLENGE_TARGET_INFO_MAX_LEN,
     DIALTABLE_CHALLENGE_NUMBERS
 };
 /* 8 bytes of server_challenge. Answers 0. */
@@ -194,6 +203,8 @@ enum {
     DIALTABLE_NEGOTIATE_DOMAIN_LEN,
     DIALTABLE_NEGOTIATE_WORKSTATION_OFFSET, /* counts with WORKSTATION_SUPPLIED only */
     DIALTABLE_NEGOTIATE_WORKSTATION_LEN,
+    DIALTABLE_NEGOTIATE_DOMAIN_MAX_LEN,
+    DIALTABLE_NEGOTIATE_WORKSTATION_MAX_LEN,
     DIALTABLE_NEGOTIATE_NUMBERS
 };
 /* Answers 0. */
@@ -289,7 +300,8 @@ uint64_t dialtable_next_pair(const uint8_t *list, dialtable_len list_len, dialta
 /* ---- Log lines, each with its 0A at the end. A refused message has a line too, 'refused NUMBER field=FIELD at=PLACE'.
  * Answers the line's length, or 33. Room: 128 bytes, and four for each byte of the names, always suffice; for an
  * NL_AUTH's C, D and E, which may jump, it is DIALTABLE_NL_AUTH_NAME_ROOM each. mic=1 tells that bytes 72 to 87 are a
- * MIC's, and not what they are: it is shown for sixteen zeros too. */
+ * MIC's, and not what they are: it is shown for sixteen zeros too. The last word of an NTLM message's line is max= with
+ * a digit for each field in the order of their numbers: 1 where the field counts and its MaxLen is not its length. */
 
 uint64_t dialtable_authenticate_line(const uint8_t *msg, dialtable_len msg_len, uint8_t *out, dialtable_len out_len);
 uint64_t dialtable_challenge_line(const uint8_t *msg, dialtable_len msg_len, uint8_t *out, dialtable_len out_len);

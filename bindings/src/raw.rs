@@ -7,15 +7,15 @@
 //! library touches only what it is lent.
 
 /// How many numbers [`read_authenticate`] gives.
-pub const AUTHENTICATE_NUMBERS: usize = 14;
+pub const AUTHENTICATE_NUMBERS: usize = 20;
 /// How many numbers [`read_challenge`] gives.
-pub const CHALLENGE_NUMBERS: usize = 5;
+pub const CHALLENGE_NUMBERS: usize = 7;
 /// How many numbers [`read_timestamp`] gives.
 pub const TIMESTAMP_NUMBERS: usize = 2;
 /// How many numbers [`read_server_names`] gives.
 pub const SERVER_NAMES_NUMBERS: usize = 2;
 /// How many numbers [`read_negotiate`] gives.
-pub const NEGOTIATE_NUMBERS: usize = 5;
+pub const NEGOTIATE_NUMBERS: usize = 7;
 /// How many numbers [`read_nl_auth`] gives.
 pub const NL_AUTH_NUMBERS: usize = 15;
 /// How many numbers [`count_pairs`] gives.

@@ -2,22 +2,26 @@
 
 use crate::{raw, Refusal};
 
-/// Where a field stands in its message. One that is empty or doesn't count has
-/// length 0 at offset 0.
+/// Where a field stands in its message, and its MaxLen. One that is empty or
+/// doesn't count has length 0 at offset 0.
 #[derive(Clone, Copy, Debug, Default, PartialEq, Eq, Hash)]
 pub struct Field {
     /// From the start of the message.
     pub offset: u32,
     /// How many bytes.
     pub len: u16,
+    /// MaxLen as the field's head has it, also of an empty field; 0 of one that
+    /// doesn't count. Nothing is decided by it.
+    pub max_len: u16,
 }
 
 impl Field {
     /// The library's numbers for a field are inside a message of 65,535 bytes.
-    const fn of(offset: u64, len: u64) -> Self {
+    const fn of(offset: u64, len: u64, max_len: u64) -> Self {
         Self {
             offset: offset as u32,
             len: len as u16,
+            max_len: max_len as u16,
         }
     }
 
@@ -69,16 +73,18 @@ pub fn read_authenticate(message: &[u8]) -> Result<Authenticate, Refusal> {
     Refusal::check(raw::read_authenticate(message, &mut numbers, &mut mic))?;
     let [flags, mic_present, fields @ ..] = numbers;
     let [lm_offset, lm_len, nt_offset, nt_len, domain_offset, domain_len, names @ ..] = fields;
-    let [user_offset, user_len, workstation_offset, workstation_len, key_offset, key_len] = names;
+    let [user_offset, user_len, workstation_offset, workstation_len, key_offset, key_len, max_lens @ ..] =
+        names;
+    let [lm_max, nt_max, domain_max, user_max, workstation_max, key_max] = max_lens;
     Ok(Authenticate {
         flags: flags as u32,
         mic: (mic_present != 0).then_some(mic),
-        lm: Field::of(lm_offset, lm_len),
-        nt: Field::of(nt_offset, nt_len),
-        domain: Field::of(domain_offset, domain_len),
-        user: Field::of(user_offset, user_len),
-        workstation: Field::of(workstation_offset, workstation_len),
-        key: Field::of(key_offset, key_len),
+        lm: Field::of(lm_offset, lm_len, lm_max),
+        nt: Field::of(nt_offset, nt_len, nt_max),
+        domain: Field::of(domain_offset, domain_len, domain_max),
+        user: Field::of(user_offset, user_len, user_max),
+        workstation: Field::of(workstation_offset, workstation_len, workstation_max),
+        key: Field::of(key_offset, key_len, key_max),
     })
 }
 
@@ -101,12 +107,12 @@ pub fn read_challenge(message: &[u8]) -> Result<Challenge, Refusal> {
     let mut server_challenge = [0; 8];
     let answer = raw::read_challenge(message, &mut numbers, &mut server_challenge);
     Refusal::check(answer)?;
-    let [flags, name_offset, name_len, info_offset, info_len] = numbers;
+    let [flags, name_offset, name_len, info_offset, info_len, name_max, info_max] = numbers;
     Ok(Challenge {
         flags: flags as u32,
         server_challenge,
-        target_name: Field::of(name_offset, name_len),
-        target_info: Field::of(info_offset, info_len),
+        target_name: Field::of(name_offset, name_len, name_max),
+        target_info: Field::of(info_offset, info_len, info_max),
     })
 }
 
@@ -153,11 +159,13 @@ pub struct Negotiate {
 pub fn read_negotiate(message: &[u8]) -> Result<Negotiate, Refusal> {
     let mut numbers = [0; raw::NEGOTIATE_NUMBERS];
     Refusal::check(raw::read_negotiate(message, &mut numbers))?;
-    let [flags, domain_offset, domain_len, workstation_offset, workstation_len] = numbers;
+    let [flags, domain_offset, domain_len, workstation_offset, workstation_len, max_lens @ ..] =
+        numbers;
+    let [domain_max, workstation_max] = max_lens;
     Ok(Negotiate {
         flags: flags as u32,
-        domain: Field::of(domain_offset, domain_len),
-        workstation: Field::of(workstation_offset, workstation_len),
+        domain: Field::of(domain_offset, domain_len, domain_max),
+        workstation: Field::of(workstation_offset, workstation_len, workstation_max),
     })
 }
 
@@ -199,6 +207,7 @@ impl NlAuthString {
         Field {
             offset: self.offset,
             len: self.len,
+            max_len: 0,
         }
     }
 }

@@ -60,6 +60,15 @@ fn refusal_at<T: std::fmt::Debug>(answer: Result<T, Refusal>) -> (u8, u8, usize)
     (refusal.number(), refusal.field, refusal.place)
 }
 
+/// A field whose MaxLen is its length.
+const fn field(offset: u32, len: u16) -> Field {
+    Field {
+        offset,
+        len,
+        max_len: len,
+    }
+}
+
 fn parts() -> Parts<'static> {
     Parts {
         version: *b"\x0A\0\x61\x4A\0\0\0\x0F",
@@ -79,15 +88,9 @@ fn p1_is_read() {
     let read = read_authenticate(&message).expect("taken");
     assert_eq!(read.flags, 0x201);
     assert_eq!(read.mic, Some([0; 16]));
-    assert_eq!(read.user, Field { offset: 88, len: 8 });
+    assert_eq!(read.user, field(88, 8));
     assert_eq!(read.user.bytes(&message), b"b\0o\0x\x007\0");
-    assert_eq!(
-        read.nt,
-        Field {
-            offset: 96,
-            len: 24
-        }
-    );
+    assert_eq!(read.nt, field(96, 24));
     assert_eq!(read.nt.bytes(&message), [0xAA; 24]);
     for empty in [read.lm, read.domain, read.workstation, read.key] {
         assert!(empty.is_empty());
@@ -157,20 +160,8 @@ fn a_challenge_is_read() {
     let read = read_challenge(&message).expect("taken");
     assert_eq!(read.flags, 0x628A_8215);
     assert_eq!(read.server_challenge, *b"\x04\xDF\xF4\x36\x3C\xBB\x53\x2E");
-    assert_eq!(
-        read.target_name,
-        Field {
-            offset: 56,
-            len: 14
-        }
-    );
-    assert_eq!(
-        read.target_info,
-        Field {
-            offset: 70,
-            len: 64
-        }
-    );
+    assert_eq!(read.target_name, field(56, 14));
+    assert_eq!(read.target_info, field(70, 64));
     assert_eq!(read_timestamp(&message), Ok(Some(TIME)));
     assert_eq!(read_timestamp(&no_timestamp()), Ok(None));
     let both = ServerNames {
@@ -255,9 +246,9 @@ fn a_negotiate_is_read() {
     let message = negotiate();
     let read = read_negotiate(&message).expect("taken");
     assert_eq!(read.flags, 0xA208_B207);
-    assert_eq!(read.domain, Field { offset: 40, len: 7 });
+    assert_eq!(read.domain, field(40, 7));
     assert_eq!(read.domain.bytes(&message), b"LINE 31");
-    assert_eq!(read.workstation, Field { offset: 47, len: 5 });
+    assert_eq!(read.workstation, field(47, 5));
     assert_eq!(read.workstation.bytes(&message), b"box\\\xFC");
     // Without their bits the names don't count.
     let mut bare = message.clone();
@@ -286,6 +277,50 @@ fn changes_to_a_negotiate_are_refused_by_number_and_field() {
     assert!(with(28, &[32]).is_ok());
     assert_eq!(refusal(read_negotiate(&negotiate()[..31])), (2, 0));
     assert_eq!(refusal(read_negotiate(&vec![0; 65_536])), (1, 0));
+}
+
+/// A message with another MaxLen in the head at a place.
+fn with_max_len(mut message: Vec<u8>, head: usize, max_len: u16) -> Vec<u8> {
+    message[head + 2..head + 4].copy_from_slice(&max_len.to_le_bytes());
+    message
+}
+
+#[test]
+fn max_len_is_kept_and_told() {
+    let mut room = [0; 200];
+    let message = with_max_len(p1(), 36, 0x8005);
+    let read = read_authenticate(&message).expect("taken");
+    let user = Field {
+        max_len: 0x8005,
+        ..field(88, 8)
+    };
+    assert_eq!(read.user, user);
+    assert_eq!(read.user.bytes(&message), b"b\0o\0x\x007\0");
+    let line = authenticate_line(&message, &mut room).expect("room");
+    assert!(line.ends_with(b" kind=v1 max=000100\n"));
+    // An empty field that counts, and a key that doesn't.
+    let message = with_max_len(with_max_len(p1(), 12, 5), 52, 5);
+    let read = read_authenticate(&message).expect("taken");
+    let empty = Field {
+        max_len: 5,
+        ..Field::default()
+    };
+    assert_eq!((read.lm, read.key), (empty, Field::default()));
+    assert!(read.lm.is_empty());
+    let line = ntlm_line(&message, &mut room).expect("room");
+    assert!(line.ends_with(b" max=100000\n"));
+
+    let message = with_max_len(challenge(), 40, 63);
+    let info = read_challenge(&message).expect("taken").target_info;
+    assert_eq!((info.len, info.max_len), (64, 63));
+    let line = challenge_line(&message, &mut room).expect("room");
+    assert!(line.ends_with(b" time=01DD750F3F7F2C5C max=01\n"));
+
+    let message = with_max_len(negotiate(), 16, 0);
+    let domain = read_negotiate(&message).expect("taken").domain;
+    assert_eq!((domain.len, domain.max_len), (7, 0));
+    let line = negotiate_line(&message, &mut room).expect("room");
+    assert!(line.ends_with(b" max=10\n"));
 }
 
 #[test]

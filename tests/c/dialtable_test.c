@@ -96,7 +96,7 @@ static void reads_authenticate(const message_t *p1)
     memset(mic, FILL, sizeof mic);
     EQUAL(p1->len, 120);
     EQUAL(dialtable_read_authenticate(p1->bytes, p1->len, numbers, DIALTABLE_AUTHENTICATE_NUMBERS, mic, 16), 0);
-    EQUAL(DIALTABLE_AUTHENTICATE_NUMBERS, 14);
+    EQUAL(DIALTABLE_AUTHENTICATE_NUMBERS, 20);
     EQUAL(numbers[DIALTABLE_AUTHENTICATE_FLAGS], 0x201);
     EQUAL(numbers[DIALTABLE_AUTHENTICATE_MIC_PRESENT], 1);
     EQUAL(numbers[DIALTABLE_AUTHENTICATE_LM_OFFSET], 0);
@@ -111,6 +111,12 @@ static void reads_authenticate(const message_t *p1)
     EQUAL(numbers[DIALTABLE_AUTHENTICATE_WORKSTATION_LEN], 0);
     EQUAL(numbers[DIALTABLE_AUTHENTICATE_KEY_OFFSET], 0);
     EQUAL(numbers[DIALTABLE_AUTHENTICATE_KEY_LEN], 0);
+    EQUAL(numbers[DIALTABLE_AUTHENTICATE_LM_MAX_LEN], 0);
+    EQUAL(numbers[DIALTABLE_AUTHENTICATE_NT_MAX_LEN], 24);
+    EQUAL(numbers[DIALTABLE_AUTHENTICATE_DOMAIN_MAX_LEN], 0);
+    EQUAL(numbers[DIALTABLE_AUTHENTICATE_USER_MAX_LEN], 8);
+    EQUAL(numbers[DIALTABLE_AUTHENTICATE_WORKSTATION_MAX_LEN], 0);
+    EQUAL(numbers[DIALTABLE_AUTHENTICATE_KEY_MAX_LEN], 0);
     EQUAL(numbers[DIALTABLE_AUTHENTICATE_NUMBERS], 77);
     CHECK(memcmp(mic, zeros, 16) == 0);
     EQUAL(mic[16], FILL);
@@ -146,14 +152,14 @@ static void refuses(const message_t *p1)
     message_t other = *p1;
 
     memset(mic, FILL, sizeof mic);
-    CHECK(refused(dialtable_read_authenticate(NULL, 0, numbers, 14, mic, 16), 2, 0));
-    CHECK(refused(dialtable_read_authenticate(NULL, 0, numbers, 13, mic, 16), 33, 0));
-    CHECK(refused(dialtable_read_authenticate(p1->bytes, p1->len, numbers, 14, mic, 15), 33, 0));
+    CHECK(refused(dialtable_read_authenticate(NULL, 0, numbers, 20, mic, 16), 2, 0));
+    CHECK(refused(dialtable_read_authenticate(NULL, 0, numbers, 19, mic, 16), 33, 0));
+    CHECK(refused(dialtable_read_authenticate(p1->bytes, p1->len, numbers, 20, mic, 15), 33, 0));
     CHECK(refused(dialtable_read_authenticate(p1->bytes, p1->len, NULL, 0, NULL, 0), 33, 0));
     other.bytes[40] = 113;
-    CHECK(refused(dialtable_read_authenticate(other.bytes, other.len, numbers, 14, mic, 16), 6, 4));
+    CHECK(refused(dialtable_read_authenticate(other.bytes, other.len, numbers, 20, mic, 16), 6, 4));
     other.bytes[40] = 112;
-    CHECK(refused(dialtable_read_authenticate(other.bytes, other.len, numbers, 14, mic, 16), 9, 4));
+    CHECK(refused(dialtable_read_authenticate(other.bytes, other.len, numbers, 20, mic, 16), 9, 4));
     EQUAL(numbers[0], 7);
     CHECK(untouched(mic, sizeof mic));
 }
@@ -167,12 +173,14 @@ static void reads_challenge(const message_t *challenge)
     memset(server_challenge, FILL, sizeof server_challenge);
     EQUAL(dialtable_read_challenge(challenge->bytes, challenge->len, numbers, DIALTABLE_CHALLENGE_NUMBERS,
                                    server_challenge, 8), 0);
-    EQUAL(DIALTABLE_CHALLENGE_NUMBERS, 5);
+    EQUAL(DIALTABLE_CHALLENGE_NUMBERS, 7);
     EQUAL(numbers[DIALTABLE_CHALLENGE_FLAGS], 0x628A8215u);
     EQUAL(numbers[DIALTABLE_CHALLENGE_TARGET_NAME_OFFSET], 56);
     EQUAL(numbers[DIALTABLE_CHALLENGE_TARGET_NAME_LEN], 14);
     EQUAL(numbers[DIALTABLE_CHALLENGE_TARGET_INFO_OFFSET], 70);
     EQUAL(numbers[DIALTABLE_CHALLENGE_TARGET_INFO_LEN], 64);
+    EQUAL(numbers[DIALTABLE_CHALLENGE_TARGET_NAME_MAX_LEN], 14);
+    EQUAL(numbers[DIALTABLE_CHALLENGE_TARGET_INFO_MAX_LEN], 64);
     CHECK(memcmp(server_challenge, expected, 8) == 0);
     EQUAL(server_challenge[8], FILL);
 
@@ -203,12 +211,14 @@ static void reads_negotiate(void)
     numbers[DIALTABLE_NEGOTIATE_NUMBERS] = 77;
     EQUAL(NEGO_LEN, 52);
     EQUAL(dialtable_read_negotiate(nego, NEGO_LEN, numbers, DIALTABLE_NEGOTIATE_NUMBERS), 0);
-    EQUAL(DIALTABLE_NEGOTIATE_NUMBERS, 5);
+    EQUAL(DIALTABLE_NEGOTIATE_NUMBERS, 7);
     EQUAL(numbers[DIALTABLE_NEGOTIATE_FLAGS], 0xA208B207u);
     EQUAL(numbers[DIALTABLE_NEGOTIATE_DOMAIN_OFFSET], 40);
     EQUAL(numbers[DIALTABLE_NEGOTIATE_DOMAIN_LEN], 7);
     EQUAL(numbers[DIALTABLE_NEGOTIATE_WORKSTATION_OFFSET], 47);
     EQUAL(numbers[DIALTABLE_NEGOTIATE_WORKSTATION_LEN], 5);
+    EQUAL(numbers[DIALTABLE_NEGOTIATE_DOMAIN_MAX_LEN], 7);
+    EQUAL(numbers[DIALTABLE_NEGOTIATE_WORKSTATION_MAX_LEN], 5);
     EQUAL(numbers[DIALTABLE_NEGOTIATE_NUMBERS], 77);
 
     /* Without its bit a domain doesn't count; an empty workstation's offset is ignored. */
@@ -221,18 +231,61 @@ static void reads_negotiate(void)
     EQUAL(numbers[DIALTABLE_NEGOTIATE_DOMAIN_LEN], 0);
     EQUAL(numbers[DIALTABLE_NEGOTIATE_WORKSTATION_OFFSET], 0);
     EQUAL(numbers[DIALTABLE_NEGOTIATE_WORKSTATION_LEN], 0);
+    EQUAL(numbers[DIALTABLE_NEGOTIATE_DOMAIN_MAX_LEN], 0);
+    EQUAL(numbers[DIALTABLE_NEGOTIATE_WORKSTATION_MAX_LEN], 5);
 
     /* Refused: nothing changes, and an array that is too short comes before the message. */
     numbers[0] = 7;
-    CHECK(refused(dialtable_read_negotiate(nego, NEGO_LEN - 1, numbers, 5), 6, 2));
-    CHECK(refused(dialtable_read_negotiate(nego, 31, numbers, 5), 2, 0));
-    CHECK(refused(dialtable_read_negotiate(NULL, 0, numbers, 5), 2, 0));
-    CHECK(refused(dialtable_read_negotiate(NULL, 0, numbers, 4), 33, 0));
+    CHECK(refused(dialtable_read_negotiate(nego, NEGO_LEN - 1, numbers, 7), 6, 2));
+    CHECK(refused(dialtable_read_negotiate(nego, 31, numbers, 7), 2, 0));
+    CHECK(refused(dialtable_read_negotiate(NULL, 0, numbers, 7), 2, 0));
+    CHECK(refused(dialtable_read_negotiate(NULL, 0, numbers, 6), 33, 0));
     CHECK(refused(dialtable_read_negotiate(nego, NEGO_LEN, NULL, 0), 33, 0));
     memcpy(other, nego, sizeof other);
     other[20] = 31;
-    CHECK(refused(dialtable_read_negotiate(other, sizeof other, numbers, 5), 7, 1));
+    CHECK(refused(dialtable_read_negotiate(other, sizeof other, numbers, 7), 7, 1));
     EQUAL(numbers[0], 7);
+}
+
+/* Where the heads of a kind of message stand, and where its array has the first MaxLen. */
+static const struct {
+    unsigned fields, heads[6];
+    int max_len;
+} kinds[] = {{2, {16, 24, 0, 0, 0, 0}, DIALTABLE_NEGOTIATE_DOMAIN_MAX_LEN},
+             {2, {12, 40, 0, 0, 0, 0}, DIALTABLE_CHALLENGE_TARGET_NAME_MAX_LEN},
+             {6, {12, 20, 28, 36, 44, 52}, DIALTABLE_AUTHENTICATE_LM_MAX_LEN}};
+
+/* MaxLen unlike Len in one head: its number and its digit tell it, and nothing else changes. */
+static void keeps_max_len(const uint8_t *msg, dialtable_len msg_len)
+{
+    unsigned kind = msg[8] - 1u, i, field;
+    uint64_t before[DIALTABLE_AUTHENTICATE_NUMBERS], numbers[DIALTABLE_AUTHENTICATE_NUMBERS];
+    uint8_t line[256], out[256], bytes[16];
+    uint64_t len = dialtable_ntlm_line(msg, msg_len, line, sizeof line);
+
+#define READ(msg_, numbers_) \
+    (kind == 0   ? dialtable_read_negotiate(msg_, msg_len, numbers_, DIALTABLE_AUTHENTICATE_NUMBERS) \
+     : kind == 1 ? dialtable_read_challenge(msg_, msg_len, numbers_, DIALTABLE_AUTHENTICATE_NUMBERS, bytes, 8) \
+                 : dialtable_read_authenticate(msg_, msg_len, numbers_, DIALTABLE_AUTHENTICATE_NUMBERS, bytes, 16))
+    memset(before, FILL, sizeof before);
+    EQUAL(READ(msg, before), 0);
+    for (field = 0; field < kinds[kind].fields; field++) {
+        message_t other;
+        uint8_t *head = other.bytes + kinds[kind].heads[field];
+        /* The session key of P1 doesn't count. */
+        int counts = !(kind == 2 && field == 5);
+
+        memcpy(other.bytes, msg, msg_len);
+        head[2] ^= 0x05;
+        head[3] ^= 0x80;
+        memset(numbers, FILL, sizeof numbers);
+        EQUAL(READ(other.bytes, numbers), 0);
+        for (i = 0; i < DIALTABLE_AUTHENTICATE_NUMBERS; i++)
+            EQUAL(numbers[i], before[i] ^ (i == kinds[kind].max_len + field && counts ? 0x8005u : 0u));
+        EQUAL(dialtable_ntlm_line(other.bytes, msg_len, out, sizeof out), len);
+        out[len - 1 - kinds[kind].fields + field] ^= (uint8_t)counts;
+        CHECK(memcmp(out, line, len) == 0);
+    }
 }
 
 static void reads_nl_auth(void)
@@ -1090,6 +1143,9 @@ int main(int argc, char **argv)
     refuses(&p1);
     reads_challenge(&challenge);
     reads_negotiate();
+    keeps_max_len(p1.bytes, p1.len);
+    keeps_max_len(challenge.bytes, challenge.len);
+    keeps_max_len(nego, NEGO_LEN);
     reads_nl_auth();
     reads_nl_auth_names();
     reads_pairs(&challenge);

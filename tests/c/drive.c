@@ -27,7 +27,8 @@ static uint32_t draw_32(void)
 /* What is lent to be written: an output, numbers, and the bytes of a MIC or of a server challenge, filled before each
  * call. */
 static uint8_t out[1024], bytes[24];
-static uint64_t numbers[16];
+#define NUMBERS 24
+static uint64_t numbers[NUMBERS];
 static struct dialtable_entry entries[5];
 static uint64_t all = 1469598103934665603u;
 static unsigned long refusals[256];
@@ -202,7 +203,7 @@ int main(void)
         for (i = 0; i < sizeof mic; i++)
             mic[i] = (uint8_t)draw(256);
         room = draw(3) ? sizeof out : draw(300);
-        places = draw(6) ? 16 : draw(16);
+        places = draw(6) ? NUMBERS : draw(NUMBERS);
         bytes_room = draw(6) ? sizeof bytes : draw(20);
         reads(room, places, bytes_room);
         walks(places);

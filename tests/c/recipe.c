@@ -148,7 +148,8 @@ int main(int argc, char **argv)
     CHECK(first_sent_len == 40 && memcmp(first_sent, "NTLMSSP\0" "\1", 9) == 0);
     CHECK(radio.time == SERVER_TIME && radio.flags == DIALTABLE_PAIR_FLAG_MIC);
     CHECK(sent_len == 88 + 14 + 8 + 24 + 60 + 16 && memcmp(sent + DIALTABLE_MIC_AT, mic, 16) == 0);
-    CHECK(strcmp(logged, "auth flags=628A8215 set=U domain=PEERSRV user=box7 work= lm=24 nt=60 key=16 mic=1 kind=v2 max=000000\n")
+    CHECK(strcmp(logged, "auth flags=628A8215 set=U domain=PEERSRV user=box7 work= lm=24 nt=60 key=16 mic=1 kind=v2"
+                         " max=000000\n")
           == 0);
 
     /* The box's own clock, and zeros for the MIC; its line says mic=1 all the same. */

@@ -11,7 +11,8 @@
 #define PAINT 0xA5A5A5A5u
 
 static uint8_t out[1024], bytes[16], zeros[24];
-static uint64_t numbers[16];
+#define NUMBERS 24
+static uint64_t numbers[NUMBERS];
 static struct dialtable_entry entries[3];
 
 static struct {
@@ -46,18 +47,18 @@ static void measure(const uint8_t *msg, dialtable_len len)
         entries[i].length = len;
         entries[i].mark = i + 1;
     }
-    STACK(read_authenticate, msg, len, numbers, 16, bytes, 16);
-    STACK(read_challenge, msg, len, numbers, 16, bytes, 16);
-    STACK(read_timestamp, msg, len, numbers, 16);
-    STACK(read_server_names, msg, len, numbers, 16);
-    STACK(read_negotiate, msg, len, numbers, 16);
-    STACK(read_nl_auth, msg, len, numbers, 16);
+    STACK(read_authenticate, msg, len, numbers, NUMBERS, bytes, 16);
+    STACK(read_challenge, msg, len, numbers, NUMBERS, bytes, 16);
+    STACK(read_timestamp, msg, len, numbers, NUMBERS);
+    STACK(read_server_names, msg, len, numbers, NUMBERS);
+    STACK(read_negotiate, msg, len, numbers, NUMBERS);
+    STACK(read_nl_auth, msg, len, numbers, NUMBERS);
     STACK(nl_auth_name, msg, len, 4, out, sizeof out);
     STACK(field_bytes, msg, len, 12, 8, out, sizeof out);
     STACK(check_pairs, msg, len);
-    STACK(count_pairs, msg, len, numbers, 16);
-    STACK(find_pair, msg, len, DIALTABLE_PAIR_TIMESTAMP, numbers, 16);
-    STACK(next_pair, msg, len, 0, numbers, 16);
+    STACK(count_pairs, msg, len, numbers, NUMBERS);
+    STACK(find_pair, msg, len, DIALTABLE_PAIR_TIMESTAMP, numbers, NUMBERS);
+    STACK(next_pair, msg, len, 0, numbers, NUMBERS);
     STACK(authenticate_line, msg, len, out, sizeof out);
     STACK(challenge_line, msg, len, out, sizeof out);
     STACK(negotiate_line, msg, len, out, sizeof out);
@@ -72,9 +73,9 @@ static void measure(const uint8_t *msg, dialtable_len len)
     STACK(write_nl_auth_request, out, sizeof out, 31, msg, 1, msg, 1, msg, 1, msg, 1, msg, 1);
     STACK(write_nl_auth_response, out, sizeof out);
     STACK(write_response_pairs, out, sizeof out, msg, len, zeros, 8, 1, zeros);
-    STACK(decide, DIALTABLE_NTLMV2 | DIALTABLE_INTEGRITY, msg, len, numbers, 16);
+    STACK(decide, DIALTABLE_NTLMV2 | DIALTABLE_INTEGRITY, msg, len, numbers, NUMBERS);
     STACK(domain_to_send, NULL, 0, msg, len, out, sizeof out);
-#define PARTS zeros, zeros, zeros, 24, zeros, 24, NAMES, zeros, 16, numbers, 16
+#define PARTS zeros, zeros, zeros, 24, zeros, 24, NAMES, zeros, 16, numbers, NUMBERS
     STACK(respond, out, sizeof out, msg, len, DIALTABLE_NTLMV2, 5, PARTS);
     STACK(respond_for_bench, out, sizeof out, msg, len, 5, 0, PARTS);
     STACK(respond_to_old_server, out, sizeof out, msg, len, 5, PARTS);
