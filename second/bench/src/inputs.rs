@@ -45,7 +45,7 @@ pub struct Account {
 }
 
 impl Account {
-    /// The line of this one has a hundred bytes.
+    /// The line of this one has 111 bytes.
     pub fn usual() -> Self {
         Self {
             lm: vec![0; 24],

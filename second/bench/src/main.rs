@@ -280,7 +280,7 @@ fn usual() -> Vec<Measured> {
         read_nl_auth(inputs::nl_auth_names(), "a jump"),
         name_of_nl_auth(inputs::nl_auth_names(), 4, "a jump"),
         line_of_challenge(challenge.clone()),
-        line_of_authenticate(message.clone(), "a line of 100 bytes"),
+        line_of_authenticate(message.clone(), "a line of 111 bytes"),
         line_of_negotiate(negotiate),
         line_of_nl_auth(nl_auth, ""),
         line_of_nl_auth(inputs::nl_auth_names(), "a jump"),
@@ -729,7 +729,7 @@ mod tests {
     fn the_inputs_are_what_they_are_called() {
         let message = Account::usual().message(FLAGS);
         let mut out = room();
-        assert_eq!(authenticate_line(&message, &mut out), Ok(100));
+        assert_eq!(authenticate_line(&message, &mut out), Ok(111));
         let challenge = Challenge::read(&inputs::challenge(&inputs::six_pairs()))
             .map(|challenge| (challenge.flags, challenge.pairs.pairs));
         assert_eq!(challenge, Ok((NegotiateFlags(FLAGS), 6)));
