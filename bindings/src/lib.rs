@@ -33,6 +33,7 @@ mod pairs;
 pub mod raw;
 mod reading;
 mod refusal;
+mod signing;
 mod writing;
 
 pub use answering::{
@@ -44,13 +45,14 @@ pub use lines::{
     ntlm_line, ntlm_program_line,
 };
 pub use pairs::{check_pairs, count_pairs, find_pair, Pair, Walk};
-pub use raw::{Parts, EXPLAIN_ROOM};
+pub use raw::{Parts, SignIn, EXPLAIN_ROOM};
 pub use reading::{
     nl_auth_name, read_authenticate, read_challenge, read_negotiate, read_nl_auth,
     read_server_names, read_timestamp, Authenticate, Challenge, Field, Negotiate, NlAuth,
     NlAuthString, ServerNames,
 };
 pub use refusal::{Reason, Refusal};
+pub use signing::{check_mic, mic};
 pub use writing::{
     write_authenticate, write_negotiate, write_nl_auth_request, write_nl_auth_response,
 };

@@ -62,6 +62,17 @@ pub struct Parts<'a> {
     pub key: &'a [u8],
 }
 
+/// The three messages of a sign-in.
+#[derive(Clone, Copy, Debug, Default)]
+pub struct SignIn<'a> {
+    /// NEGOTIATE
+    pub negotiate: &'a [u8],
+    /// CHALLENGE
+    pub challenge: &'a [u8],
+    /// AUTHENTICATE
+    pub authenticate: &'a [u8],
+}
+
 /// The declarations of the header, in its order and layout.
 #[rustfmt::skip]
 mod c {
@@ -152,6 +163,13 @@ mod c {
                                            domain_len: usize, user: *const u8, user_len: usize,
                                            workstation: *const u8, workstation_len: usize, key: *const u8,
                                            key_len: usize, numbers: *mut u64, numbers_len: usize) -> u64;
+
+        pub fn dialtable_mic(key: *const u8, key_len: usize, negotiate: *const u8, negotiate_len: usize,
+                             challenge: *const u8, challenge_len: usize, authenticate: *const u8,
+                             authenticate_len: usize, mic: *mut u8, mic_len: usize) -> u64;
+        pub fn dialtable_check_mic(key: *const u8, key_len: usize, negotiate: *const u8, negotiate_len: usize,
+                                   challenge: *const u8, challenge_len: usize, authenticate: *const u8,
+                                   authenticate_len: usize) -> u64;
     }
 }
 
@@ -548,6 +566,40 @@ fn thin_respond(
             parts.key.len(),
             numbers.as_mut_ptr(),
             numbers.len(),
+        )
+    }
+}
+
+/// Works out the MIC of a sign-in: 16 bytes of `out`.
+pub fn mic(key: &[u8], messages: &SignIn<'_>, out: &mut [u8]) -> u64 {
+    unsafe {
+        c::dialtable_mic(
+            key.as_ptr(),
+            key.len(),
+            messages.negotiate.as_ptr(),
+            messages.negotiate.len(),
+            messages.challenge.as_ptr(),
+            messages.challenge.len(),
+            messages.authenticate.as_ptr(),
+            messages.authenticate.len(),
+            out.as_mut_ptr(),
+            out.len(),
+        )
+    }
+}
+
+/// Whether the AUTHENTICATE's MIC is the one that is worked out: 1 or 0.
+pub fn check_mic(key: &[u8], messages: &SignIn<'_>) -> u64 {
+    unsafe {
+        c::dialtable_check_mic(
+            key.as_ptr(),
+            key.len(),
+            messages.negotiate.as_ptr(),
+            messages.negotiate.len(),
+            messages.challenge.as_ptr(),
+            messages.challenge.len(),
+            messages.authenticate.as_ptr(),
+            messages.authenticate.len(),
         )
     }
 }

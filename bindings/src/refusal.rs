@@ -70,6 +70,8 @@ reasons! {
     51 JumpNotBack "a jump to a place that is not before its run of labels";
     52 TooManyJumps "a seventeenth jump in one name";
     53 NameTooLong "a name whose coded length is over 255";
+    55 SessionKey "a session key that isn't 16 bytes";
+    56 NoMic "an AUTHENTICATE without a MIC";
 }
 
 /// A refused call. It changed no byte that it was lent.

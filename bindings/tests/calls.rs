@@ -3,13 +3,13 @@
 use std::fs;
 
 use dialtable::{
-    authenticate_line, challenge_line, check_pairs, count_pairs, decide, domain_to_send, explain,
-    find_pair, negotiate_line, nl_auth_line, nl_auth_name, nl_auth_program_line, ntlm_line,
-    ntlm_program_line, raw, read_authenticate, read_challenge, read_negotiate, read_nl_auth,
-    read_server_names, read_timestamp, respond, respond_for_bench, respond_for_relay,
+    authenticate_line, challenge_line, check_mic, check_pairs, count_pairs, decide, domain_to_send,
+    explain, find_pair, mic, negotiate_line, nl_auth_line, nl_auth_name, nl_auth_program_line,
+    ntlm_line, ntlm_program_line, raw, read_authenticate, read_challenge, read_negotiate,
+    read_nl_auth, read_server_names, read_timestamp, respond, respond_for_bench, respond_for_relay,
     respond_to_old_server, write_authenticate, write_negotiate, write_nl_auth_request,
     write_nl_auth_response, write_response_pairs, Answer, Decision, Field, Negotiate, NlAuth,
-    NlAuthString, Pair, Parts, Reason, Refusal, ServerNames, Settings, Walk, EXPLAIN_ROOM,
+    NlAuthString, Pair, Parts, Reason, Refusal, ServerNames, Settings, SignIn, Walk, EXPLAIN_ROOM,
 };
 
 const UNICODE: u32 = 0x1;
@@ -794,6 +794,85 @@ fn the_thin_calls_demand_128_bit_each_in_its_way() {
 }
 
 /// No bytes make a call panic.
+/// One of the sign-ins of tests/mic/triples.txt, by its line: key, messages, MIC.
+fn sign_ins() -> Vec<[Vec<u8>; 5]> {
+    let text = String::from_utf8(file("tests/mic/triples.txt")).expect("text");
+    let words = ["key ", "negotiate ", "challenge ", "authenticate ", "mic "];
+    let lines = |word| text.lines().filter_map(move |line| line.strip_prefix(word));
+    let [key, negotiate, challenge, authenticate, mic] = words.map(|word| {
+        let bytes = |line: &str| {
+            let digits: Vec<u8> = line
+                .chars()
+                .map(|c| c.to_digit(16).expect("hex") as u8)
+                .collect();
+            digits
+                .chunks(2)
+                .map(|pair| pair[0] << 4 | pair[1])
+                .collect()
+        };
+        lines(word).map(bytes).collect::<Vec<Vec<u8>>>()
+    });
+    (0..key.len())
+        .map(|at| [&key, &negotiate, &challenge, &authenticate, &mic].map(|all| all[at].clone()))
+        .collect()
+}
+
+#[test]
+fn mics_of_real_sign_ins() {
+    let sign_ins = sign_ins();
+    assert_eq!(sign_ins.len(), 17);
+    for [key, negotiate, challenge, authenticate, sent] in &sign_ins {
+        let messages = SignIn {
+            negotiate,
+            challenge,
+            authenticate,
+        };
+        assert_eq!(mic(key, &messages).expect("a MIC").to_vec(), *sent);
+        assert_eq!(check_mic(key, &messages), Ok(true));
+        let mut authenticate = authenticate.clone();
+        authenticate[87] ^= 1;
+        let messages = SignIn {
+            authenticate: &authenticate,
+            ..messages
+        };
+        assert_eq!(check_mic(key, &messages), Ok(false));
+        assert_eq!(mic(key, &messages).expect("a MIC").to_vec(), *sent);
+    }
+}
+
+#[test]
+fn a_mic_is_refused_in_the_order_given() {
+    let mut authenticate = p1();
+    authenticate[40] = 64;
+    let (negotiate, challenge) = (negotiate(), challenge());
+    let messages = SignIn {
+        negotiate: &negotiate,
+        challenge: &challenge,
+        authenticate: &authenticate,
+    };
+    let refused = |key: &[u8], messages: &SignIn<'_>| {
+        let refused = refusal_at(mic(key, messages));
+        assert_eq!(refusal_at(check_mic(key, messages)), refused);
+        refused
+    };
+    assert_eq!(refused(&[1; 16], &messages), (56, 0, 0));
+    let cut = &challenge[..challenge.len() - 4];
+    let messages = SignIn {
+        challenge: cut,
+        ..messages
+    };
+    assert_eq!(refused(&[1; 16], &messages), (6, 2, 0));
+    let messages = SignIn {
+        negotiate: &[],
+        ..messages
+    };
+    assert_eq!(refused(&[1; 16], &messages), (2, 0, 0));
+    assert_eq!(refused(&[1; 15], &messages), (55, 0, 0));
+    let mut short = [0xEE; 15];
+    assert_eq!(raw::mic(&[1; 15], &messages, &mut short), 1 << 63 | 33 << 8);
+    assert_eq!(short, [0xEE; 15]);
+}
+
 #[test]
 fn any_bytes_are_answered() {
     let mut state = 1_u64;

@@ -914,6 +914,63 @@ static void answers(const message_t *challenge, const message_t *no_timestamp)
     CHECK(untouched(out, sizeof out));
 }
 
+/* The MIC of nego, the challenge and P1, whose own MIC is zeros, is the one of another program. */
+static void works_out_the_mic(const message_t *p1, const message_t *challenge)
+{
+    static const uint8_t expected[16] = {0x2B, 0xE1, 0x50, 0x84, 0xE6, 0xE5, 0xCC, 0x27,
+                                         0x50, 0xDB, 0xE6, 0x94, 0x35, 0x5A, 0x94, 0xF8};
+    uint8_t session_key[17] = {0, 1, 2, 3, 4, 5, 6, 7, 8, 9, 10, 11, 12, 13, 14, 15, 16}, got[17], other_nego[NEGO_LEN];
+    message_t last = *p1, other = *challenge;
+    unsigned i;
+
+#define MESSAGES nego, NEGO_LEN, challenge->bytes, challenge->len, last.bytes, last.len
+    memset(got, FILL, sizeof got);
+    EQUAL(dialtable_mic(session_key, 16, MESSAGES, got, 16), 0);
+    CHECK(memcmp(got, expected, 16) == 0);
+    EQUAL(got[16], FILL);
+    EQUAL(dialtable_check_mic(session_key, 16, MESSAGES), 0);
+    memcpy(last.bytes + DIALTABLE_MIC_AT, expected, 16);
+    EQUAL(dialtable_check_mic(session_key, 16, MESSAGES), 1);
+    memset(got, FILL, sizeof got);
+    EQUAL(dialtable_mic(session_key, 16, MESSAGES, got, sizeof got), 0);
+    CHECK(memcmp(got, expected, 16) == 0);
+    EQUAL(got[16], FILL);
+    for (i = 0; i < 16; i++) {
+        last.bytes[DIALTABLE_MIC_AT + i] ^= 1;
+        EQUAL(dialtable_check_mic(session_key, 16, MESSAGES), 0);
+        last.bytes[DIALTABLE_MIC_AT + i] ^= 1;
+    }
+
+    /* Refused: 33, 55, the NEGOTIATE's, the CHALLENGE's, the AUTHENTICATE's, 56. Nothing changes. */
+    memset(got, FILL, sizeof got);
+    last.bytes[40] = 64; /* the user name lies before the MIC's end */
+    CHECK(refused(dialtable_mic(session_key, 16, MESSAGES, got, 16), 56, 0));
+    CHECK(refused(dialtable_check_mic(session_key, 16, MESSAGES), 56, 0));
+    last.bytes[40] = 112;
+    CHECK(refused(dialtable_mic(session_key, 16, MESSAGES, got, 16), 9, 4));
+    CHECK(refused(dialtable_check_mic(session_key, 16, MESSAGES), 9, 4));
+#undef MESSAGES
+#define MESSAGES nego, NEGO_LEN, other.bytes, other.len, last.bytes, last.len
+    other.bytes[other.len - 2] = 1; /* the end pair's length */
+    CHECK(refused_at(dialtable_mic(session_key, 16, MESSAGES, got, 16), 12, 2, other.len - 4));
+    CHECK(refused_at(dialtable_check_mic(session_key, 16, MESSAGES), 12, 2, other.len - 4));
+#undef MESSAGES
+#define MESSAGES other_nego, NEGO_LEN, other.bytes, other.len, last.bytes, last.len
+    memcpy(other_nego, nego, sizeof other_nego);
+    other_nego[20] = 31;
+    CHECK(refused(dialtable_mic(session_key, 16, MESSAGES, got, 16), 7, 1));
+    CHECK(refused(dialtable_check_mic(session_key, 16, MESSAGES), 7, 1));
+    CHECK(refused(dialtable_mic(session_key, 15, MESSAGES, got, 16), 55, 0));
+    CHECK(refused(dialtable_mic(session_key, 17, MESSAGES, got, 16), 55, 0));
+    CHECK(refused(dialtable_check_mic(session_key, 17, MESSAGES), 55, 0));
+    CHECK(refused(dialtable_check_mic(NULL, 0, NULL, 0, NULL, 0, NULL, 0), 55, 0));
+    CHECK(refused(dialtable_check_mic(session_key, 16, NULL, 0, NULL, 0, NULL, 0), 2, 0));
+    CHECK(refused(dialtable_mic(session_key, 17, MESSAGES, got, 15), 33, 0));
+    CHECK(refused(dialtable_mic(NULL, 0, NULL, 0, NULL, 0, NULL, 0, NULL, 0), 33, 0));
+    CHECK(untouched(got, sizeof got));
+#undef MESSAGES
+}
+
 /* A caller may leave anything in a register above a number of 32 bits: these hand on their registers as they are. */
 __attribute__((noinline)) static uint64_t decide_wide(uint64_t settings, const uint8_t *challenge,
                                                       dialtable_len challenge_len, uint64_t *numbers,
@@ -980,7 +1037,7 @@ static void names_numbers(void)
         DIALTABLE_REFUSED_NO_SERVER_NAMES, DIALTABLE_REFUSED_TOO_LONG_TO_WRITE, DIALTABLE_REFUSED_ODD_NAME_TO_WRITE,
         DIALTABLE_REFUSED_WRONG_KEY, DIALTABLE_REFUSED_NO_ROOM, DIALTABLE_REFUSED_ZERO_IN_STRING,
         DIALTABLE_REFUSED_WRONG_LABEL, DIALTABLE_REFUSED_PLACE_NOT_BEFORE, DIALTABLE_REFUSED_TOO_MANY_JUMPS,
-        DIALTABLE_REFUSED_NAME_TOO_LONG,
+        DIALTABLE_REFUSED_NAME_TOO_LONG, DIALTABLE_REFUSED_WRONG_SESSION_KEY, DIALTABLE_REFUSED_NO_MIC,
         DIALTABLE_FLAG_UNICODE, DIALTABLE_FLAG_OEM, DIALTABLE_FLAG_REQUEST_TARGET, DIALTABLE_FLAG_SIGN,
         DIALTABLE_FLAG_SEAL, DIALTABLE_FLAG_DOMAIN_SUPPLIED, DIALTABLE_FLAG_WORKSTATION_SUPPLIED,
         DIALTABLE_FLAG_TARGET_INFO, DIALTABLE_FLAG_VERSION, DIALTABLE_FLAG_128, DIALTABLE_FLAG_KEY_EXCH,
@@ -989,7 +1046,7 @@ static void names_numbers(void)
         DIALTABLE_PAIR_TARGET_NAME, DIALTABLE_PAIR_CHANNEL_BINDINGS, DIALTABLE_NL_AUTH_BIT_A, DIALTABLE_NL_AUTH_BIT_B,
         DIALTABLE_NL_AUTH_BIT_C, DIALTABLE_NL_AUTH_BIT_D, DIALTABLE_NL_AUTH_BIT_E};
     static const uint32_t expected[] = {
-        1, 2, 3, 4, 5, 6, 7, 8, 9, 10, 11, 12, 13, 14, 15, 16, 17, 20, 21, 30, 31, 32, 33, 34, 50, 51, 52, 53,
+        1, 2, 3, 4, 5, 6, 7, 8, 9, 10, 11, 12, 13, 14, 15, 16, 17, 20, 21, 30, 31, 32, 33, 34, 50, 51, 52, 53, 55, 56,
         0x1, 0x2, 0x4, 0x10, 0x20, 0x1000, 0x2000, 0x800000, 0x2000000, 0x20000000, 0x40000000,
         1, 2, 3, 4, 5, 6, 7, 8, 9, 10, 0x1, 0x2, 0x4, 0x8, 0x10};
     unsigned i;
@@ -1034,6 +1091,7 @@ int main(int argc, char **argv)
     decides(&challenge, &no_timestamp);
     finds_domain(&challenge);
     answers(&challenge, &no_timestamp);
+    works_out_the_mic(&p1, &challenge);
     takes_numbers_in_wide_registers(&p1, &challenge);
     names_numbers();
 

@@ -171,6 +171,36 @@ static void answers(unsigned room, unsigned places)
     CALL(dialtable_respond_for_relay(out, room, msg, len, clock, PARTS));
 }
 
+/* A message of messages/ as it is, with this type. */
+static unsigned pick(uint8_t type)
+{
+    unsigned which = draw(sizeof messages / sizeof *messages);
+
+    while (messages[which].len < 12 || messages[which].bytes[8] != type)
+        which = (which + 1) % (sizeof messages / sizeof *messages);
+    return which;
+}
+
+/* Sign-ins of which the drawn message is one. */
+static void mics(unsigned bytes_room)
+{
+    uint8_t type = len < 12 || msg[8] > 2 || msg[8] == 0 ? 3 : msg[8];
+    const uint8_t *three[3];
+    dialtable_len lens[3], key_len = draw(8) ? 16 : draw(17);
+    unsigned i, which;
+
+    for (i = 0; i < 3; i++) {
+        which = pick((uint8_t)(i + 1));
+        three[i] = i + 1 == type ? msg : messages[which].bytes;
+        lens[i] = i + 1 == type ? len : messages[which].len;
+    }
+#define SIGN_IN mic, key_len, three[0], lens[0], three[1], lens[1], three[2], lens[2]
+    CALL(dialtable_mic(SIGN_IN, bytes, bytes_room));
+    if (type == 3 && len >= 88)
+        memcpy(msg + DIALTABLE_MIC_AT, bytes, 16);
+    CALL(dialtable_check_mic(SIGN_IN));
+}
+
 int main(void)
 {
     unsigned long cases;
@@ -188,6 +218,7 @@ int main(void)
         prints(room);
         writes(room);
         answers(room, places);
+        mics(bytes_room);
         mix(msg, sizeof msg);
         mix(mic, sizeof mic);
     }

@@ -1,7 +1,8 @@
 //! NTLM and NL_AUTH messages by the rules of document 01, with those of
 //! document 02 that have landed: reading NEGOTIATE, CHALLENGE, AUTHENTICATE,
 //! NL_AUTH and TargetInfo, the log line of each message, why one is refused,
-//! answering a challenge, and writing NEGOTIATE, AUTHENTICATE, NL_AUTH and the pair list of an answer.
+//! answering a challenge, writing NEGOTIATE, AUTHENTICATE, NL_AUTH and the pair
+//! list of an answer, and the MIC of a sign-in's three messages.
 //!
 //! Reading borrows from the message and allocates nothing. Every call ends
 //! for any input, takes time linear in what it is lent, and does not panic.
@@ -22,9 +23,12 @@ mod challenge;
 mod dns_name;
 mod explain;
 mod flags;
+mod hmac_md5;
 mod kind;
 mod layout;
 mod line;
+mod md5;
+mod mic;
 mod negotiate;
 mod nl_auth;
 mod nl_auth_name;
@@ -46,7 +50,10 @@ pub use authenticate::Authenticate;
 pub use challenge::Challenge;
 pub use explain::explain;
 pub use flags::{CharacterSet, NegotiateFlags, NlAuthFlags};
+pub use hmac_md5::hmac_md5;
 pub use line::{authenticate_line, challenge_line, negotiate_line, nl_auth_line, ntlm_line};
+pub use md5::md5;
+pub use mic::{check_mic, mic, SignIn};
 pub use negotiate::Negotiate;
 pub use nl_auth::{NlAuth, NlAuthString, NlAuthType};
 pub use nl_auth_name::nl_auth_name;

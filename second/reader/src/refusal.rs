@@ -65,6 +65,10 @@ pub enum Reason {
     TooManyJumps = 52,
     /// "over 255"
     NameTooLong = 53,
+    /// "a key that isn't 16 bytes"
+    SessionKey = 55,
+    /// "the AUTHENTICATE has no MIC"
+    NoMic = 56,
 }
 
 impl Reason {

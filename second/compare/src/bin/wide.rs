@@ -10,7 +10,7 @@ use compare::wide::call::{Call, Line, Parts, Respond, Thin};
 use compare::wide::run;
 use depot::folder::Folder;
 use dialtable::raw;
-use reader::NegotiateParts;
+use reader::{NegotiateParts, SignIn};
 
 const USAGE: &str = "usage: wide MESSAGES SEED N";
 
@@ -119,6 +119,16 @@ fn library(call: &Call<'_>, out: &mut [u8], numbers: &mut [u64]) -> u64 {
                 Respond::Itself(thin) => itself(thin, out, challenge, clock, parts, numbers),
             }
         }
+        Call::Mic { key, messages } => raw::mic(key, &three(&messages), out),
+        Call::CheckMic { key, messages } => raw::check_mic(key, &three(&messages)),
+    }
+}
+
+const fn three<'a>(messages: &SignIn<'a>) -> raw::SignIn<'a> {
+    raw::SignIn {
+        negotiate: messages.negotiate,
+        challenge: messages.challenge,
+        authenticate: messages.authenticate,
     }
 }
 

@@ -2,7 +2,7 @@
 
 use std::fmt::{self, Write};
 
-use reader::{Account, NegotiateParts, Secrets};
+use reader::{Account, NegotiateParts, Secrets, SignIn};
 
 use crate::hex::Hex;
 
@@ -179,11 +179,19 @@ pub enum Call<'a> {
         clock: u64,
         parts: Parts<'a>,
     },
+    Mic {
+        key: &'a [u8],
+        messages: SignIn<'a>,
+    },
+    CheckMic {
+        key: &'a [u8],
+        messages: SignIn<'a>,
+    },
 }
 
 /// The names of the calls, without `dialtable_`, by [`Call::index`]; those of
 /// `crates/thin_calls` last.
-pub const NAMES: [&str; 34] = [
+pub const NAMES: [&str; 36] = [
     "read_authenticate",
     "read_challenge",
     "read_timestamp",
@@ -215,6 +223,8 @@ pub const NAMES: [&str; 34] = [
     "respond_for_bench",
     "respond_to_old_server",
     "respond_for_relay",
+    "mic",
+    "check_mic",
     "thin_respond_for_bench",
     "thin_respond_to_old_server",
     "thin_respond_for_relay",
@@ -263,6 +273,8 @@ impl Call<'_> {
             Self::Decide { .. } => const { place_of("decide") },
             Self::DomainToSend { .. } => const { place_of("domain_to_send") },
             Self::Respond { how, .. } => how.index(),
+            Self::Mic { .. } => const { place_of("mic") },
+            Self::CheckMic { .. } => const { place_of("check_mic") },
         }
     }
 
@@ -286,10 +298,10 @@ impl Call<'_> {
     }
 
     /// The bytes that a reading gives beside its numbers: MIC or server
-    /// challenge.
+    /// challenge; and those of a MIC that is worked out.
     pub const fn array(&self) -> Option<usize> {
         match self {
-            Self::ReadAuthenticate { .. } => Some(16),
+            Self::ReadAuthenticate { .. } | Self::Mic { .. } => Some(16),
             Self::ReadChallenge { .. } => Some(8),
             _ => None,
         }
@@ -300,6 +312,14 @@ impl Call<'_> {
     pub fn written(&self, answer: u64) -> usize {
         self.array()
             .unwrap_or(usize::try_from(answer).unwrap_or(usize::MAX))
+    }
+
+    /// Whether two answers to it, given other secrets, must be the same. Whether a
+    /// MIC is right depends on secrets; that it is refused does not.
+    pub fn alike(&self, one: u64, two: u64) -> bool {
+        let answered = |answer| refusal(answer).is_none();
+        let free = matches!(self, Self::CheckMic { .. });
+        one == two || free && answered(one) && answered(two)
     }
 
     /// How many bytes it is given.
@@ -349,6 +369,12 @@ impl Call<'_> {
             Self::Respond {
                 challenge, parts, ..
             } => [vec![("challenge", *challenge)], parts.inputs()].concat(),
+            Self::Mic { key, messages } | Self::CheckMic { key, messages } => vec![
+                ("key", key),
+                ("negotiate", messages.negotiate),
+                ("challenge", messages.challenge),
+                ("authenticate", messages.authenticate),
+            ],
         }
     }
 

@@ -137,6 +137,7 @@ impl<L: Library> Run<L> {
         self.going_back(&challenge);
         self.secrets_read(message);
         self.secrets_answered(&challenge);
+        self.mics(message);
     }
 
     fn readings(&mut self, message: &[u8]) {
@@ -417,6 +418,46 @@ impl<L: Library> Run<L> {
             self.holder
                 .hold_alike(&calls[0], &calls[1], lent, secret_places);
         }
+    }
+}
+
+impl<L: Library> Run<L> {
+    /// The MIC of a sign-in, as it came, and with a MIC that is right, or wrong in
+    /// one byte.
+    fn mics(&mut self, message: &[u8]) {
+        let mut sign_in = inputs::SignIn::new(&mut self.random, message);
+        self.hold_arrays(&sign_in.mic());
+        self.hold_arrays(&sign_in.check_mic());
+        self.secrets_hashed(&sign_in);
+        let Some(right) = sign_in.right_mic() else {
+            return;
+        };
+        sign_in.set_mic(right);
+        self.hold_arrays(&sign_in.mic());
+        self.hold_arrays(&sign_in.check_mic());
+        for at in [0, self.random.below(16), 15] {
+            let mut wrong = right;
+            wrong[at] ^= 1 << self.random.below(8);
+            sign_in.set_mic(wrong);
+            self.hold_arrays(&sign_in.check_mic());
+        }
+    }
+
+    /// Request 10/12 on demand 3: the refusals "depend only on the key's length,
+    /// the two earlier messages, and the AUTHENTICATE's length and first 64
+    /// bytes".
+    fn secrets_hashed(&mut self, sign_in: &inputs::SignIn) {
+        let other = sign_in.with_other_secrets(&mut self.random);
+        let lent = |room| Lent { room, numbers: 0 };
+        let room = self.random.pick(&[16, 16, 17, 15]);
+        // All but the MIC's own bytes.
+        let mic = |written: &[u8]| (0..written.len()).collect();
+        let calls = [sign_in, &other].map(inputs::SignIn::mic);
+        self.holder
+            .hold_alike(&calls[0], &calls[1], lent(room), mic);
+        let calls = [sign_in, &other].map(inputs::SignIn::check_mic);
+        self.holder
+            .hold_alike(&calls[0], &calls[1], lent(0), |_| Vec::new());
     }
 }
 

@@ -2,11 +2,11 @@
 
 use reader::{
     answer, answer_for_bench, answer_for_old_servers, answer_for_relay, authenticate_line,
-    challenge_line, domain_to_send, explain, field_bytes, negotiate_line, nl_auth_line,
-    nl_auth_name, ntlm_line, write_authenticate, write_negotiate, write_nl_auth_request,
-    write_nl_auth_response, write_response_pairs, Answer, Authenticate, AuthenticateParts, AvId,
-    Challenge, Field, Negotiate, NegotiateFlags, NlAuth, NlAuthFlags, Policy, Program, Reason,
-    Refusal, ResponsePairs, Settings, TargetInfo,
+    challenge_line, check_mic, domain_to_send, explain, field_bytes, mic, negotiate_line,
+    nl_auth_line, nl_auth_name, ntlm_line, write_authenticate, write_negotiate,
+    write_nl_auth_request, write_nl_auth_response, write_response_pairs, Answer, Authenticate,
+    AuthenticateParts, AvId, Challenge, Field, Negotiate, NegotiateFlags, NlAuth, NlAuthFlags,
+    Policy, Program, Reason, Refusal, ResponsePairs, Settings, TargetInfo,
 };
 
 use super::call::{refused_at, Call, Line, Parts, Respond, Thin};
@@ -82,6 +82,11 @@ fn call_of(call: &Call<'_>, out: &mut [u8], numbers: &mut [u64]) -> Result<usize
             put(numbers, &[time, u64::from(mic_due)]);
             Ok(len)
         }
+        Call::Mic { key, messages } => {
+            put_bytes(out, &mic(key, &messages)?);
+            Ok(0)
+        }
+        Call::CheckMic { key, messages } => check_mic(key, &messages).map(usize::from),
     }
 }
 

@@ -5,20 +5,22 @@ use std::fmt;
 use super::call::{place, refusal, Call, FARTHEST, NAMES};
 use crate::tally::{each_refusal, Columns, Refusals, REFUSALS};
 
-/// Each refusal that only answering and writing can give, with every field that
-/// it can have.
-const OF_WRITING: [Refusals; 6] = [
+/// Each refusal that only answering, writing and working out can give, with every
+/// field that it can have.
+const OF_WRITING: [Refusals; 8] = [
     (20, &[0]),
     (21, &[0]),
     (30, &[0]),
     (31, &[2, 3, 4, 5]),
     (32, &[6]),
     (34, &[1, 2, 3, 4, 5]),
+    (55, &[0]),
+    (56, &[0]),
 ];
 
 /// Numbers, their fields and the readings and writings that can refuse by them:
 /// each must have done so itself, since kinds of message share numbers.
-const OF_CALLS: [(&[u8], &[u8], &[&str]); 22] = [
+const OF_CALLS: [(&[u8], &[u8], &[&str]); 28] = [
     (
         &[1, 2, 4, 33],
         &[0],
@@ -102,6 +104,12 @@ const OF_CALLS: [(&[u8], &[u8], &[&str]); 22] = [
         ],
     ),
     (&[33], &[0], &["explain"]),
+    (&[1, 2, 3, 4, 5, 55, 56], &[0], &["mic", "check_mic"]),
+    (&[6, 7], &[1, 2, 3, 4, 5, 6], &["mic", "check_mic"]),
+    (&[8], &[1, 3, 4, 5], &["mic", "check_mic"]),
+    (&[9], &[3, 4, 5], &["mic", "check_mic"]),
+    (&[33], &[0], &["mic"]),
+    (&[10, 11, 12, 13], &[2], &["mic", "check_mic"]),
 ];
 
 /// What a kind of place is called, and whether a place is of it.
@@ -142,7 +150,7 @@ const OF_PLACES: [(&[usize], &[&str]); 3] = [
 ];
 
 /// The calls that are given two inputs which only secrets tell apart.
-const WITH_SECRETS: [&str; 12] = [
+const WITH_SECRETS: [&str; 14] = [
     "read_authenticate",
     "authenticate_line",
     "ntlm_line",
@@ -152,6 +160,8 @@ const WITH_SECRETS: [&str; 12] = [
     "respond_for_bench",
     "respond_to_old_server",
     "respond_for_relay",
+    "mic",
+    "check_mic",
     "thin_respond_for_bench",
     "thin_respond_to_old_server",
     "thin_respond_for_relay",
@@ -171,13 +181,15 @@ fn refusals() -> Vec<Refusals> {
 }
 
 /// One more than the highest number, and than the highest field.
-const NUMBERS: usize = 54;
+const NUMBERS: usize = 57;
 const FIELDS: usize = 7;
 
 /// The counts of one call.
 #[derive(Clone, Copy, Debug)]
 struct Row {
     answered: u64,
+    /// How many of these answers are 1.
+    yes: u64,
     /// By number and field.
     refused: [[u64; FIELDS]; NUMBERS],
     /// Refused pairs by [`PLACES`].
@@ -196,6 +208,7 @@ impl Default for Tally {
     fn default() -> Self {
         let row = Row {
             answered: 0,
+            yes: 0,
             refused: [[0; FIELDS]; NUMBERS],
             places: [0; PLACES.len()],
             alike: 0,
@@ -210,7 +223,10 @@ impl Tally {
     pub fn add(&mut self, call: &Call<'_>, answer: u64) {
         let row = &mut self.rows[call.index()];
         match refusal(answer) {
-            None => row.answered += 1,
+            None => {
+                row.answered += 1;
+                row.yes += u64::from(answer == 1);
+            }
             Some((number, field)) => {
                 row.refused[usize::from(number)][usize::from(field)] += 1;
                 if matches!(number, 10..=13) {
@@ -247,6 +263,9 @@ impl Tally {
         for (name, row) in self.named() {
             if row.answered == 0 {
                 missing.push(format!("{name} answers"));
+            }
+            if name == "check_mic" && (row.yes == 0 || row.yes == row.answered) {
+                missing.push(format!("{name} says yes and says no"));
             }
             if row.alike == 0 && WITH_SECRETS.contains(&name) {
                 missing.push(format!("{name} with other secrets"));

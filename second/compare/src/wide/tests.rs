@@ -1,5 +1,6 @@
 mod dns_names;
 mod explain;
+mod mic;
 mod response_pairs;
 
 use std::io::sink;
