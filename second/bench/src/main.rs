@@ -17,7 +17,7 @@ use reader::{
     Authenticate, AvId, Challenge, Negotiate, NlAuth, NlAuthFlags, Refusal, Secrets, TargetInfo,
 };
 
-use inputs::{Account, Opening, Target, BEFORE_LIST, FLAGS, TIMESTAMP};
+use inputs::{Account, Opening, SignIn, Target, BEFORE_LIST, FLAGS, TIMESTAMP};
 
 const USAGE: &str = "usage: bench time | round | calls MESSAGES, or bench once MESSAGES PLACE";
 
@@ -30,6 +30,8 @@ struct Measured {
     name: &'static str,
     /// What it is given.
     on: String,
+    /// How many bytes it works through, where that is told as a speed.
+    through: Option<usize>,
     proved: Box<dyn FnMut(u64)>,
     second: Box<dyn FnMut(u64)>,
 }
@@ -175,10 +177,16 @@ fn row(out: &mut impl Write, call: &Measured, found: [f64; 2]) -> io::Result<()>
     let ratio = proved / second;
     let aim = if ratio > 1.0 { "  over the aim" } else { "" };
     let what = format!("{} {}", call.name, call.on);
-    writeln!(
+    write!(
         out,
         "  {what:<68}{proved:>10.1}{second:>10.1}{ratio:>10.2}{aim}"
-    )
+    )?;
+    if let Some(bytes) = call.through {
+        // Bytes in a nanosecond, times a thousand.
+        let [proved, second] = found.map(|time| 1_000.0 * bytes as f64 / time);
+        write!(out, "  proved {proved:.0} MB/s, second {second:.0} MB/s")?;
+    }
+    writeln!(out)
 }
 
 /// How often each side of each call is measured.
@@ -261,6 +269,8 @@ fn usual() -> Vec<Measured> {
         write_names(),
         go_back(challenge.clone(), "six pairs"),
         respond(challenge, account),
+        mic(SignIn::usual(), "three messages"),
+        check_mic(SignIn::usual(), "three messages"),
     ]
 }
 
@@ -331,6 +341,7 @@ fn growing() -> Vec<Measured> {
         let list = inputs::long_list(len - BEFORE_LIST);
         respond(inputs::challenge(&list), Account::usual())
     });
+    each(|len| mic(SignIn::of_messages(len), "three as long"));
     calls
 }
 
@@ -348,6 +359,7 @@ fn read_authenticate(message: Vec<u8>) -> Measured {
     Measured {
         name: "read_authenticate",
         on: bytes(&message),
+        through: None,
         proved: repeat!(raw::read_authenticate(
             black_box(&message),
             &mut numbers,
@@ -363,6 +375,7 @@ fn read_challenge(message: Vec<u8>, what: &str) -> Measured {
     Measured {
         name: "read_challenge",
         on: format!("{what} {}", bytes(&message)),
+        through: None,
         proved: repeat!(raw::read_challenge(
             black_box(&message),
             &mut numbers,
@@ -378,6 +391,7 @@ fn read_negotiate(message: Vec<u8>) -> Measured {
     Measured {
         name: "read_negotiate",
         on: bytes(&message),
+        through: None,
         proved: repeat!(raw::read_negotiate(black_box(&message), &mut numbers)),
         second: repeat!(Negotiate::read(black_box(&other))),
     }
@@ -389,6 +403,7 @@ fn read_nl_auth(message: Vec<u8>, what: &str) -> Measured {
     Measured {
         name: "read_nl_auth",
         on: what_and_bytes(what, &message),
+        through: None,
         proved: repeat!(raw::read_nl_auth(black_box(&message), &mut numbers)),
         second: repeat!(NlAuth::read(black_box(&other))),
     }
@@ -467,6 +482,7 @@ fn line(
     Measured {
         name,
         on,
+        through: None,
         proved: repeat!(proved(black_box(&message), &mut out)),
         second: repeat!(second(black_box(&other), &mut other_out)),
     }
@@ -478,6 +494,7 @@ fn find_pair(list: Vec<u8>, what: &str) -> Measured {
     Measured {
         name: "find_pair",
         on: format!("{what} {}", bytes(&list)),
+        through: None,
         proved: repeat!(raw::find_pair(black_box(&list), TIMESTAMP, &mut numbers)),
         second: repeat!(TargetInfo(black_box(&other)).find(AvId(TIMESTAMP))),
     }
@@ -504,6 +521,7 @@ fn write(account: Account) -> Measured {
     Measured {
         name: "write_authenticate",
         on: bytes(&account.message(FLAGS)),
+        through: None,
         proved: repeat!(raw::write_authenticate(
             &mut out,
             FLAGS,
@@ -522,6 +540,7 @@ fn open(opening: Opening) -> Measured {
     Measured {
         name: "write_negotiate",
         on: bytes(&opening.message(FLAGS)),
+        through: None,
         proved: repeat!({
             let parts = black_box(opening.parts(FLAGS));
             raw::write_negotiate(
@@ -548,6 +567,7 @@ fn write_names() -> Measured {
     Measured {
         name: "write_nl_auth_request",
         on: format!("({} bytes)", len.expect("a request")),
+        through: None,
         proved: repeat!(raw::write_nl_auth_request(
             &mut out,
             ALL,
@@ -568,6 +588,7 @@ fn go_back(challenge: Vec<u8>, what: &str) -> Measured {
     Measured {
         name: "write_response_pairs",
         on: format!("{what} {}", bytes(&challenge)),
+        through: None,
         proved: repeat!({
             let parts = black_box(target.parts());
             raw::write_response_pairs(
@@ -593,6 +614,7 @@ fn respond(challenge: Vec<u8>, account: Account) -> Measured {
     Measured {
         name: "respond_for_bench",
         on: bytes(&challenge),
+        through: None,
         proved: repeat!(raw::respond_for_bench(
             &mut out,
             black_box(&challenge),
@@ -624,6 +646,52 @@ fn respond(challenge: Vec<u8>, account: Account) -> Measured {
                 &mut other_out,
             )
         }),
+    }
+}
+
+fn mic(sign_in: SignIn, what: &str) -> Measured {
+    let other = sign_in.clone();
+    let mut out = [0; 16];
+    Measured {
+        name: "mic",
+        on: format!("{what} ({} bytes)", sign_in.len()),
+        through: Some(sign_in.len()),
+        proved: repeat!(raw::mic(
+            black_box(&inputs::SESSION_KEY),
+            &lent_messages(black_box(&sign_in)),
+            &mut out
+        )),
+        second: repeat!(reader::mic(
+            black_box(&inputs::SESSION_KEY),
+            &black_box(&other).messages()
+        )),
+    }
+}
+
+fn check_mic(sign_in: SignIn, what: &str) -> Measured {
+    let other = sign_in.clone();
+    Measured {
+        name: "check_mic",
+        on: format!("{what} ({} bytes)", sign_in.len()),
+        through: Some(sign_in.len()),
+        proved: repeat!(raw::check_mic(
+            black_box(&inputs::SESSION_KEY),
+            &lent_messages(black_box(&sign_in))
+        )),
+        second: repeat!(reader::check_mic(
+            black_box(&inputs::SESSION_KEY),
+            &black_box(&other).messages()
+        )),
+    }
+}
+
+/// The library's messages of a sign-in.
+fn lent_messages(sign_in: &SignIn) -> raw::SignIn<'_> {
+    let messages = sign_in.messages();
+    raw::SignIn {
+        negotiate: messages.negotiate,
+        challenge: messages.challenge,
+        authenticate: messages.authenticate,
     }
 }
 
@@ -681,6 +749,10 @@ mod tests {
             assert_eq!(inputs::nl_auth(len).len(), len);
             assert!(NlAuth::read(&inputs::nl_auth(len)).is_ok());
             assert_eq!(inputs::authenticate_with_name(len).len(), len);
+            let sign_in = SignIn::of_messages(len);
+            assert_eq!(sign_in.len(), 3 * len);
+            let checked = reader::check_mic(&inputs::SESSION_KEY, &sign_in.messages());
+            assert_eq!(checked, Ok(false));
         }
     }
 }
