@@ -1,15 +1,17 @@
 # make help lists the targets.
-.PHONY: help run explain lib lib-small lib-thumb install test test-firmware compare wide bench
+.PHONY: help run explain canonical lib lib-small lib-thumb install test test-firmware compare wide bench
 
 MESSAGES ?= messages
 PREFIX ?= /usr/local
 TARGET ?= thumbv7m-none-eabi
-export MESSAGES FILE DESTDIR
+export MESSAGES FILE OUT DESTDIR
 
 help:
 	@echo 'make run            the depot bench: every message in messages/ through the proved program and the second one;'
 	@echo '                    MESSAGES=folder for another folder. The status is 0 where all lines are the same'
 	@echo 'make explain        why one NTLM message is refused, check by check: FILE=message, raw, in hex or in base64'
+	@echo 'make canonical      one AUTHENTICATE tidied, for comparing it with another: FILE=message, raw, in hex or in base64, to'
+	@echo '                    OUT=file, which only you may read, since it holds secrets'
 	@echo 'make lib            the library for C and Rust: target/staticlib/libdialtable.a, whose header is include/dialtable.h'
 	@echo 'make lib-small      the same with less code: target/small/libdialtable.a'
 	@echo 'make lib-thumb      the same for a small box: target/TARGET/libdialtable.a; TARGET=thumbv7m-none-eabi is understood,'
@@ -28,6 +30,9 @@ run:
 
 explain:
 	@tools/explain "$$FILE"
+
+canonical:
+	@tools/canonical "$$FILE" "$$OUT"
 
 lib:
 	@tools/build-lib

@@ -427,6 +427,16 @@ uint64_t dialtable_respond_for_relay(uint8_t *out, dialtable_len out_len, const 
                                      dialtable_len workstation_len, const uint8_t *key, dialtable_len key_len,
                                      uint64_t *numbers, dialtable_len numbers_len);
 
+/* ---- One meaning, one writing. Reads an AUTHENTICATE and writes it as dialtable_write_authenticate lays it out, with zero
+ * Version, also where VERSION is set, sixteen zeros for a MIC that isn't there, and a field that doesn't count as empty.
+ * So two messages come out equal exactly when their flags, six fields' bytes and MICs are, and what came out comes out
+ * again. Refuses as reading does, then 32 a key that counts and is neither empty nor 16 bytes long, 30 (secrets may share
+ * bytes, and are then written twice), and 33. Room: 88 bytes and those of the six fields. What comes out holds secrets.
+ * Answers its length. */
+
+uint64_t dialtable_canonical_authenticate(uint8_t *out, dialtable_len out_len, const uint8_t *msg,
+                                          dialtable_len msg_len);
+
 /* ---- The MIC of a sign-in: HMAC-MD5 (RFC 2104 over RFC 1321) of its three messages, one after the other and whole, with
  * the sixteen bytes at DIALTABLE_MIC_AT of the AUTHENTICATE taken as zero, whatever stands there. The key is the exported
  * session key. Both calls refuse 55, then as reading the NEGOTIATE does, the CHALLENGE, the AUTHENTICATE (which of the

@@ -54,7 +54,8 @@ pub use reading::{
 pub use refusal::{Reason, Refusal};
 pub use signing::{check_mic, mic};
 pub use writing::{
-    write_authenticate, write_negotiate, write_nl_auth_request, write_nl_auth_response,
+    canonical_authenticate, write_authenticate, write_negotiate, write_nl_auth_request,
+    write_nl_auth_response,
 };
 
 /// The part of `out` that a call has written, by its answer.

@@ -164,6 +164,9 @@ mod c {
                                            workstation: *const u8, workstation_len: usize, key: *const u8,
                                            key_len: usize, numbers: *mut u64, numbers_len: usize) -> u64;
 
+        pub fn dialtable_canonical_authenticate(out: *mut u8, out_len: usize, msg: *const u8,
+                                                msg_len: usize) -> u64;
+
         pub fn dialtable_mic(key: *const u8, key_len: usize, negotiate: *const u8, negotiate_len: usize,
                              challenge: *const u8, challenge_len: usize, authenticate: *const u8,
                              authenticate_len: usize, mic: *mut u8, mic_len: usize) -> u64;
@@ -566,6 +569,18 @@ fn thin_respond(
             parts.key.len(),
             numbers.as_mut_ptr(),
             numbers.len(),
+        )
+    }
+}
+
+/// Writes an AUTHENTICATE message in its canonical form.
+pub fn canonical_authenticate(out: &mut [u8], message: &[u8]) -> u64 {
+    unsafe {
+        c::dialtable_canonical_authenticate(
+            out.as_mut_ptr(),
+            out.len(),
+            message.as_ptr(),
+            message.len(),
         )
     }
 }

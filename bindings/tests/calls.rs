@@ -3,13 +3,14 @@
 use std::fs;
 
 use dialtable::{
-    authenticate_line, challenge_line, check_mic, check_pairs, count_pairs, decide, domain_to_send,
-    explain, find_pair, mic, negotiate_line, nl_auth_line, nl_auth_name, nl_auth_program_line,
-    ntlm_line, ntlm_program_line, raw, read_authenticate, read_challenge, read_negotiate,
-    read_nl_auth, read_server_names, read_timestamp, respond, respond_for_bench, respond_for_relay,
-    respond_to_old_server, write_authenticate, write_negotiate, write_nl_auth_request,
-    write_nl_auth_response, write_response_pairs, Answer, Decision, Field, Negotiate, NlAuth,
-    NlAuthString, Pair, Parts, Reason, Refusal, ServerNames, Settings, SignIn, Walk, EXPLAIN_ROOM,
+    authenticate_line, canonical_authenticate, challenge_line, check_mic, check_pairs, count_pairs,
+    decide, domain_to_send, explain, find_pair, mic, negotiate_line, nl_auth_line, nl_auth_name,
+    nl_auth_program_line, ntlm_line, ntlm_program_line, raw, read_authenticate, read_challenge,
+    read_negotiate, read_nl_auth, read_server_names, read_timestamp, respond, respond_for_bench,
+    respond_for_relay, respond_to_old_server, write_authenticate, write_negotiate,
+    write_nl_auth_request, write_nl_auth_response, write_response_pairs, Answer, Decision, Field,
+    Negotiate, NlAuth, NlAuthString, Pair, Parts, Reason, Refusal, ServerNames, Settings, SignIn,
+    Walk, EXPLAIN_ROOM,
 };
 
 const UNICODE: u32 = 0x1;
@@ -794,6 +795,38 @@ fn the_thin_calls_demand_128_bit_each_in_its_way() {
 }
 
 /// No bytes make a call panic.
+#[test]
+fn one_meaning_has_one_writing() {
+    let message = file("messages/authenticate-smbclient.bin");
+    let read = read_authenticate(&message).expect("taken");
+    let mut room = [0xEE; 600];
+    let tidy = canonical_authenticate(&mut room, &message)
+        .expect("written")
+        .to_vec();
+    assert!(tidy[64..72] == [0; 8] && room[tidy.len()..] == [0xEE; 600][tidy.len()..]);
+    let again = read_authenticate(&tidy).expect("taken");
+    assert_eq!((again.flags, again.mic), (read.flags, read.mic));
+    for (one, two) in [
+        (read.lm, again.lm),
+        (read.nt, again.nt),
+        (read.domain, again.domain),
+        (read.user, again.user),
+        (read.workstation, again.workstation),
+        (read.key, again.key),
+    ] {
+        assert_eq!(one.bytes(&message), two.bytes(&tidy));
+    }
+    let mut exact = vec![0; tidy.len()];
+    assert_eq!(canonical_authenticate(&mut exact, &tidy), Ok(&tidy[..]));
+    let short = &mut exact[1..];
+    assert_eq!(refusal(canonical_authenticate(short, &tidy)), (33, 0));
+    assert_eq!(short, &tidy[1..]);
+    assert_eq!(
+        refusal(canonical_authenticate(&mut [], &challenge())),
+        (4, 0)
+    );
+}
+
 /// One of the sign-ins of tests/mic/triples.txt, by its line: key, messages, MIC.
 fn sign_ins() -> Vec<[Vec<u8>; 5]> {
     let text = String::from_utf8(file("tests/mic/triples.txt")).expect("text");
@@ -927,5 +960,7 @@ fn any_bytes_are_answered() {
         assert!(explain(message, &mut [0; EXPLAIN_ROOM]).is_ok());
         let _ = respond_for_bench(&mut room, message, CLOCK, true, &parts());
         let _ = write_response_pairs(&mut room, message, b"n\0", true, &[1; 16]);
+        let tidy = canonical_authenticate(&mut room, message);
+        assert!(tidy.is_err() || read_authenticate(message).is_ok());
     }
 }

@@ -914,6 +914,98 @@ static void answers(const message_t *challenge, const message_t *no_timestamp)
     CHECK(untouched(out, sizeof out));
 }
 
+/* The word kind of a line, by the NT response's length. */
+static void tells_the_kind(void)
+{
+    static const struct {
+        unsigned len;
+        const char *kind;
+    } kinds[] = {{0, "none"}, {1, "odd"}, {23, "odd"}, {24, "v1"}, {25, "odd"}, {43, "odd"}, {44, "v2"}, {45, "v2"}};
+    uint8_t out[256], response[45] = {0}, line[160];
+    uint64_t len, line_len;
+    char expected[160];
+    unsigned i;
+
+    for (i = 0; i < sizeof kinds / sizeof *kinds; i++) {
+        len = dialtable_write_authenticate(out, sizeof out, DIALTABLE_FLAG_UNICODE, version, mic, NULL, 0, response,
+                                           kinds[i].len, NULL, 0, NULL, 0, NULL, 0, NULL, 0);
+        EQUAL(len, 88 + kinds[i].len);
+        line_len = dialtable_authenticate_line(out, len, line, sizeof line);
+        sprintf(expected, "auth flags=00000001 set=U domain= user= work= lm=0 nt=%u key=0 mic=1 kind=%s\n", kinds[i].len,
+                kinds[i].kind);
+        EQUAL(line_len, strlen(expected));
+        CHECK(memcmp(line, expected, strlen(expected)) == 0);
+    }
+}
+
+/* P1 with its fields in another order, a Version, MaxLen and bytes that no field covers comes out as P1 does. */
+static void writes_one_way(const message_t *p1)
+{
+    static const uint8_t nt_at_90[8] = {24, 0, 0, 0, 90, 0, 0, 0}, user_at_114[8] = {8, 0, 9, 9, 114, 0, 0, 0};
+    uint8_t one[120], two[121], again[120];
+    message_t other = *p1, no_mic = *p1, keyed = *p1;
+
+    memset(one, FILL, sizeof one);
+    EQUAL(dialtable_canonical_authenticate(one, sizeof one, p1->bytes, p1->len), 120);
+    EQUAL(dialtable_canonical_authenticate(again, sizeof again, one, sizeof one), 120);
+    CHECK(memcmp(one, again, sizeof one) == 0);
+    other.len = 130;
+    memset(other.bytes + 64, 0x5A, 8);
+    memset(other.bytes + 88, 0x5A, 42);
+    memcpy(other.bytes + 20, nt_at_90, 8);
+    memcpy(other.bytes + 36, user_at_114, 8);
+    memcpy(other.bytes + 90, p1->bytes + 96, 24);
+    memcpy(other.bytes + 114, p1->bytes + 88, 8);
+    memset(two, FILL, sizeof two);
+    EQUAL(dialtable_canonical_authenticate(two, sizeof two, other.bytes, other.len), 120);
+    CHECK(memcmp(one, two, sizeof one) == 0 && two[120] == FILL);
+
+    /* No MIC is sixteen zeros; a key that doesn't count is empty. */
+    no_mic.bytes[40] = 64;
+    memcpy(no_mic.bytes + 64, p1->bytes + 88, 8);
+    memset(no_mic.bytes + 72, 0x5A, 16);
+    no_mic.bytes[52] = 16;
+    EQUAL(dialtable_canonical_authenticate(two, sizeof two, no_mic.bytes, no_mic.len), 120);
+    CHECK(memcmp(one, two, sizeof one) == 0);
+    /* Another MIC is another meaning. */
+    other.bytes[87] ^= 1;
+    EQUAL(dialtable_canonical_authenticate(two, sizeof two, other.bytes, other.len), 120);
+    CHECK(memcmp(one, two, sizeof one) != 0 && two[87] == 1);
+
+    /* Refused: the reading's, 32, 33; nothing changes. */
+    memset(two, FILL, sizeof two);
+    CHECK(refused(dialtable_canonical_authenticate(two, 119, p1->bytes, p1->len), 33, 0));
+    keyed.bytes[63] = 0x40;
+    keyed.bytes[52] = 15;
+    keyed.bytes[56] = 96;
+    CHECK(refused(dialtable_canonical_authenticate(two, 0, keyed.bytes, keyed.len), 32, 6));
+    keyed.bytes[52] = 16;
+    CHECK(refused(dialtable_canonical_authenticate(two, sizeof two, keyed.bytes, keyed.len), 33, 0)); /* 136 bytes */
+    keyed.bytes[40] = 112;
+    CHECK(refused(dialtable_canonical_authenticate(two, sizeof two, keyed.bytes, keyed.len), 9, 4));
+    CHECK(refused(dialtable_canonical_authenticate(NULL, 0, NULL, 0), 2, 0));
+    CHECK(untouched(two, sizeof two));
+}
+
+/* Secrets that share bytes are written twice, which can be too long: 30. */
+static void writes_shared_secrets_twice(void)
+{
+    static uint8_t msg[33000], out[65600];
+    uint64_t len;
+
+    len = dialtable_write_authenticate(msg, sizeof msg, DIALTABLE_FLAG_OEM, version, mic, msg, 0, out, 32724, NULL, 0,
+                                       NULL, 0, NULL, 0, NULL, 0);
+    EQUAL(len, 32812);
+    memcpy(msg + 12, msg + 20, 8);
+    msg[12]--; /* 88 + 32723 + 32724 */
+    EQUAL(dialtable_canonical_authenticate(out, sizeof out, msg, len), 65535);
+    msg[12]++;
+    memset(out, FILL, sizeof out);
+    CHECK(refused(dialtable_canonical_authenticate(out, sizeof out, msg, len), 30, 0));
+    CHECK(refused(dialtable_canonical_authenticate(NULL, 0, msg, len), 30, 0));
+    CHECK(untouched(out, sizeof out));
+}
+
 /* The MIC of nego, the challenge and P1, whose own MIC is zeros, is the one of another program. */
 static void works_out_the_mic(const message_t *p1, const message_t *challenge)
 {
@@ -1091,6 +1183,9 @@ int main(int argc, char **argv)
     decides(&challenge, &no_timestamp);
     finds_domain(&challenge);
     answers(&challenge, &no_timestamp);
+    tells_the_kind();
+    writes_one_way(&p1);
+    writes_shared_secrets_twice();
     works_out_the_mic(&p1, &challenge);
     takes_numbers_in_wide_registers(&p1, &challenge);
     names_numbers();

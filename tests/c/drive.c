@@ -153,6 +153,7 @@ static void writes(unsigned room)
                                          msg + 2, a % 3));
     CALL(dialtable_write_nl_auth_response(out, room));
     CALL(dialtable_write_response_pairs(out, room, msg, len, msg + 11, name_len, unverified, mic));
+    CALL(dialtable_canonical_authenticate(out, room, msg, len));
 }
 
 static void answers(unsigned room, unsigned places)

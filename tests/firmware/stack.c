@@ -86,6 +86,7 @@ static void measure(const uint8_t *msg, dialtable_len len)
     STACK(respond_for_relay, out, sizeof out, msg, len, 5, PARTS);
 #define SIGN_IN zeros, 16, messages[first].bytes, messages[first].len, messages[second].bytes, messages[second].len, \
                 msg, len
+    STACK(canonical_authenticate, out, sizeof out, msg, len);
     STACK(mic, SIGN_IN, bytes, 16);
     STACK(check_mic, SIGN_IN);
 }

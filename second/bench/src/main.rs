@@ -12,9 +12,10 @@ use std::time::{Duration, Instant};
 
 use dialtable::raw;
 use reader::{
-    answer_for_bench, authenticate_line, challenge_line, explain, negotiate_line, nl_auth_line,
-    nl_auth_name, write_authenticate, write_negotiate, write_nl_auth_request, write_response_pairs,
-    Authenticate, AvId, Challenge, Negotiate, NlAuth, NlAuthFlags, Refusal, Secrets, TargetInfo,
+    answer_for_bench, authenticate_line, canonical_authenticate, challenge_line, explain,
+    negotiate_line, nl_auth_line, nl_auth_name, write_authenticate, write_negotiate,
+    write_nl_auth_request, write_response_pairs, Authenticate, AvId, Challenge, Negotiate, NlAuth,
+    NlAuthFlags, Refusal, Secrets, TargetInfo,
 };
 
 use inputs::{Account, Opening, SignIn, Target, BEFORE_LIST, FLAGS, TIMESTAMP};
@@ -269,6 +270,7 @@ fn usual() -> Vec<Measured> {
         write_names(),
         go_back(challenge.clone(), "six pairs"),
         respond(challenge, account),
+        tidy(Account::usual().message(FLAGS)),
         mic(SignIn::usual(), "three messages"),
         check_mic(SignIn::usual(), "three messages"),
     ]
@@ -287,9 +289,11 @@ fn captured(folder: &Path) -> Result<Vec<Measured>, String> {
                 |message| go_back(message, ""),
                 |message| respond(message, Account::usual()),
             ],
-            Some(3) => &[read_authenticate, |message| {
-                line_of_authenticate(message, "")
-            }],
+            Some(3) => &[
+                read_authenticate,
+                |message| line_of_authenticate(message, ""),
+                tidy,
+            ],
             _ => &[
                 |message| read_nl_auth(message, ""),
                 |message| line_of_nl_auth(message, ""),
@@ -341,6 +345,7 @@ fn growing() -> Vec<Measured> {
         let list = inputs::long_list(len - BEFORE_LIST);
         respond(inputs::challenge(&list), Account::usual())
     });
+    each(|len| tidy(Account::of_message(len).message(FLAGS)));
     each(|len| mic(SignIn::of_messages(len), "three as long"));
     calls
 }
@@ -647,6 +652,16 @@ fn respond(challenge: Vec<u8>, account: Account) -> Measured {
             )
         }),
     }
+}
+
+fn tidy(message: Vec<u8>) -> Measured {
+    line(
+        "canonical_authenticate",
+        bytes(&message),
+        |message, out| raw::canonical_authenticate(out, message),
+        canonical_authenticate,
+        message,
+    )
 }
 
 fn mic(sign_in: SignIn, what: &str) -> Measured {

@@ -2,7 +2,8 @@
 //! document 02 that have landed: reading NEGOTIATE, CHALLENGE, AUTHENTICATE,
 //! NL_AUTH and TargetInfo, the log line of each message, why one is refused,
 //! answering a challenge, writing NEGOTIATE, AUTHENTICATE, NL_AUTH and the pair
-//! list of an answer, and the MIC of a sign-in's three messages.
+//! list of an answer, an AUTHENTICATE's canonical form, and the MIC of a sign-in's
+//! three messages.
 //!
 //! Reading borrows from the message and allocates nothing. Every call ends
 //! for any input, takes time linear in what it is lent, and does not panic.
@@ -19,6 +20,7 @@
 
 mod answer;
 mod authenticate;
+mod canonical;
 mod challenge;
 mod dns_name;
 mod explain;
@@ -47,6 +49,7 @@ pub use answer::{
     Answer, Domain, Policy, Secrets, Settings,
 };
 pub use authenticate::Authenticate;
+pub use canonical::canonical_authenticate;
 pub use challenge::Challenge;
 pub use explain::explain;
 pub use flags::{CharacterSet, NegotiateFlags, NlAuthFlags};

@@ -119,6 +119,7 @@ fn library(call: &Call<'_>, out: &mut [u8], numbers: &mut [u64]) -> u64 {
                 Respond::Itself(thin) => itself(thin, out, challenge, clock, parts, numbers),
             }
         }
+        Call::CanonicalAuthenticate { message } => raw::canonical_authenticate(out, message),
         Call::Mic { key, messages } => raw::mic(key, &three(&messages), out),
         Call::CheckMic { key, messages } => raw::check_mic(key, &three(&messages)),
     }

@@ -179,6 +179,9 @@ pub enum Call<'a> {
         clock: u64,
         parts: Parts<'a>,
     },
+    CanonicalAuthenticate {
+        message: &'a [u8],
+    },
     Mic {
         key: &'a [u8],
         messages: SignIn<'a>,
@@ -191,7 +194,7 @@ pub enum Call<'a> {
 
 /// The names of the calls, without `dialtable_`, by [`Call::index`]; those of
 /// `crates/thin_calls` last.
-pub const NAMES: [&str; 36] = [
+pub const NAMES: [&str; 37] = [
     "read_authenticate",
     "read_challenge",
     "read_timestamp",
@@ -223,6 +226,7 @@ pub const NAMES: [&str; 36] = [
     "respond_for_bench",
     "respond_to_old_server",
     "respond_for_relay",
+    "canonical_authenticate",
     "mic",
     "check_mic",
     "thin_respond_for_bench",
@@ -273,6 +277,7 @@ impl Call<'_> {
             Self::Decide { .. } => const { place_of("decide") },
             Self::DomainToSend { .. } => const { place_of("domain_to_send") },
             Self::Respond { how, .. } => how.index(),
+            Self::CanonicalAuthenticate { .. } => const { place_of("canonical_authenticate") },
             Self::Mic { .. } => const { place_of("mic") },
             Self::CheckMic { .. } => const { place_of("check_mic") },
         }
@@ -338,7 +343,8 @@ impl Call<'_> {
             | Self::ReadNlAuth { message }
             | Self::NlAuthName { message, .. }
             | Self::FieldBytes { message, .. }
-            | Self::Line { message, .. } => vec![("message", message)],
+            | Self::Line { message, .. }
+            | Self::CanonicalAuthenticate { message } => vec![("message", message)],
             Self::CheckPairs { list }
             | Self::CountPairs { list }
             | Self::FindPair { list, .. }

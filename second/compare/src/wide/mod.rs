@@ -18,7 +18,7 @@ use crate::cases::cases;
 use crate::pairs::IDS;
 use crate::random::Random;
 use crate::report::{print_counts, print_differences};
-use crate::wire::KEY_EXCH;
+use crate::wire::{KEY_EXCH, MAX_MESSAGE};
 
 use call::{Call, Line, Respond};
 use hold::{Holder, Lent, Library, MOST_NUMBERS};
@@ -138,6 +138,7 @@ impl<L: Library> Run<L> {
         self.secrets_read(message);
         self.secrets_answered(&challenge);
         self.mics(message);
+        self.canonical(message);
     }
 
     fn readings(&mut self, message: &[u8]) {
@@ -422,6 +423,16 @@ impl<L: Library> Run<L> {
 }
 
 impl<L: Library> Run<L> {
+    /// A message's canonical form, and what comes out of that.
+    fn canonical(&mut self, message: &[u8]) {
+        self.hold_rooms(&Call::CanonicalAuthenticate { message });
+        let mut out = vec![0; message.len() + MAX_MESSAGE];
+        if let Ok(len) = reader::canonical_authenticate(message, &mut out) {
+            let message = &out[..len];
+            self.hold_rooms(&Call::CanonicalAuthenticate { message });
+        }
+    }
+
     /// The MIC of a sign-in, as it came, and with a MIC that is right, or wrong in
     /// one byte.
     fn mics(&mut self, message: &[u8]) {

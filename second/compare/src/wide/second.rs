@@ -2,8 +2,8 @@
 
 use reader::{
     answer, answer_for_bench, answer_for_old_servers, answer_for_relay, authenticate_line,
-    challenge_line, check_mic, domain_to_send, explain, field_bytes, mic, negotiate_line,
-    nl_auth_line, nl_auth_name, ntlm_line, write_authenticate, write_negotiate,
+    canonical_authenticate, challenge_line, check_mic, domain_to_send, explain, field_bytes, mic,
+    negotiate_line, nl_auth_line, nl_auth_name, ntlm_line, write_authenticate, write_negotiate,
     write_nl_auth_request, write_nl_auth_response, write_response_pairs, Answer, Authenticate,
     AuthenticateParts, AvId, Challenge, Field, Negotiate, NegotiateFlags, NlAuth, NlAuthFlags,
     Policy, Program, Reason, Refusal, ResponsePairs, Settings, TargetInfo,
@@ -82,6 +82,7 @@ fn call_of(call: &Call<'_>, out: &mut [u8], numbers: &mut [u64]) -> Result<usize
             put(numbers, &[time, u64::from(mic_due)]);
             Ok(len)
         }
+        Call::CanonicalAuthenticate { message } => canonical_authenticate(message, out),
         Call::Mic { key, messages } => {
             put_bytes(out, &mic(key, &messages)?);
             Ok(0)

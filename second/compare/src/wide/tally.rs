@@ -20,7 +20,7 @@ const OF_WRITING: [Refusals; 8] = [
 
 /// Numbers, their fields and the readings and writings that can refuse by them:
 /// each must have done so itself, since kinds of message share numbers.
-const OF_CALLS: [(&[u8], &[u8], &[&str]); 28] = [
+const OF_CALLS: [(&[u8], &[u8], &[&str]); 32] = [
     (
         &[1, 2, 4, 33],
         &[0],
@@ -104,6 +104,10 @@ const OF_CALLS: [(&[u8], &[u8], &[&str]); 28] = [
         ],
     ),
     (&[33], &[0], &["explain"]),
+    (&[1, 2, 3, 4, 5, 30, 33], &[0], &["canonical_authenticate"]),
+    (&[6, 7], &[1, 2, 3, 4, 5, 6], &["canonical_authenticate"]),
+    (&[8, 9], &[3, 4, 5], &["canonical_authenticate"]),
+    (&[32], &[6], &["canonical_authenticate"]),
     (&[1, 2, 3, 4, 5, 55, 56], &[0], &["mic", "check_mic"]),
     (&[6, 7], &[1, 2, 3, 4, 5, 6], &["mic", "check_mic"]),
     (&[8], &[1, 3, 4, 5], &["mic", "check_mic"]),

@@ -1,3 +1,4 @@
+mod canonical;
 mod dns_names;
 mod explain;
 mod mic;
