@@ -121,7 +121,9 @@ enum {
     DIALTABLE_REFUSED_TOO_MANY_JUMPS = 52,    /* a seventeenth jump in one name */
     DIALTABLE_REFUSED_NAME_TOO_LONG = 53,     /* a name, read or to write, whose coded length is over 255 */
     DIALTABLE_REFUSED_WRONG_SESSION_KEY = 55, /* a session key that isn't 16 bytes */
-    DIALTABLE_REFUSED_NO_MIC = 56             /* an AUTHENTICATE without a MIC */
+    DIALTABLE_REFUSED_NO_MIC = 56,            /* an AUTHENTICATE without a MIC */
+    DIALTABLE_REFUSED_WRONG_SCHEME = 57,      /* a header's text without the word NTLM and a space after it */
+    DIALTABLE_REFUSED_WRONG_BASE64 = 58       /* a character, padding, group or last bits that base64 hasn't */
 };
 
 /* Flags of MS-NLMP 2.2.2.5: those that the library goes by. The others are read and written as they are. UNICODE wins
@@ -436,6 +438,19 @@ uint64_t dialtable_respond_for_relay(uint8_t *out, dialtable_len out_len, const 
 
 uint64_t dialtable_canonical_authenticate(uint8_t *out, dialtable_len out_len, const uint8_t *msg,
                                           dialtable_len msg_len);
+
+/* ---- Messages in HTTP header lines: what stands after 'Authorization: ' or 'WWW-Authenticate: '. The text holds the
+ * message's secrets. No byte of the message is looked at. */
+
+/* Writes 'NTLM ' and the message in base64 (RFC 4648, section 4) with padding. Refuses 1, then 33. Answers the text's
+ * length, which is DIALTABLE_HEADER_LEN(msg_len). */
+#define DIALTABLE_HEADER_LEN(msg_len) (5 + ((uint64_t)(msg_len) + 2) / 3 * 4)
+uint64_t dialtable_export_header(uint8_t *out, dialtable_len out_len, const uint8_t *msg, dialtable_len msg_len);
+/* Reads such a text and writes the message. The word may have any letter case, one or more spaces (0x20) follow it, and
+ * nothing follows the text, no line end either. Unused last bits must be zero, so that two texts that give one message
+ * differ only in the word's case and the count of spaces. Refuses 57, 58, 1 a message over 65,535 bytes, and 33. Room:
+ * three bytes for every four characters always suffice. Answers the message's length. */
+uint64_t dialtable_import_header(uint8_t *out, dialtable_len out_len, const uint8_t *text, dialtable_len text_len);
 
 /* ---- The MIC of a sign-in: HMAC-MD5 (RFC 2104 over RFC 1321) of its three messages, one after the other and whole, with
  * the sixteen bytes at DIALTABLE_MIC_AT of the AUTHENTICATE taken as zero, whatever stands there. The key is the exported

@@ -28,6 +28,7 @@
 compile_error!("the bindings are for targets whose usize has 64 bits");
 
 mod answering;
+mod headers;
 mod lines;
 mod pairs;
 pub mod raw;
@@ -40,6 +41,7 @@ pub use answering::{
     decide, domain_to_send, respond, respond_for_bench, respond_for_relay, respond_to_old_server,
     write_response_pairs, Answer, Decision, Settings,
 };
+pub use headers::{export_header, import_header};
 pub use lines::{
     authenticate_line, challenge_line, explain, negotiate_line, nl_auth_line, nl_auth_program_line,
     ntlm_line, ntlm_program_line,

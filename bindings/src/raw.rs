@@ -167,6 +167,9 @@ mod c {
         pub fn dialtable_canonical_authenticate(out: *mut u8, out_len: usize, msg: *const u8,
                                                 msg_len: usize) -> u64;
 
+        pub fn dialtable_export_header(out: *mut u8, out_len: usize, msg: *const u8, msg_len: usize) -> u64;
+        pub fn dialtable_import_header(out: *mut u8, out_len: usize, text: *const u8, text_len: usize) -> u64;
+
         pub fn dialtable_mic(key: *const u8, key_len: usize, negotiate: *const u8, negotiate_len: usize,
                              challenge: *const u8, challenge_len: usize, authenticate: *const u8,
                              authenticate_len: usize, mic: *mut u8, mic_len: usize) -> u64;
@@ -583,6 +586,18 @@ pub fn canonical_authenticate(out: &mut [u8], message: &[u8]) -> u64 {
             message.len(),
         )
     }
+}
+
+/// Writes a message as the text of an HTTP header line.
+pub fn export_header(out: &mut [u8], message: &[u8]) -> u64 {
+    unsafe {
+        c::dialtable_export_header(out.as_mut_ptr(), out.len(), message.as_ptr(), message.len())
+    }
+}
+
+/// Writes the message that the text of an HTTP header line carries.
+pub fn import_header(out: &mut [u8], text: &[u8]) -> u64 {
+    unsafe { c::dialtable_import_header(out.as_mut_ptr(), out.len(), text.as_ptr(), text.len()) }
 }
 
 /// Works out the MIC of a sign-in: 16 bytes of `out`.

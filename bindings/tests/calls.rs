@@ -4,13 +4,13 @@ use std::fs;
 
 use dialtable::{
     authenticate_line, canonical_authenticate, challenge_line, check_mic, check_pairs, count_pairs,
-    decide, domain_to_send, explain, find_pair, mic, negotiate_line, nl_auth_line, nl_auth_name,
-    nl_auth_program_line, ntlm_line, ntlm_program_line, raw, read_authenticate, read_challenge,
-    read_negotiate, read_nl_auth, read_server_names, read_timestamp, respond, respond_for_bench,
-    respond_for_relay, respond_to_old_server, write_authenticate, write_negotiate,
-    write_nl_auth_request, write_nl_auth_response, write_response_pairs, Answer, Decision, Field,
-    Negotiate, NlAuth, NlAuthString, Pair, Parts, Reason, Refusal, ServerNames, Settings, SignIn,
-    Walk, EXPLAIN_ROOM,
+    decide, domain_to_send, explain, export_header, find_pair, import_header, mic, negotiate_line,
+    nl_auth_line, nl_auth_name, nl_auth_program_line, ntlm_line, ntlm_program_line, raw,
+    read_authenticate, read_challenge, read_negotiate, read_nl_auth, read_server_names,
+    read_timestamp, respond, respond_for_bench, respond_for_relay, respond_to_old_server,
+    write_authenticate, write_negotiate, write_nl_auth_request, write_nl_auth_response,
+    write_response_pairs, Answer, Decision, Field, Negotiate, NlAuth, NlAuthString, Pair, Parts,
+    Reason, Refusal, ServerNames, Settings, SignIn, Walk, EXPLAIN_ROOM,
 };
 
 const UNICODE: u32 = 0x1;
@@ -827,6 +827,45 @@ fn one_meaning_has_one_writing() {
     );
 }
 
+#[test]
+fn messages_in_header_lines() {
+    let mut text = [0xEE; 400];
+    let exported = export_header(&mut text, &p1()).expect("text").to_vec();
+    assert_eq!(exported.len(), 5 + 160);
+    assert!(exported.starts_with(b"NTLM TlRMTVNTUAADAAAA"));
+    assert_eq!(text[exported.len()..], [0xEE; 400][exported.len()..]);
+    let mut message = [0xEE; 120];
+    assert_eq!(import_header(&mut message, &exported), Ok(&p1()[..]));
+    // The lines that curl and a server sent.
+    let lines = String::from_utf8(file("messages/http-curl.txt")).expect("text");
+    for line in lines.lines() {
+        let (_, text) = line.split_once(": ").expect("a header line");
+        let mut room = [0; 400];
+        let message = import_header(&mut room, text.as_bytes()).expect("taken");
+        let mut line = [0; 200];
+        let shown = ntlm_line(message, &mut line).expect("room");
+        assert!(!shown.starts_with(b"refused"));
+        let mut again = [0; 600];
+        assert_eq!(export_header(&mut again, message), Ok(text.as_bytes()));
+    }
+    for (text, number) in [
+        (&b"NTLM"[..], 57),
+        (b"NTLMX Zg==", 57),
+        (b" NTLM Zg==", 57),
+        (b"NTLM Zg=", 58),
+        (b"NTLM Zh==", 58),
+        (b"NTLM Zg==\r\n", 58),
+        (b"NTLM Zm9vYmFy", 33),
+    ] {
+        let mut room = [0xEE; 5];
+        assert_eq!(refusal(import_header(&mut room, text)), (number, 0));
+        assert_eq!(room, [0xEE; 5]);
+    }
+    assert_eq!(import_header(&mut [], b"ntlm   "), Ok(&[][..]));
+    assert_eq!(refusal(export_header(&mut text, &vec![0; 65_536])), (1, 0));
+    assert_eq!(refusal(export_header(&mut text[..4], &[])), (33, 0));
+}
+
 /// One of the sign-ins of tests/mic/triples.txt, by its line: key, messages, MIC.
 fn sign_ins() -> Vec<[Vec<u8>; 5]> {
     let text = String::from_utf8(file("tests/mic/triples.txt")).expect("text");
@@ -962,5 +1001,9 @@ fn any_bytes_are_answered() {
         let _ = write_response_pairs(&mut room, message, b"n\0", true, &[1; 16]);
         let tidy = canonical_authenticate(&mut room, message);
         assert!(tidy.is_err() || read_authenticate(message).is_ok());
+        let text = export_header(&mut room, message).map(<[u8]>::to_vec);
+        let mut back = vec![0; message.len()];
+        let text = text.expect("room");
+        assert_eq!(import_header(&mut back, &text), Ok(&message[..]));
     }
 }

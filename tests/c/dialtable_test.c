@@ -1006,6 +1006,92 @@ static void writes_shared_secrets_twice(void)
     CHECK(untouched(out, sizeof out));
 }
 
+/* RFC 4648, section 10, and P1 both ways. */
+static void carries_messages(const message_t *p1)
+{
+    static const char *const vectors[][2] = {
+        {"", "NTLM "}, {"f", "NTLM Zg=="}, {"fo", "NTLM Zm8="}, {"foo", "NTLM Zm9v"}, {"foob", "NTLM Zm9vYg=="},
+        {"fooba", "NTLM Zm9vYmE="}, {"foobar", "NTLM Zm9vYmFy"}};
+    uint8_t text[200], msg[200];
+    uint64_t text_len;
+    size_t plain_len, coded_len;
+    unsigned i;
+
+    for (i = 0; i < sizeof vectors / sizeof *vectors; i++) {
+        plain_len = strlen(vectors[i][0]);
+        coded_len = strlen(vectors[i][1]);
+        EQUAL(DIALTABLE_HEADER_LEN(plain_len), coded_len);
+        memset(text, FILL, sizeof text);
+        EQUAL(dialtable_export_header(text, coded_len, (const uint8_t *)vectors[i][0], plain_len), coded_len);
+        CHECK(memcmp(text, vectors[i][1], coded_len) == 0 && untouched(text + coded_len, sizeof text - coded_len));
+        memset(msg, FILL, sizeof msg);
+        EQUAL(dialtable_import_header(msg, plain_len, text, coded_len), plain_len);
+        CHECK(memcmp(msg, vectors[i][0], plain_len) == 0 && untouched(msg + plain_len, sizeof msg - plain_len));
+        /* One byte too little room, and one character too few. */
+        memset(msg, FILL, sizeof msg);
+        if (plain_len > 0)
+            CHECK(refused(dialtable_import_header(msg, plain_len - 1, text, coded_len), 33, 0));
+        CHECK(refused(dialtable_import_header(msg, sizeof msg, text, coded_len - 1), plain_len > 0 ? 58 : 57, 0));
+        CHECK(refused(dialtable_export_header(msg, coded_len - 1, (const uint8_t *)vectors[i][0], plain_len), 33, 0));
+        CHECK(untouched(msg, sizeof msg));
+    }
+    text_len = dialtable_export_header(text, sizeof text, p1->bytes, p1->len);
+    EQUAL(text_len, DIALTABLE_HEADER_LEN(p1->len));
+    CHECK(memcmp(text, "NTLM TlRMTVNTUAADAAAA", 21) == 0);
+    EQUAL(dialtable_import_header(msg, sizeof msg, text, text_len), p1->len);
+    CHECK(memcmp(msg, p1->bytes, (size_t)p1->len) == 0);
+}
+
+/* What a text must be, and the order of its refusals. */
+static void imports_strictly(void)
+{
+    static const struct {
+        const char *text;
+        unsigned number;
+    } texts[] = {{"", 57}, {"NTLM", 57}, {"NTLMZg==", 57}, {"NTLM\tZg==", 57}, {" NTLM Zg==", 57}, {"NTLMX Zg==", 57},
+                 {"Negotiate Zg==", 57}, {"NTLM Zg=", 58}, {"NTLM Zg", 58}, {"NTLM Zg===", 58}, {"NTLM Zh==", 58},
+                 {"NTLM Zm9=", 58}, {"NTLM Z===", 58}, {"NTLM ====", 58}, {"NTLM Zg==Zg==", 58}, {"NTLM Zm-_", 58},
+                 {"NTLM Zg== ", 58}, {"NTLM Zg==\r\n", 58}, {"NTLM Zg==,", 58}, {"NTLM Zm 9", 58},
+                 {"NTLM \tZg==", 58}};
+    static const char *const same[] = {"NTLM Zg==", "ntlm Zg==", "nTlM      Zg==", "Ntlm  Zg=="};
+    static uint8_t text[87400], msg[65540];
+    uint64_t text_len;
+    unsigned i;
+
+    memset(msg, FILL, sizeof msg);
+    for (i = 0; i < sizeof texts / sizeof *texts; i++)
+        CHECK(refused(dialtable_import_header(msg, sizeof msg, (const uint8_t *)texts[i].text, strlen(texts[i].text)),
+                      texts[i].number, 0));
+    CHECK(refused(dialtable_import_header(NULL, 0, NULL, 0), 57, 0));
+    CHECK(refused(dialtable_export_header(NULL, 0, NULL, 0), 33, 0));
+    CHECK(untouched(msg, sizeof msg));
+    for (i = 0; i < sizeof same / sizeof *same; i++) {
+        msg[0] = FILL;
+        EQUAL(dialtable_import_header(msg, 1, (const uint8_t *)same[i], strlen(same[i])), 1);
+        EQUAL(msg[0], 'f');
+    }
+    EQUAL(dialtable_import_header(NULL, 0, (const uint8_t *)"NTLM   ", 7), 0);
+
+    /* 65,535 bytes, and one more: 58 comes before 1, and 1 before 33. */
+    memset(msg, 0x5A, sizeof msg);
+    CHECK(refused(dialtable_export_header(text, sizeof text, msg, 65536), 1, 0));
+    CHECK(refused(dialtable_export_header(NULL, 0, msg, 65536), 1, 0));
+    text_len = dialtable_export_header(text, sizeof text, msg, 65535);
+    EQUAL(text_len, 87385);
+    memset(msg, FILL, sizeof msg);
+    EQUAL(dialtable_import_header(msg, 65535, text, text_len), 65535);
+    EQUAL(msg[65534], 0x5A);
+    EQUAL(msg[65535], FILL);
+    memset(msg, FILL, sizeof msg);
+    memcpy(text + text_len, "AA==", 4);
+    CHECK(refused(dialtable_import_header(msg, sizeof msg, text, text_len + 4), 1, 0));
+    CHECK(refused(dialtable_import_header(NULL, 0, text, text_len + 4), 1, 0));
+    text[text_len + 1] = 'B';
+    CHECK(refused(dialtable_import_header(msg, sizeof msg, text, text_len + 4), 58, 0));
+    CHECK(refused(dialtable_import_header(msg, 65534, text, text_len), 33, 0));
+    CHECK(untouched(msg, sizeof msg));
+}
+
 /* The MIC of nego, the challenge and P1, whose own MIC is zeros, is the one of another program. */
 static void works_out_the_mic(const message_t *p1, const message_t *challenge)
 {
@@ -1130,6 +1216,7 @@ static void names_numbers(void)
         DIALTABLE_REFUSED_WRONG_KEY, DIALTABLE_REFUSED_NO_ROOM, DIALTABLE_REFUSED_ZERO_IN_STRING,
         DIALTABLE_REFUSED_WRONG_LABEL, DIALTABLE_REFUSED_PLACE_NOT_BEFORE, DIALTABLE_REFUSED_TOO_MANY_JUMPS,
         DIALTABLE_REFUSED_NAME_TOO_LONG, DIALTABLE_REFUSED_WRONG_SESSION_KEY, DIALTABLE_REFUSED_NO_MIC,
+        DIALTABLE_REFUSED_WRONG_SCHEME, DIALTABLE_REFUSED_WRONG_BASE64,
         DIALTABLE_FLAG_UNICODE, DIALTABLE_FLAG_OEM, DIALTABLE_FLAG_REQUEST_TARGET, DIALTABLE_FLAG_SIGN,
         DIALTABLE_FLAG_SEAL, DIALTABLE_FLAG_DOMAIN_SUPPLIED, DIALTABLE_FLAG_WORKSTATION_SUPPLIED,
         DIALTABLE_FLAG_TARGET_INFO, DIALTABLE_FLAG_VERSION, DIALTABLE_FLAG_128, DIALTABLE_FLAG_KEY_EXCH,
@@ -1139,6 +1226,7 @@ static void names_numbers(void)
         DIALTABLE_NL_AUTH_BIT_C, DIALTABLE_NL_AUTH_BIT_D, DIALTABLE_NL_AUTH_BIT_E};
     static const uint32_t expected[] = {
         1, 2, 3, 4, 5, 6, 7, 8, 9, 10, 11, 12, 13, 14, 15, 16, 17, 20, 21, 30, 31, 32, 33, 34, 50, 51, 52, 53, 55, 56,
+        57, 58,
         0x1, 0x2, 0x4, 0x10, 0x20, 0x1000, 0x2000, 0x800000, 0x2000000, 0x20000000, 0x40000000,
         1, 2, 3, 4, 5, 6, 7, 8, 9, 10, 0x1, 0x2, 0x4, 0x8, 0x10};
     unsigned i;
@@ -1186,6 +1274,8 @@ int main(int argc, char **argv)
     tells_the_kind();
     writes_one_way(&p1);
     writes_shared_secrets_twice();
+    carries_messages(&p1);
+    imports_strictly();
     works_out_the_mic(&p1, &challenge);
     takes_numbers_in_wide_registers(&p1, &challenge);
     names_numbers();

@@ -140,6 +140,23 @@ static const uint8_t text[] =
     "dc1.a.bc.dc1.a.bc.dc1.a.bc.dc1.a.bc.dc1.a.bc."
     "0123456789012345678901234567890123456789012345678901234567890123456789";
 
+/* The text of a short part of the message, with up to two characters changed. */
+static void imports(unsigned room)
+{
+    static const uint8_t others[] = "NTLMntlm =AZaz09+/-_\t\r\n";
+    uint8_t header[80];
+    unsigned size = draw(50), changes = draw(3), at, other;
+    uint64_t header_len = dialtable_export_header(header, sizeof header, msg, size);
+
+    while (changes-- > 0) {
+        at = draw((uint32_t)header_len);
+        other = draw(sizeof others);
+        header[at] = others[other];
+    }
+    header_len -= draw(6) ? 0 : draw((uint32_t)header_len);
+    CALL(dialtable_import_header(out, room < 64 ? room % 40 : room, header, header_len));
+}
+
 static void writes(unsigned room)
 {
     uint32_t flags = draw(2) ? 0xE28A8215u : draw_32(), bits = draw(64), unverified = draw(3);
@@ -154,6 +171,8 @@ static void writes(unsigned room)
     CALL(dialtable_write_nl_auth_response(out, room));
     CALL(dialtable_write_response_pairs(out, room, msg, len, msg + 11, name_len, unverified, mic));
     CALL(dialtable_canonical_authenticate(out, room, msg, len));
+    CALL(dialtable_export_header(out, room, msg, len));
+    imports(room);
 }
 
 static void answers(unsigned room, unsigned places)

@@ -87,6 +87,8 @@ static void measure(const uint8_t *msg, dialtable_len len)
 #define SIGN_IN zeros, 16, messages[first].bytes, messages[first].len, messages[second].bytes, messages[second].len, \
                 msg, len
     STACK(canonical_authenticate, out, sizeof out, msg, len);
+    STACK(export_header, out, sizeof out, msg, len);
+    STACK(import_header, out, sizeof out, (const uint8_t *)"NTLM Zm9vYg==", 13);
     STACK(mic, SIGN_IN, bytes, 16);
     STACK(check_mic, SIGN_IN);
 }

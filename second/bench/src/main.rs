@@ -13,9 +13,9 @@ use std::time::{Duration, Instant};
 use dialtable::raw;
 use reader::{
     answer_for_bench, authenticate_line, canonical_authenticate, challenge_line, explain,
-    negotiate_line, nl_auth_line, nl_auth_name, write_authenticate, write_negotiate,
-    write_nl_auth_request, write_response_pairs, Authenticate, AvId, Challenge, Negotiate, NlAuth,
-    NlAuthFlags, Refusal, Secrets, TargetInfo,
+    export_header, import_header, negotiate_line, nl_auth_line, nl_auth_name, write_authenticate,
+    write_negotiate, write_nl_auth_request, write_response_pairs, Authenticate, AvId, Challenge,
+    Negotiate, NlAuth, NlAuthFlags, Refusal, Secrets, TargetInfo,
 };
 
 use inputs::{Account, Opening, SignIn, Target, BEFORE_LIST, FLAGS, TIMESTAMP};
@@ -271,6 +271,8 @@ fn usual() -> Vec<Measured> {
         go_back(challenge.clone(), "six pairs"),
         respond(challenge, account),
         tidy(Account::usual().message(FLAGS)),
+        export(Account::usual().message(FLAGS)),
+        import(&Account::usual().message(FLAGS)),
         mic(SignIn::usual(), "three messages"),
         check_mic(SignIn::usual(), "three messages"),
     ]
@@ -346,6 +348,8 @@ fn growing() -> Vec<Measured> {
         respond(inputs::challenge(&list), Account::usual())
     });
     each(|len| tidy(Account::of_message(len).message(FLAGS)));
+    each(|len| export(Account::of_message(len).message(FLAGS)));
+    each(|len| import(&Account::of_message(len).message(FLAGS)));
     each(|len| mic(SignIn::of_messages(len), "three as long"));
     calls
 }
@@ -424,9 +428,9 @@ fn name_of_nl_auth(message: Vec<u8>, which: u32, what: &str) -> Measured {
     )
 }
 
-/// Room for any line here.
+/// Room for any line and any text here.
 fn room() -> Vec<u8> {
-    vec![0; 66_000]
+    vec![0; 90_000]
 }
 
 fn line_of_authenticate(message: Vec<u8>, what: &str) -> Measured {
@@ -662,6 +666,34 @@ fn tidy(message: Vec<u8>) -> Measured {
         canonical_authenticate,
         message,
     )
+}
+
+fn export(message: Vec<u8>) -> Measured {
+    let through = Some(message.len());
+    let call = line(
+        "export_header",
+        bytes(&message),
+        |message, out| raw::export_header(out, message),
+        export_header,
+        message,
+    );
+    Measured { through, ..call }
+}
+
+/// The message's text is read; its bytes are those that are counted.
+fn import(message: &[u8]) -> Measured {
+    let mut text = vec![0; 90_000];
+    let len = export_header(message, &mut text).expect("a text");
+    text.truncate(len);
+    let call = line(
+        "import_header",
+        bytes(message),
+        |text, out| raw::import_header(out, text),
+        import_header,
+        text,
+    );
+    let through = Some(message.len());
+    Measured { through, ..call }
 }
 
 fn mic(sign_in: SignIn, what: &str) -> Measured {

@@ -1,18 +1,18 @@
 //! Calls of the proved library, linked in: the canonical form of an AUTHENTICATE
-//! from one file to another.
+//! from one file to another, and the message that a header line's text carries.
 
 #![forbid(unsafe_code)]
 
 use std::env;
 use std::ffi::OsString;
-use std::io::{self, Write};
+use std::io::{self, Read, Write};
 use std::path::Path;
 use std::process::ExitCode;
 
 use depot::folder::{MessageFile, NotRead};
 use depot::secret_file;
 
-const USAGE: &str = "usage: linked canonical FILE OUT";
+const USAGE: &str = "usage: linked canonical FILE OUT | linked import < TEXT";
 
 fn main() -> ExitCode {
     let args: Vec<OsString> = env::args_os().skip(1).collect();
@@ -20,6 +20,7 @@ fn main() -> ExitCode {
         [command, file, out] if command == "canonical" => {
             canonical(Path::new(file), Path::new(out))
         }
+        [command] if command == "import" => import().map_err(|error| format!("linked: {error}")),
         _ => return fail(2, USAGE),
     };
     match done {
@@ -33,6 +34,31 @@ fn fail(status: u8, message: &str) -> ExitCode {
     // Where standard error is closed, the status still tells.
     let _ = writeln!(io::stderr(), "{message}");
     ExitCode::from(status)
+}
+
+/// Takes all of standard input as the text of a header line, and prints its message in
+/// hex or its refusal, on one line. It is for the depot bench, which shows no message.
+fn import() -> io::Result<()> {
+    let mut text = Vec::new();
+    io::stdin().lock().read_to_end(&mut text)?;
+    let mut room = vec![0; reader::MAX_MESSAGE];
+    let mut line = Vec::new();
+    match dialtable::import_header(&mut room, &text) {
+        Ok(message) => {
+            for byte in message {
+                write!(line, "{byte:02X}")?;
+            }
+        }
+        Err(refusal) => {
+            let dialtable::Refusal { field, place, .. } = refusal;
+            let number = refusal.number();
+            write!(line, "refused {number} field={field} at={place}")?;
+        }
+    }
+    line.push(b'\n');
+    let mut out = io::stdout().lock();
+    out.write_all(&line)?;
+    out.flush()
 }
 
 /// Writes the canonical form of a file's AUTHENTICATE to another file and nowhere

@@ -2,8 +2,8 @@
 //! document 02 that have landed: reading NEGOTIATE, CHALLENGE, AUTHENTICATE,
 //! NL_AUTH and TargetInfo, the log line of each message, why one is refused,
 //! answering a challenge, writing NEGOTIATE, AUTHENTICATE, NL_AUTH and the pair
-//! list of an answer, an AUTHENTICATE's canonical form, and the MIC of a sign-in's
-//! three messages.
+//! list of an answer, an AUTHENTICATE's canonical form, the MIC of a sign-in's
+//! three messages, and messages in HTTP header lines.
 //!
 //! Reading borrows from the message and allocates nothing. Every call ends
 //! for any input, takes time linear in what it is lent, and does not panic.
@@ -20,12 +20,14 @@
 
 mod answer;
 mod authenticate;
+mod base64;
 mod canonical;
 mod challenge;
 mod dns_name;
 mod explain;
 mod flags;
 mod hmac_md5;
+mod http_header;
 mod kind;
 mod layout;
 mod line;
@@ -54,6 +56,7 @@ pub use challenge::Challenge;
 pub use explain::explain;
 pub use flags::{CharacterSet, NegotiateFlags, NlAuthFlags};
 pub use hmac_md5::hmac_md5;
+pub use http_header::{export_header, import_header};
 pub use line::{authenticate_line, challenge_line, negotiate_line, nl_auth_line, ntlm_line};
 pub use md5::md5;
 pub use mic::{check_mic, mic, SignIn};

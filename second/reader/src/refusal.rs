@@ -69,6 +69,10 @@ pub enum Reason {
     SessionKey = 55,
     /// "the AUTHENTICATE has no MIC"
     NoMic = 56,
+    /// "the scheme word or missing space"
+    Scheme = 57,
+    /// "a bad character, padding, group or last bits"
+    Base64 = 58,
 }
 
 impl Reason {

@@ -1,5 +1,6 @@
 //! Reads NTLM or NL_AUTH messages from standard input and prints the log line
-//! of each, or why an NTLM message is refused.
+//! of each, or why an NTLM message is refused; or reads the text of a header line and
+//! prints the message that it carries, in hex.
 
 #![forbid(unsafe_code)]
 
@@ -11,9 +12,10 @@ use std::fmt;
 use std::io::{self, BufRead, BufReader, BufWriter, Read, Write};
 use std::process::ExitCode;
 
-use reader::{Program, LINE_LIMIT, MAX_MESSAGE};
+use reader::{import_header, Program, LINE_LIMIT, MAX_MESSAGE};
 
-const USAGE: &str = "usage: second [batch] ntlm | second [batch] nl | second [batch] explain";
+const USAGE: &str =
+    "usage: second [batch] ntlm | second [batch] nl | second [batch] explain | second import";
 
 /// How many bytes of input and output a batch holds at a time.
 const BATCH_BUFFER: usize = 1 << 18;
@@ -26,6 +28,7 @@ fn main() -> ExitCode {
     let done = match command {
         Command::One(program) => print_one(program),
         Command::Batch(program) => print_batch(program),
+        Command::Import => print_imported(),
     };
     match done {
         Ok(()) => ExitCode::SUCCESS,
@@ -43,11 +46,13 @@ fn fail(status: u8, message: &dyn fmt::Display) -> ExitCode {
 enum Command {
     One(Program),
     Batch(Program),
+    Import,
 }
 
 impl Command {
     fn parse(args: &[OsString]) -> Option<Self> {
         match args {
+            [import] if import == "import" => Some(Self::Import),
             [program] => Some(Self::One(parse_program(program)?)),
             [batch, program] if batch == "batch" => Some(Self::Batch(parse_program(program)?)),
             _ => None,
@@ -97,6 +102,25 @@ fn print_one(program: Program) -> Result<(), Failure> {
     let mut room = Box::new([0; LINE_LIMIT]);
     let mut output = io::stdout().lock();
     output.write_all(program.line(&message, &mut room))?;
+    output.flush()?;
+    Ok(())
+}
+
+/// Takes all of standard input as the text of a header line, and prints its message in
+/// hex or its refusal, on one line.
+fn print_imported() -> Result<(), Failure> {
+    let mut text = Vec::new();
+    io::stdin().lock().read_to_end(&mut text)?;
+    let mut message = vec![0; MAX_MESSAGE];
+    let line = match import_header(&text, &mut message) {
+        Ok(len) => message[..len].iter().fold(String::new(), |mut line, byte| {
+            line.push_str(&format!("{byte:02X}"));
+            line
+        }),
+        Err(refusal) => refusal.to_string(),
+    };
+    let mut output = io::stdout().lock();
+    writeln!(output, "{line}")?;
     output.flush()?;
     Ok(())
 }

@@ -182,6 +182,12 @@ pub enum Call<'a> {
     CanonicalAuthenticate {
         message: &'a [u8],
     },
+    ExportHeader {
+        message: &'a [u8],
+    },
+    ImportHeader {
+        text: &'a [u8],
+    },
     Mic {
         key: &'a [u8],
         messages: SignIn<'a>,
@@ -194,7 +200,7 @@ pub enum Call<'a> {
 
 /// The names of the calls, without `dialtable_`, by [`Call::index`]; those of
 /// `crates/thin_calls` last.
-pub const NAMES: [&str; 37] = [
+pub const NAMES: [&str; 39] = [
     "read_authenticate",
     "read_challenge",
     "read_timestamp",
@@ -227,6 +233,8 @@ pub const NAMES: [&str; 37] = [
     "respond_to_old_server",
     "respond_for_relay",
     "canonical_authenticate",
+    "export_header",
+    "import_header",
     "mic",
     "check_mic",
     "thin_respond_for_bench",
@@ -278,6 +286,8 @@ impl Call<'_> {
             Self::DomainToSend { .. } => const { place_of("domain_to_send") },
             Self::Respond { how, .. } => how.index(),
             Self::CanonicalAuthenticate { .. } => const { place_of("canonical_authenticate") },
+            Self::ExportHeader { .. } => const { place_of("export_header") },
+            Self::ImportHeader { .. } => const { place_of("import_header") },
             Self::Mic { .. } => const { place_of("mic") },
             Self::CheckMic { .. } => const { place_of("check_mic") },
         }
@@ -344,7 +354,9 @@ impl Call<'_> {
             | Self::NlAuthName { message, .. }
             | Self::FieldBytes { message, .. }
             | Self::Line { message, .. }
-            | Self::CanonicalAuthenticate { message } => vec![("message", message)],
+            | Self::CanonicalAuthenticate { message }
+            | Self::ExportHeader { message } => vec![("message", message)],
+            Self::ImportHeader { text } => vec![("text", text)],
             Self::CheckPairs { list }
             | Self::CountPairs { list }
             | Self::FindPair { list, .. }

@@ -15,6 +15,7 @@ use std::time::{Duration, Instant};
 use reader::{NegotiateFlags, NegotiateParts};
 
 use crate::cases::cases;
+use crate::headers::{changed, other_text, Change, CHANGES};
 use crate::pairs::IDS;
 use crate::random::Random;
 use crate::report::{print_counts, print_differences};
@@ -139,6 +140,8 @@ impl<L: Library> Run<L> {
         self.secrets_answered(&challenge);
         self.mics(message);
         self.canonical(message);
+        let some = [(); 4].map(|()| self.random.pick(&CHANGES));
+        self.headers(message, &some);
     }
 
     fn readings(&mut self, message: &[u8]) {
@@ -431,6 +434,19 @@ impl<L: Library> Run<L> {
             let message = &out[..len];
             self.hold_rooms(&Call::CanonicalAuthenticate { message });
         }
+    }
+
+    /// A message in a header line and back, and out of texts that are changed.
+    fn headers(&mut self, message: &[u8], changes: &[Change]) {
+        self.hold_rooms(&Call::ExportHeader { message });
+        let text = other_text(&mut self.random, message);
+        self.hold_rooms(&Call::ImportHeader { text: &text });
+        for &change in changes {
+            let text = changed(&mut self.random, message, change);
+            self.hold_rooms(&Call::ImportHeader { text: &text });
+        }
+        // As a text by itself.
+        self.hold_rooms(&Call::ImportHeader { text: message });
     }
 
     /// The MIC of a sign-in, as it came, and with a MIC that is right, or wrong in

@@ -7,7 +7,7 @@ use crate::tally::{each_refusal, Columns, Refusals, REFUSALS};
 
 /// Each refusal that only answering, writing and working out can give, with every
 /// field that it can have.
-const OF_WRITING: [Refusals; 8] = [
+const OF_WRITING: [Refusals; 10] = [
     (20, &[0]),
     (21, &[0]),
     (30, &[0]),
@@ -16,11 +16,13 @@ const OF_WRITING: [Refusals; 8] = [
     (34, &[1, 2, 3, 4, 5]),
     (55, &[0]),
     (56, &[0]),
+    (57, &[0]),
+    (58, &[0]),
 ];
 
 /// Numbers, their fields and the readings and writings that can refuse by them:
 /// each must have done so itself, since kinds of message share numbers.
-const OF_CALLS: [(&[u8], &[u8], &[&str]); 32] = [
+const OF_CALLS: [(&[u8], &[u8], &[&str]); 34] = [
     (
         &[1, 2, 4, 33],
         &[0],
@@ -108,6 +110,8 @@ const OF_CALLS: [(&[u8], &[u8], &[&str]); 32] = [
     (&[6, 7], &[1, 2, 3, 4, 5, 6], &["canonical_authenticate"]),
     (&[8, 9], &[3, 4, 5], &["canonical_authenticate"]),
     (&[32], &[6], &["canonical_authenticate"]),
+    (&[1, 33], &[0], &["export_header", "import_header"]),
+    (&[57, 58], &[0], &["import_header"]),
     (&[1, 2, 3, 4, 5, 55, 56], &[0], &["mic", "check_mic"]),
     (&[6, 7], &[1, 2, 3, 4, 5, 6], &["mic", "check_mic"]),
     (&[8], &[1, 3, 4, 5], &["mic", "check_mic"]),
@@ -185,7 +189,7 @@ fn refusals() -> Vec<Refusals> {
 }
 
 /// One more than the highest number, and than the highest field.
-const NUMBERS: usize = 57;
+const NUMBERS: usize = 59;
 const FIELDS: usize = 7;
 
 /// The counts of one call.

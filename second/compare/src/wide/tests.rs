@@ -1,6 +1,7 @@
 mod canonical;
 mod dns_names;
 mod explain;
+mod headers;
 mod mic;
 mod response_pairs;
 
