@@ -93,20 +93,24 @@ fn last_bytes_of(group: &[u8; 4]) -> Option<([u8; 3], usize)> {
 }
 
 /// Groups of four that are all digits, and the last group, which may be padded.
-fn groups(text: &[u8]) -> Option<(&[[u8; 4]], Option<&[u8; 4]>)> {
+struct Groups<'a> {
+    others: &'a [[u8; 4]],
+    last: Option<&'a [u8; 4]>,
+}
+
+/// The groups of a text, none where it doesn't end with a whole one.
+fn groups(text: &[u8]) -> Option<Groups<'_>> {
     let (groups, rest) = text.as_chunks::<4>();
-    if !rest.is_empty() {
-        return None;
-    }
-    match groups.split_last() {
-        Some((last, others)) => Some((others, Some(last))),
-        None => Some((&[], None)),
-    }
+    let (last, others) = match groups.split_last() {
+        Some((last, others)) => (Some(last), others),
+        None => (None, groups),
+    };
+    rest.is_empty().then_some(Groups { others, last })
 }
 
 /// How many bytes a text holds, none where it is not base64.
 pub(crate) fn decoded_len(text: &[u8]) -> Option<usize> {
-    let (others, last) = groups(text)?;
+    let Groups { others, last } = groups(text)?;
     for group in others {
         bytes_of(group)?;
     }
@@ -120,7 +124,7 @@ pub(crate) fn decoded_len(text: &[u8]) -> Option<usize> {
 /// Puts the bytes of a text that [`decoded_len`] has measured into `out`, which has
 /// room for exactly these.
 pub(crate) fn decode(text: &[u8], out: &mut [u8]) {
-    let Some((others, last)) = groups(text) else {
+    let Some(Groups { others, last }) = groups(text) else {
         return;
     };
     let (places, end) = out.as_chunks_mut::<3>();

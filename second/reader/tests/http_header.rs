@@ -6,16 +6,20 @@ use common::{p1, refused};
 use reader::{export_header, import_header, Refusal};
 
 fn exported(message: &[u8]) -> Result<Vec<u8>, Refusal> {
-    written(|out| export_header(message, out))
+    written(2 * message.len() + 20, |out| export_header(message, out))
 }
 
 fn imported(text: impl AsRef<[u8]>) -> Result<Vec<u8>, Refusal> {
-    written(|out| import_header(text.as_ref(), out))
+    let text = text.as_ref();
+    written(text.len() + 10, |out| import_header(text, out))
 }
 
 /// What a call writes, with nothing after it changed.
-fn written(call: impl Fn(&mut [u8]) -> Result<usize, Refusal>) -> Result<Vec<u8>, Refusal> {
-    let mut out = vec![0xEE; 90_000];
+fn written(
+    room: usize,
+    call: impl Fn(&mut [u8]) -> Result<usize, Refusal>,
+) -> Result<Vec<u8>, Refusal> {
+    let mut out = vec![0xEE; room];
     let answer = call(&mut out);
     let len = answer.unwrap_or_default();
     assert!(out[len..].iter().all(|&byte| byte == 0xEE));
