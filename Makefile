@@ -1,10 +1,10 @@
 # make help lists the targets.
-.PHONY: help run explain night lib lib-small lib-thumb install test test-firmware compare wide bench
+.PHONY: help run explain night canonical lib lib-small lib-thumb install test test-firmware compare wide bench
 
 MESSAGES ?= messages
 PREFIX ?= /usr/local
 TARGET ?= thumbv7m-none-eabi
-export MESSAGES FILE DESTDIR
+export MESSAGES FILE OUT DESTDIR
 
 help:
 	@echo 'make run            the depot bench: every message in messages/ through the proved program and the second one;'
@@ -12,6 +12,8 @@ help:
 	@echo 'make explain        why one NTLM message is refused, check by check: FILE=message, raw, in hex or in base64'
 	@echo 'make night          the messages of a night in one call, by the proved library and the second program: FILE=buffer, with'
 	@echo '                    its index beside it (messages/README.md)'
+	@echo 'make canonical      one AUTHENTICATE tidied, for comparing it with another: FILE=message, raw, in hex or in base64, to'
+	@echo '                    OUT=file, which only you may read, since it holds secrets'
 	@echo 'make lib            the library for C and Rust: target/staticlib/libdialtable.a, whose header is include/dialtable.h'
 	@echo 'make lib-small      the same with less code: target/small/libdialtable.a'
 	@echo 'make lib-thumb      the same for a small box: target/TARGET/libdialtable.a; TARGET=thumbv7m-none-eabi is understood,'
@@ -33,6 +35,9 @@ explain:
 
 night:
 	@tools/night "$$FILE"
+
+canonical:
+	@tools/canonical "$$FILE" "$$OUT"
 
 lib:
 	@tools/build-lib

@@ -23,11 +23,18 @@
  *                                own.user_len, own.workstation, own.workstation_len, radio.key, 16, done,
  *                                DIALTABLE_RESPONSE_NUMBERS);
  *     if (DIALTABLE_IS_REFUSED(answer)) return answer;
- *     if (done[DIALTABLE_RESPONSE_MIC_DUE]) mic_of(&radio, first, first_len, challenge, challenge_len, out, answer,
- *                                                  out + DIALTABLE_MIC_AT);
+ *     if (done[DIALTABLE_RESPONSE_MIC_DUE]) {
+ *         worked_out = dialtable_mic(radio.session_key, 16, first, first_len, challenge, challenge_len, out, answer, mic,
+ *                                    sizeof mic);
+ *         if (DIALTABLE_IS_REFUSED(worked_out)) return worked_out;
+ *         memcpy(out + DIALTABLE_MIC_AT, mic, sizeof mic);
+ *     }
  *     line_len = dialtable_authenticate_line(out, answer, line, sizeof line);
  *     if (!DIALTABLE_IS_REFUSED(line_len)) log_it(line, line_len);
  *     return exchange(out, answer, NULL, 0);
+ *
+ * The key that is sent (radio.key) is the exported session key (radio.session_key) as the radio module has encrypted it;
+ * the MIC is worked out with the exported one itself.
  *
  * Names go out as they are given: the challenge's UNICODE decides, before the call, whether user, workstation and own
  * domain must be UTF-16LE or bytes; a target name is always UTF-16LE. Where the own domain is empty the server's may be
@@ -41,8 +48,8 @@
  * at its start and left as it was after that. An output must not overlap an input or another output. A pointer may be
  * NULL where its length is 0; version, mic and bindings, which come without a length, must never be NULL.
  *
- * The answer is 0, or the length of what was written, or a refusal. A refusal changes no byte of any output. An output
- * exactly as long as what is written suffices.
+ * The answer is 0, or the length of what was written, or a refusal; dialtable_check_mic's may also be 1, for yes. A
+ * refusal changes no byte of any output. An output exactly as long as what is written suffices.
  *
  *     uint64_t answer = dialtable_authenticate_line(msg, msg_len, line, sizeof line);
  *     if (DIALTABLE_IS_REFUSED(answer))
@@ -113,7 +120,11 @@ enum {
     DIALTABLE_REFUSED_PLACE_NOT_BEFORE = 51,  /* a jump to a place that is not before its run of labels */
     DIALTABLE_REFUSED_TOO_MANY_JUMPS = 52,    /* a seventeenth jump in one name */
     DIALTABLE_REFUSED_NAME_TOO_LONG = 53,     /* a name, read or to write, whose coded length is over 255 */
-    DIALTABLE_REFUSED_PLACE_OUTSIDE = 54      /* an entry of a night whose message passes the end of the buffer */
+    DIALTABLE_REFUSED_PLACE_OUTSIDE = 54,     /* an entry of a night whose message passes the end of the buffer */
+    DIALTABLE_REFUSED_WRONG_SESSION_KEY = 55, /* a session key that isn't 16 bytes */
+    DIALTABLE_REFUSED_NO_MIC = 56,            /* an AUTHENTICATE without a MIC */
+    DIALTABLE_REFUSED_WRONG_SCHEME = 57,      /* a header's text without the word NTLM and a space after it */
+    DIALTABLE_REFUSED_WRONG_BASE64 = 58       /* a character, padding, group or last bits that base64 hasn't */
 };
 
 /* Flags of MS-NLMP 2.2.2.5: those that the library goes by. The others are read and written as they are. UNICODE wins
@@ -446,6 +457,44 @@ uint64_t dialtable_respond_for_relay(uint8_t *out, dialtable_len out_len, const 
                                      const uint8_t *user, dialtable_len user_len, const uint8_t *workstation,
                                      dialtable_len workstation_len, const uint8_t *key, dialtable_len key_len,
                                      uint64_t *numbers, dialtable_len numbers_len);
+
+/* ---- One meaning, one writing. Reads an AUTHENTICATE and writes it as dialtable_write_authenticate lays it out, with zero
+ * Version, also where VERSION is set, sixteen zeros for a MIC that isn't there, and a field that doesn't count as empty.
+ * So two messages come out equal exactly when their flags, six fields' bytes and MICs are, and what came out comes out
+ * again. Refuses as reading does, then 32 a key that counts and is neither empty nor 16 bytes long, 30 (secrets may share
+ * bytes, and are then written twice), and 33. Room: 88 bytes and those of the six fields. What comes out holds secrets.
+ * Answers its length. */
+
+uint64_t dialtable_canonical_authenticate(uint8_t *out, dialtable_len out_len, const uint8_t *msg,
+                                          dialtable_len msg_len);
+
+/* ---- Messages in HTTP header lines: what stands after 'Authorization: ' or 'WWW-Authenticate: '. The text holds the
+ * message's secrets. No byte of the message is looked at. */
+
+/* Writes 'NTLM ' and the message in base64 (RFC 4648, section 4) with padding. Refuses 1, then 33. Answers the text's
+ * length, which is DIALTABLE_HEADER_LEN(msg_len). */
+#define DIALTABLE_HEADER_LEN(msg_len) (5 + ((uint64_t)(msg_len) + 2) / 3 * 4)
+uint64_t dialtable_export_header(uint8_t *out, dialtable_len out_len, const uint8_t *msg, dialtable_len msg_len);
+/* Reads such a text and writes the message. The word may have any letter case, one or more spaces (0x20) follow it, and
+ * nothing follows the text, no line end either. Unused last bits must be zero, so that two texts that give one message
+ * differ only in the word's case and the count of spaces. Refuses 57, 58, 1 a message over 65,535 bytes, and 33. Room:
+ * three bytes for every four characters always suffice. Answers the message's length. */
+uint64_t dialtable_import_header(uint8_t *out, dialtable_len out_len, const uint8_t *text, dialtable_len text_len);
+
+/* ---- The MIC of a sign-in: HMAC-MD5 (RFC 2104 over RFC 1321) of its three messages, one after the other and whole, with
+ * the sixteen bytes at DIALTABLE_MIC_AT of the AUTHENTICATE taken as zero, whatever stands there. The key is the exported
+ * session key. Both calls refuse 55, then as reading the NEGOTIATE does, the CHALLENGE, the AUTHENTICATE (which of the
+ * three is not told), then 56. Both answers depend on secrets: let no log have them. A refusal depends only on the key's
+ * length, the two earlier messages, and the AUTHENTICATE's length and first 64 bytes. */
+
+/* 16 bytes of mic. They must not be those of the message. Answers 0. */
+uint64_t dialtable_mic(const uint8_t *key, dialtable_len key_len, const uint8_t *negotiate, dialtable_len negotiate_len,
+                       const uint8_t *challenge, dialtable_len challenge_len, const uint8_t *authenticate,
+                       dialtable_len authenticate_len, uint8_t *mic, dialtable_len mic_len);
+/* Answers 1 where the AUTHENTICATE's MIC is the one that is worked out, else 0. All sixteen bytes are looked at. */
+uint64_t dialtable_check_mic(const uint8_t *key, dialtable_len key_len, const uint8_t *negotiate,
+                             dialtable_len negotiate_len, const uint8_t *challenge, dialtable_len challenge_len,
+                             const uint8_t *authenticate, dialtable_len authenticate_len);
 
 #ifdef __cplusplus
 }

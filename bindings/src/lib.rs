@@ -28,33 +28,38 @@
 compile_error!("the bindings are for targets whose usize has 64 bits");
 
 mod answering;
+mod headers;
 mod lines;
 mod night;
 mod pairs;
 pub mod raw;
 mod reading;
 mod refusal;
+mod signing;
 mod writing;
 
 pub use answering::{
     decide, domain_to_send, respond, respond_for_bench, respond_for_relay, respond_to_old_server,
     write_response_pairs, Answer, Decision, Settings,
 };
+pub use headers::{export_header, import_header};
 pub use lines::{
     authenticate_line, challenge_line, explain, negotiate_line, nl_auth_line, nl_auth_program_line,
     ntlm_line, ntlm_program_line,
 };
 pub use night::{check_messages, Entry, Mark};
 pub use pairs::{check_pairs, count_pairs, find_pair, Pair, Walk};
-pub use raw::{Parts, EXPLAIN_ROOM};
+pub use raw::{Parts, SignIn, EXPLAIN_ROOM};
 pub use reading::{
     nl_auth_name, read_authenticate, read_challenge, read_negotiate, read_nl_auth,
     read_server_names, read_timestamp, Authenticate, Challenge, Field, Negotiate, NlAuth,
     NlAuthString, ServerNames,
 };
 pub use refusal::{Reason, Refusal};
+pub use signing::{check_mic, mic};
 pub use writing::{
-    write_authenticate, write_negotiate, write_nl_auth_request, write_nl_auth_response,
+    canonical_authenticate, write_authenticate, write_negotiate, write_nl_auth_request,
+    write_nl_auth_response,
 };
 
 /// The part of `out` that a call has written, by its answer.

@@ -81,6 +81,17 @@ pub struct Entry {
     pub place: u32,
 }
 
+/// The three messages of a sign-in.
+#[derive(Clone, Copy, Debug, Default)]
+pub struct SignIn<'a> {
+    /// NEGOTIATE
+    pub negotiate: &'a [u8],
+    /// CHALLENGE
+    pub challenge: &'a [u8],
+    /// AUTHENTICATE
+    pub authenticate: &'a [u8],
+}
+
 /// The declarations of the header, in its order and layout.
 #[rustfmt::skip]
 mod c {
@@ -174,6 +185,19 @@ mod c {
                                            domain_len: usize, user: *const u8, user_len: usize,
                                            workstation: *const u8, workstation_len: usize, key: *const u8,
                                            key_len: usize, numbers: *mut u64, numbers_len: usize) -> u64;
+
+        pub fn dialtable_canonical_authenticate(out: *mut u8, out_len: usize, msg: *const u8,
+                                                msg_len: usize) -> u64;
+
+        pub fn dialtable_export_header(out: *mut u8, out_len: usize, msg: *const u8, msg_len: usize) -> u64;
+        pub fn dialtable_import_header(out: *mut u8, out_len: usize, text: *const u8, text_len: usize) -> u64;
+
+        pub fn dialtable_mic(key: *const u8, key_len: usize, negotiate: *const u8, negotiate_len: usize,
+                             challenge: *const u8, challenge_len: usize, authenticate: *const u8,
+                             authenticate_len: usize, mic: *mut u8, mic_len: usize) -> u64;
+        pub fn dialtable_check_mic(key: *const u8, key_len: usize, negotiate: *const u8, negotiate_len: usize,
+                                   challenge: *const u8, challenge_len: usize, authenticate: *const u8,
+                                   authenticate_len: usize) -> u64;
     }
 }
 
@@ -582,6 +606,64 @@ fn thin_respond(
             parts.key.len(),
             numbers.as_mut_ptr(),
             numbers.len(),
+        )
+    }
+}
+
+/// Writes an AUTHENTICATE message in its canonical form.
+pub fn canonical_authenticate(out: &mut [u8], message: &[u8]) -> u64 {
+    unsafe {
+        c::dialtable_canonical_authenticate(
+            out.as_mut_ptr(),
+            out.len(),
+            message.as_ptr(),
+            message.len(),
+        )
+    }
+}
+
+/// Writes a message as the text of an HTTP header line.
+pub fn export_header(out: &mut [u8], message: &[u8]) -> u64 {
+    unsafe {
+        c::dialtable_export_header(out.as_mut_ptr(), out.len(), message.as_ptr(), message.len())
+    }
+}
+
+/// Writes the message that the text of an HTTP header line carries.
+pub fn import_header(out: &mut [u8], text: &[u8]) -> u64 {
+    unsafe { c::dialtable_import_header(out.as_mut_ptr(), out.len(), text.as_ptr(), text.len()) }
+}
+
+/// Works out the MIC of a sign-in: 16 bytes of `out`.
+pub fn mic(key: &[u8], messages: &SignIn<'_>, out: &mut [u8]) -> u64 {
+    unsafe {
+        c::dialtable_mic(
+            key.as_ptr(),
+            key.len(),
+            messages.negotiate.as_ptr(),
+            messages.negotiate.len(),
+            messages.challenge.as_ptr(),
+            messages.challenge.len(),
+            messages.authenticate.as_ptr(),
+            messages.authenticate.len(),
+            out.as_mut_ptr(),
+            out.len(),
+        )
+    }
+}
+
+/// Whether the AUTHENTICATE's MIC is the one that is worked out: 1 or 0.
+pub fn check_mic(key: &[u8], messages: &SignIn<'_>) -> u64 {
+    unsafe {
+        c::dialtable_check_mic(
+            key.as_ptr(),
+            key.len(),
+            messages.negotiate.as_ptr(),
+            messages.negotiate.len(),
+            messages.challenge.as_ptr(),
+            messages.challenge.len(),
+            messages.authenticate.as_ptr(),
+            messages.authenticate.len(),
         )
     }
 }

@@ -71,6 +71,10 @@ reasons! {
     52 TooManyJumps "a seventeenth jump in one name";
     53 NameTooLong "a name whose coded length is over 255";
     54 PlaceOutside "a message that passes the end of the night's buffer";
+    55 SessionKey "a session key that isn't 16 bytes";
+    56 NoMic "an AUTHENTICATE without a MIC";
+    57 Scheme "a header's text without the word NTLM and a space";
+    58 Base64 "a bad character, padding, group or last bits in base64";
 }
 
 /// A refused call. It changed no byte that it was lent.

@@ -40,3 +40,11 @@ pub fn write_nl_auth_request<'a>(
 pub fn write_nl_auth_response(out: &mut [u8]) -> Result<&[u8], Refusal> {
     written(raw::write_nl_auth_response(out), out)
 }
+
+/// Reads an AUTHENTICATE message and writes it by the layout of
+/// [`write_authenticate`], with zero Version and sixteen zeros for a MIC that isn't
+/// there. Two messages come out equal exactly when their flags, six fields and MICs
+/// are. What comes out holds secrets.
+pub fn canonical_authenticate<'a>(out: &'a mut [u8], message: &[u8]) -> Result<&'a [u8], Refusal> {
+    written(raw::canonical_authenticate(out, message), out)
+}

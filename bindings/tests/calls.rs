@@ -3,14 +3,15 @@
 use std::fs;
 
 use dialtable::{
-    authenticate_line, challenge_line, check_messages, check_pairs, count_pairs, decide,
-    domain_to_send, explain, find_pair, negotiate_line, nl_auth_line, nl_auth_name,
-    nl_auth_program_line, ntlm_line, ntlm_program_line, raw, read_authenticate, read_challenge,
-    read_negotiate, read_nl_auth, read_server_names, read_timestamp, respond, respond_for_bench,
-    respond_for_relay, respond_to_old_server, write_authenticate, write_negotiate,
-    write_nl_auth_request, write_nl_auth_response, write_response_pairs, Answer, Decision, Entry,
-    Field, Mark, Negotiate, NlAuth, NlAuthString, Pair, Parts, Reason, Refusal, ServerNames,
-    Settings, Walk, EXPLAIN_ROOM,
+    authenticate_line, canonical_authenticate, challenge_line, check_messages, check_mic,
+    check_pairs, count_pairs, decide, domain_to_send, explain, export_header, find_pair,
+    import_header, mic, negotiate_line, nl_auth_line, nl_auth_name, nl_auth_program_line,
+    ntlm_line, ntlm_program_line, raw, read_authenticate, read_challenge, read_negotiate,
+    read_nl_auth, read_server_names, read_timestamp, respond, respond_for_bench, respond_for_relay,
+    respond_to_old_server, write_authenticate, write_negotiate, write_nl_auth_request,
+    write_nl_auth_response, write_response_pairs, Answer, Decision, Entry, Field, Mark, Negotiate,
+    NlAuth, NlAuthString, Pair, Parts, Reason, Refusal, ServerNames, Settings, SignIn, Walk,
+    EXPLAIN_ROOM,
 };
 
 const UNICODE: u32 = 0x1;
@@ -925,6 +926,156 @@ fn the_thin_calls_demand_128_bit_each_in_its_way() {
 
 /// No bytes make a call panic.
 #[test]
+fn one_meaning_has_one_writing() {
+    let message = file("messages/authenticate-smbclient.bin");
+    let read = read_authenticate(&message).expect("taken");
+    let mut room = [0xEE; 600];
+    let tidy = canonical_authenticate(&mut room, &message)
+        .expect("written")
+        .to_vec();
+    assert!(tidy[64..72] == [0; 8] && room[tidy.len()..] == [0xEE; 600][tidy.len()..]);
+    let again = read_authenticate(&tidy).expect("taken");
+    assert_eq!((again.flags, again.mic), (read.flags, read.mic));
+    for (one, two) in [
+        (read.lm, again.lm),
+        (read.nt, again.nt),
+        (read.domain, again.domain),
+        (read.user, again.user),
+        (read.workstation, again.workstation),
+        (read.key, again.key),
+    ] {
+        assert_eq!(one.bytes(&message), two.bytes(&tidy));
+    }
+    let mut exact = vec![0; tidy.len()];
+    assert_eq!(canonical_authenticate(&mut exact, &tidy), Ok(&tidy[..]));
+    let short = &mut exact[1..];
+    assert_eq!(refusal(canonical_authenticate(short, &tidy)), (33, 0));
+    assert_eq!(short, &tidy[1..]);
+    assert_eq!(
+        refusal(canonical_authenticate(&mut [], &challenge())),
+        (4, 0)
+    );
+}
+
+#[test]
+fn messages_in_header_lines() {
+    let mut text = [0xEE; 400];
+    let exported = export_header(&mut text, &p1()).expect("text").to_vec();
+    assert_eq!(exported.len(), 5 + 160);
+    assert!(exported.starts_with(b"NTLM TlRMTVNTUAADAAAA"));
+    assert_eq!(text[exported.len()..], [0xEE; 400][exported.len()..]);
+    let mut message = [0xEE; 120];
+    assert_eq!(import_header(&mut message, &exported), Ok(&p1()[..]));
+    // The lines that curl and a server sent.
+    let lines = String::from_utf8(file("messages/http-curl.txt")).expect("text");
+    for line in lines.lines() {
+        let (_, text) = line.split_once(": ").expect("a header line");
+        let mut room = [0; 400];
+        let message = import_header(&mut room, text.as_bytes()).expect("taken");
+        let mut line = [0; 200];
+        let shown = ntlm_line(message, &mut line).expect("room");
+        assert!(!shown.starts_with(b"refused"));
+        let mut again = [0; 600];
+        assert_eq!(export_header(&mut again, message), Ok(text.as_bytes()));
+    }
+    for (text, number) in [
+        (&b"NTLM"[..], 57),
+        (b"NTLMX Zg==", 57),
+        (b" NTLM Zg==", 57),
+        (b"NTLM Zg=", 58),
+        (b"NTLM Zh==", 58),
+        (b"NTLM Zg==\r\n", 58),
+        (b"NTLM Zm9vYmFy", 33),
+    ] {
+        let mut room = [0xEE; 5];
+        assert_eq!(refusal(import_header(&mut room, text)), (number, 0));
+        assert_eq!(room, [0xEE; 5]);
+    }
+    assert_eq!(import_header(&mut [], b"ntlm   "), Ok(&[][..]));
+    assert_eq!(refusal(export_header(&mut text, &vec![0; 65_536])), (1, 0));
+    assert_eq!(refusal(export_header(&mut text[..4], &[])), (33, 0));
+}
+
+/// One of the sign-ins of tests/mic/triples.txt, by its line: key, messages, MIC.
+fn sign_ins() -> Vec<[Vec<u8>; 5]> {
+    let text = String::from_utf8(file("tests/mic/triples.txt")).expect("text");
+    let words = ["key ", "negotiate ", "challenge ", "authenticate ", "mic "];
+    let lines = |word| text.lines().filter_map(move |line| line.strip_prefix(word));
+    let [key, negotiate, challenge, authenticate, mic] = words.map(|word| {
+        let bytes = |line: &str| {
+            let digits: Vec<u8> = line
+                .chars()
+                .map(|c| c.to_digit(16).expect("hex") as u8)
+                .collect();
+            digits
+                .chunks(2)
+                .map(|pair| pair[0] << 4 | pair[1])
+                .collect()
+        };
+        lines(word).map(bytes).collect::<Vec<Vec<u8>>>()
+    });
+    (0..key.len())
+        .map(|at| [&key, &negotiate, &challenge, &authenticate, &mic].map(|all| all[at].clone()))
+        .collect()
+}
+
+#[test]
+fn mics_of_real_sign_ins() {
+    let sign_ins = sign_ins();
+    assert_eq!(sign_ins.len(), 17);
+    for [key, negotiate, challenge, authenticate, sent] in &sign_ins {
+        let messages = SignIn {
+            negotiate,
+            challenge,
+            authenticate,
+        };
+        assert_eq!(mic(key, &messages).expect("a MIC").to_vec(), *sent);
+        assert_eq!(check_mic(key, &messages), Ok(true));
+        let mut authenticate = authenticate.clone();
+        authenticate[87] ^= 1;
+        let messages = SignIn {
+            authenticate: &authenticate,
+            ..messages
+        };
+        assert_eq!(check_mic(key, &messages), Ok(false));
+        assert_eq!(mic(key, &messages).expect("a MIC").to_vec(), *sent);
+    }
+}
+
+#[test]
+fn a_mic_is_refused_in_the_order_given() {
+    let mut authenticate = p1();
+    authenticate[40] = 64;
+    let (negotiate, challenge) = (negotiate(), challenge());
+    let messages = SignIn {
+        negotiate: &negotiate,
+        challenge: &challenge,
+        authenticate: &authenticate,
+    };
+    let refused = |key: &[u8], messages: &SignIn<'_>| {
+        let refused = refusal_at(mic(key, messages));
+        assert_eq!(refusal_at(check_mic(key, messages)), refused);
+        refused
+    };
+    assert_eq!(refused(&[1; 16], &messages), (56, 0, 0));
+    let cut = &challenge[..challenge.len() - 4];
+    let messages = SignIn {
+        challenge: cut,
+        ..messages
+    };
+    assert_eq!(refused(&[1; 16], &messages), (6, 2, 0));
+    let messages = SignIn {
+        negotiate: &[],
+        ..messages
+    };
+    assert_eq!(refused(&[1; 16], &messages), (2, 0, 0));
+    assert_eq!(refused(&[1; 15], &messages), (55, 0, 0));
+    let mut short = [0xEE; 15];
+    assert_eq!(raw::mic(&[1; 15], &messages, &mut short), 1 << 63 | 33 << 8);
+    assert_eq!(short, [0xEE; 15]);
+}
+
+#[test]
 fn any_bytes_are_answered() {
     let mut state = 1_u64;
     let mut next = || {
@@ -978,5 +1129,11 @@ fn any_bytes_are_answered() {
         assert!(explain(message, &mut [0; EXPLAIN_ROOM]).is_ok());
         let _ = respond_for_bench(&mut room, message, CLOCK, true, &parts());
         let _ = write_response_pairs(&mut room, message, b"n\0", true, &[1; 16]);
+        let tidy = canonical_authenticate(&mut room, message);
+        assert!(tidy.is_err() || read_authenticate(message).is_ok());
+        let text = export_header(&mut room, message).map(<[u8]>::to_vec);
+        let mut back = vec![0; message.len()];
+        let text = text.expect("room");
+        assert_eq!(import_header(&mut back, &text), Ok(&message[..]));
     }
 }

@@ -1,5 +1,5 @@
 //! With the feature `library`, has the thin calls' own code linked as well:
-//! libthin_calls.a, from `tools/build-thin`.
+//! libthin_calls.a, from `tools/build-calls thin_calls`.
 
 use std::env;
 use std::path::Path;
@@ -17,7 +17,7 @@ fn main() {
         println!("cargo::rustc-link-lib=static:-bundle=thin_calls");
     } else {
         println!(
-            "cargo::error={} is missing: run 'tools/build-thin'",
+            "cargo::error={} is missing: run 'tools/build-calls thin_calls'",
             archive.display()
         );
     }

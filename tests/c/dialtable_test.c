@@ -1040,6 +1040,241 @@ static void answers(const message_t *challenge, const message_t *no_timestamp)
     CHECK(untouched(out, sizeof out));
 }
 
+/* The word kind of a line, by the NT response's length. */
+static void tells_the_kind(void)
+{
+    static const struct {
+        unsigned len;
+        const char *kind;
+    } kinds[] = {{0, "none"}, {1, "odd"}, {23, "odd"}, {24, "v1"}, {25, "odd"}, {43, "odd"}, {44, "v2"}, {45, "v2"}};
+    uint8_t out[256], response[45] = {0}, line[160];
+    uint64_t len, line_len;
+    char expected[160];
+    unsigned i;
+
+    for (i = 0; i < sizeof kinds / sizeof *kinds; i++) {
+        len = dialtable_write_authenticate(out, sizeof out, DIALTABLE_FLAG_UNICODE, version, mic, NULL, 0, response,
+                                           kinds[i].len, NULL, 0, NULL, 0, NULL, 0, NULL, 0);
+        EQUAL(len, 88 + kinds[i].len);
+        line_len = dialtable_authenticate_line(out, len, line, sizeof line);
+        sprintf(expected, "auth flags=00000001 set=U domain= user= work= lm=0 nt=%u key=0 mic=1 kind=%s\n", kinds[i].len,
+                kinds[i].kind);
+        EQUAL(line_len, strlen(expected));
+        CHECK(memcmp(line, expected, strlen(expected)) == 0);
+    }
+}
+
+/* P1 with its fields in another order, a Version, MaxLen and bytes that no field covers comes out as P1 does. */
+static void writes_one_way(const message_t *p1)
+{
+    static const uint8_t nt_at_90[8] = {24, 0, 0, 0, 90, 0, 0, 0}, user_at_114[8] = {8, 0, 9, 9, 114, 0, 0, 0};
+    uint8_t one[120], two[121], again[120];
+    message_t other = *p1, no_mic = *p1, keyed = *p1;
+
+    memset(one, FILL, sizeof one);
+    EQUAL(dialtable_canonical_authenticate(one, sizeof one, p1->bytes, p1->len), 120);
+    EQUAL(dialtable_canonical_authenticate(again, sizeof again, one, sizeof one), 120);
+    CHECK(memcmp(one, again, sizeof one) == 0);
+    other.len = 130;
+    memset(other.bytes + 64, 0x5A, 8);
+    memset(other.bytes + 88, 0x5A, 42);
+    memcpy(other.bytes + 20, nt_at_90, 8);
+    memcpy(other.bytes + 36, user_at_114, 8);
+    memcpy(other.bytes + 90, p1->bytes + 96, 24);
+    memcpy(other.bytes + 114, p1->bytes + 88, 8);
+    memset(two, FILL, sizeof two);
+    EQUAL(dialtable_canonical_authenticate(two, sizeof two, other.bytes, other.len), 120);
+    CHECK(memcmp(one, two, sizeof one) == 0 && two[120] == FILL);
+
+    /* No MIC is sixteen zeros; a key that doesn't count is empty. */
+    no_mic.bytes[40] = 64;
+    memcpy(no_mic.bytes + 64, p1->bytes + 88, 8);
+    memset(no_mic.bytes + 72, 0x5A, 16);
+    no_mic.bytes[52] = 16;
+    EQUAL(dialtable_canonical_authenticate(two, sizeof two, no_mic.bytes, no_mic.len), 120);
+    CHECK(memcmp(one, two, sizeof one) == 0);
+    /* Another MIC is another meaning. */
+    other.bytes[87] ^= 1;
+    EQUAL(dialtable_canonical_authenticate(two, sizeof two, other.bytes, other.len), 120);
+    CHECK(memcmp(one, two, sizeof one) != 0 && two[87] == 1);
+
+    /* Refused: the reading's, 32, 33; nothing changes. */
+    memset(two, FILL, sizeof two);
+    CHECK(refused(dialtable_canonical_authenticate(two, 119, p1->bytes, p1->len), 33, 0));
+    keyed.bytes[63] = 0x40;
+    keyed.bytes[52] = 15;
+    keyed.bytes[56] = 96;
+    CHECK(refused(dialtable_canonical_authenticate(two, 0, keyed.bytes, keyed.len), 32, 6));
+    keyed.bytes[52] = 16;
+    CHECK(refused(dialtable_canonical_authenticate(two, sizeof two, keyed.bytes, keyed.len), 33, 0)); /* 136 bytes */
+    keyed.bytes[40] = 112;
+    CHECK(refused(dialtable_canonical_authenticate(two, sizeof two, keyed.bytes, keyed.len), 9, 4));
+    CHECK(refused(dialtable_canonical_authenticate(NULL, 0, NULL, 0), 2, 0));
+    CHECK(untouched(two, sizeof two));
+}
+
+/* Secrets that share bytes are written twice, which can be too long: 30. */
+static void writes_shared_secrets_twice(void)
+{
+    static uint8_t msg[33000], out[65600];
+    uint64_t len;
+
+    len = dialtable_write_authenticate(msg, sizeof msg, DIALTABLE_FLAG_OEM, version, mic, msg, 0, out, 32724, NULL, 0,
+                                       NULL, 0, NULL, 0, NULL, 0);
+    EQUAL(len, 32812);
+    memcpy(msg + 12, msg + 20, 8);
+    msg[12]--; /* 88 + 32723 + 32724 */
+    EQUAL(dialtable_canonical_authenticate(out, sizeof out, msg, len), 65535);
+    msg[12]++;
+    memset(out, FILL, sizeof out);
+    CHECK(refused(dialtable_canonical_authenticate(out, sizeof out, msg, len), 30, 0));
+    CHECK(refused(dialtable_canonical_authenticate(NULL, 0, msg, len), 30, 0));
+    CHECK(untouched(out, sizeof out));
+}
+
+/* RFC 4648, section 10, and P1 both ways. */
+static void carries_messages(const message_t *p1)
+{
+    static const char *const vectors[][2] = {
+        {"", "NTLM "}, {"f", "NTLM Zg=="}, {"fo", "NTLM Zm8="}, {"foo", "NTLM Zm9v"}, {"foob", "NTLM Zm9vYg=="},
+        {"fooba", "NTLM Zm9vYmE="}, {"foobar", "NTLM Zm9vYmFy"}};
+    uint8_t text[200], msg[200];
+    uint64_t text_len;
+    size_t plain_len, coded_len;
+    unsigned i;
+
+    for (i = 0; i < sizeof vectors / sizeof *vectors; i++) {
+        plain_len = strlen(vectors[i][0]);
+        coded_len = strlen(vectors[i][1]);
+        EQUAL(DIALTABLE_HEADER_LEN(plain_len), coded_len);
+        memset(text, FILL, sizeof text);
+        EQUAL(dialtable_export_header(text, coded_len, (const uint8_t *)vectors[i][0], plain_len), coded_len);
+        CHECK(memcmp(text, vectors[i][1], coded_len) == 0 && untouched(text + coded_len, sizeof text - coded_len));
+        memset(msg, FILL, sizeof msg);
+        EQUAL(dialtable_import_header(msg, plain_len, text, coded_len), plain_len);
+        CHECK(memcmp(msg, vectors[i][0], plain_len) == 0 && untouched(msg + plain_len, sizeof msg - plain_len));
+        /* One byte too little room, and one character too few. */
+        memset(msg, FILL, sizeof msg);
+        if (plain_len > 0)
+            CHECK(refused(dialtable_import_header(msg, plain_len - 1, text, coded_len), 33, 0));
+        CHECK(refused(dialtable_import_header(msg, sizeof msg, text, coded_len - 1), plain_len > 0 ? 58 : 57, 0));
+        CHECK(refused(dialtable_export_header(msg, coded_len - 1, (const uint8_t *)vectors[i][0], plain_len), 33, 0));
+        CHECK(untouched(msg, sizeof msg));
+    }
+    text_len = dialtable_export_header(text, sizeof text, p1->bytes, p1->len);
+    EQUAL(text_len, DIALTABLE_HEADER_LEN(p1->len));
+    CHECK(memcmp(text, "NTLM TlRMTVNTUAADAAAA", 21) == 0);
+    EQUAL(dialtable_import_header(msg, sizeof msg, text, text_len), p1->len);
+    CHECK(memcmp(msg, p1->bytes, (size_t)p1->len) == 0);
+}
+
+/* What a text must be, and the order of its refusals. */
+static void imports_strictly(void)
+{
+    static const struct {
+        const char *text;
+        unsigned number;
+    } texts[] = {{"", 57}, {"NTLM", 57}, {"NTLMZg==", 57}, {"NTLM\tZg==", 57}, {" NTLM Zg==", 57}, {"NTLMX Zg==", 57},
+                 {"Negotiate Zg==", 57}, {"NTLM Zg=", 58}, {"NTLM Zg", 58}, {"NTLM Zg===", 58}, {"NTLM Zh==", 58},
+                 {"NTLM Zm9=", 58}, {"NTLM Z===", 58}, {"NTLM ====", 58}, {"NTLM Zg==Zg==", 58}, {"NTLM Zm-_", 58},
+                 {"NTLM Zg== ", 58}, {"NTLM Zg==\r\n", 58}, {"NTLM Zg==,", 58}, {"NTLM Zm 9", 58},
+                 {"NTLM \tZg==", 58}};
+    static const char *const same[] = {"NTLM Zg==", "ntlm Zg==", "nTlM      Zg==", "Ntlm  Zg=="};
+    static uint8_t text[87400], msg[65540];
+    uint64_t text_len;
+    unsigned i;
+
+    memset(msg, FILL, sizeof msg);
+    for (i = 0; i < sizeof texts / sizeof *texts; i++)
+        CHECK(refused(dialtable_import_header(msg, sizeof msg, (const uint8_t *)texts[i].text, strlen(texts[i].text)),
+                      texts[i].number, 0));
+    CHECK(refused(dialtable_import_header(NULL, 0, NULL, 0), 57, 0));
+    CHECK(refused(dialtable_export_header(NULL, 0, NULL, 0), 33, 0));
+    CHECK(untouched(msg, sizeof msg));
+    for (i = 0; i < sizeof same / sizeof *same; i++) {
+        msg[0] = FILL;
+        EQUAL(dialtable_import_header(msg, 1, (const uint8_t *)same[i], strlen(same[i])), 1);
+        EQUAL(msg[0], 'f');
+    }
+    EQUAL(dialtable_import_header(NULL, 0, (const uint8_t *)"NTLM   ", 7), 0);
+
+    /* 65,535 bytes, and one more: 58 comes before 1, and 1 before 33. */
+    memset(msg, 0x5A, sizeof msg);
+    CHECK(refused(dialtable_export_header(text, sizeof text, msg, 65536), 1, 0));
+    CHECK(refused(dialtable_export_header(NULL, 0, msg, 65536), 1, 0));
+    text_len = dialtable_export_header(text, sizeof text, msg, 65535);
+    EQUAL(text_len, 87385);
+    memset(msg, FILL, sizeof msg);
+    EQUAL(dialtable_import_header(msg, 65535, text, text_len), 65535);
+    EQUAL(msg[65534], 0x5A);
+    EQUAL(msg[65535], FILL);
+    memset(msg, FILL, sizeof msg);
+    memcpy(text + text_len, "AA==", 4);
+    CHECK(refused(dialtable_import_header(msg, sizeof msg, text, text_len + 4), 1, 0));
+    CHECK(refused(dialtable_import_header(NULL, 0, text, text_len + 4), 1, 0));
+    text[text_len + 1] = 'B';
+    CHECK(refused(dialtable_import_header(msg, sizeof msg, text, text_len + 4), 58, 0));
+    CHECK(refused(dialtable_import_header(msg, 65534, text, text_len), 33, 0));
+    CHECK(untouched(msg, sizeof msg));
+}
+
+/* The MIC of nego, the challenge and P1, whose own MIC is zeros, is the one of another program. */
+static void works_out_the_mic(const message_t *p1, const message_t *challenge)
+{
+    static const uint8_t expected[16] = {0x2B, 0xE1, 0x50, 0x84, 0xE6, 0xE5, 0xCC, 0x27,
+                                         0x50, 0xDB, 0xE6, 0x94, 0x35, 0x5A, 0x94, 0xF8};
+    uint8_t session_key[17] = {0, 1, 2, 3, 4, 5, 6, 7, 8, 9, 10, 11, 12, 13, 14, 15, 16}, got[17], other_nego[NEGO_LEN];
+    message_t last = *p1, other = *challenge;
+    unsigned i;
+
+#define MESSAGES nego, NEGO_LEN, challenge->bytes, challenge->len, last.bytes, last.len
+    memset(got, FILL, sizeof got);
+    EQUAL(dialtable_mic(session_key, 16, MESSAGES, got, 16), 0);
+    CHECK(memcmp(got, expected, 16) == 0);
+    EQUAL(got[16], FILL);
+    EQUAL(dialtable_check_mic(session_key, 16, MESSAGES), 0);
+    memcpy(last.bytes + DIALTABLE_MIC_AT, expected, 16);
+    EQUAL(dialtable_check_mic(session_key, 16, MESSAGES), 1);
+    memset(got, FILL, sizeof got);
+    EQUAL(dialtable_mic(session_key, 16, MESSAGES, got, sizeof got), 0);
+    CHECK(memcmp(got, expected, 16) == 0);
+    EQUAL(got[16], FILL);
+    for (i = 0; i < 16; i++) {
+        last.bytes[DIALTABLE_MIC_AT + i] ^= 1;
+        EQUAL(dialtable_check_mic(session_key, 16, MESSAGES), 0);
+        last.bytes[DIALTABLE_MIC_AT + i] ^= 1;
+    }
+
+    /* Refused: 33, 55, the NEGOTIATE's, the CHALLENGE's, the AUTHENTICATE's, 56. Nothing changes. */
+    memset(got, FILL, sizeof got);
+    last.bytes[40] = 64; /* the user name lies before the MIC's end */
+    CHECK(refused(dialtable_mic(session_key, 16, MESSAGES, got, 16), 56, 0));
+    CHECK(refused(dialtable_check_mic(session_key, 16, MESSAGES), 56, 0));
+    last.bytes[40] = 112;
+    CHECK(refused(dialtable_mic(session_key, 16, MESSAGES, got, 16), 9, 4));
+    CHECK(refused(dialtable_check_mic(session_key, 16, MESSAGES), 9, 4));
+#undef MESSAGES
+#define MESSAGES nego, NEGO_LEN, other.bytes, other.len, last.bytes, last.len
+    other.bytes[other.len - 2] = 1; /* the end pair's length */
+    CHECK(refused_at(dialtable_mic(session_key, 16, MESSAGES, got, 16), 12, 2, other.len - 4));
+    CHECK(refused_at(dialtable_check_mic(session_key, 16, MESSAGES), 12, 2, other.len - 4));
+#undef MESSAGES
+#define MESSAGES other_nego, NEGO_LEN, other.bytes, other.len, last.bytes, last.len
+    memcpy(other_nego, nego, sizeof other_nego);
+    other_nego[20] = 31;
+    CHECK(refused(dialtable_mic(session_key, 16, MESSAGES, got, 16), 7, 1));
+    CHECK(refused(dialtable_check_mic(session_key, 16, MESSAGES), 7, 1));
+    CHECK(refused(dialtable_mic(session_key, 15, MESSAGES, got, 16), 55, 0));
+    CHECK(refused(dialtable_mic(session_key, 17, MESSAGES, got, 16), 55, 0));
+    CHECK(refused(dialtable_check_mic(session_key, 17, MESSAGES), 55, 0));
+    CHECK(refused(dialtable_check_mic(NULL, 0, NULL, 0, NULL, 0, NULL, 0), 55, 0));
+    CHECK(refused(dialtable_check_mic(session_key, 16, NULL, 0, NULL, 0, NULL, 0), 2, 0));
+    CHECK(refused(dialtable_mic(session_key, 17, MESSAGES, got, 15), 33, 0));
+    CHECK(refused(dialtable_mic(NULL, 0, NULL, 0, NULL, 0, NULL, 0, NULL, 0), 33, 0));
+    CHECK(untouched(got, sizeof got));
+#undef MESSAGES
+}
+
 /* A caller may leave anything in a register above a number of 32 bits: these hand on their registers as they are. */
 __attribute__((noinline)) static uint64_t decide_wide(uint64_t settings, const uint8_t *challenge,
                                                       dialtable_len challenge_len, uint64_t *numbers,
@@ -1106,7 +1341,8 @@ static void names_numbers(void)
         DIALTABLE_REFUSED_NO_SERVER_NAMES, DIALTABLE_REFUSED_TOO_LONG_TO_WRITE, DIALTABLE_REFUSED_ODD_NAME_TO_WRITE,
         DIALTABLE_REFUSED_WRONG_KEY, DIALTABLE_REFUSED_NO_ROOM, DIALTABLE_REFUSED_ZERO_IN_STRING,
         DIALTABLE_REFUSED_WRONG_LABEL, DIALTABLE_REFUSED_PLACE_NOT_BEFORE, DIALTABLE_REFUSED_TOO_MANY_JUMPS,
-        DIALTABLE_REFUSED_NAME_TOO_LONG, DIALTABLE_REFUSED_PLACE_OUTSIDE,
+        DIALTABLE_REFUSED_NAME_TOO_LONG, DIALTABLE_REFUSED_PLACE_OUTSIDE, DIALTABLE_REFUSED_WRONG_SESSION_KEY,
+        DIALTABLE_REFUSED_NO_MIC, DIALTABLE_REFUSED_WRONG_SCHEME, DIALTABLE_REFUSED_WRONG_BASE64,
         DIALTABLE_FLAG_UNICODE, DIALTABLE_FLAG_OEM, DIALTABLE_FLAG_REQUEST_TARGET, DIALTABLE_FLAG_SIGN,
         DIALTABLE_FLAG_SEAL, DIALTABLE_FLAG_DOMAIN_SUPPLIED, DIALTABLE_FLAG_WORKSTATION_SUPPLIED,
         DIALTABLE_FLAG_TARGET_INFO, DIALTABLE_FLAG_VERSION, DIALTABLE_FLAG_128, DIALTABLE_FLAG_KEY_EXCH,
@@ -1116,7 +1352,8 @@ static void names_numbers(void)
         DIALTABLE_NL_AUTH_BIT_C, DIALTABLE_NL_AUTH_BIT_D, DIALTABLE_NL_AUTH_BIT_E, DIALTABLE_NEGOTIATE,
         DIALTABLE_CHALLENGE, DIALTABLE_AUTHENTICATE};
     static const uint32_t expected[] = {
-        1, 2, 3, 4, 5, 6, 7, 8, 9, 10, 11, 12, 13, 14, 15, 16, 17, 20, 21, 30, 31, 32, 33, 34, 50, 51, 52, 53, 54,
+        1, 2, 3, 4, 5, 6, 7, 8, 9, 10, 11, 12, 13, 14, 15, 16, 17, 20, 21, 30, 31, 32, 33, 34, 50, 51, 52, 53, 54, 55,
+        56, 57, 58,
         0x1, 0x2, 0x4, 0x10, 0x20, 0x1000, 0x2000, 0x800000, 0x2000000, 0x20000000, 0x40000000,
         1, 2, 3, 4, 5, 6, 7, 8, 9, 10, 0x1, 0x2, 0x4, 0x8, 0x10, 1, 2, 3};
     unsigned i;
@@ -1165,6 +1402,12 @@ int main(int argc, char **argv)
     decides(&challenge, &no_timestamp);
     finds_domain(&challenge);
     answers(&challenge, &no_timestamp);
+    tells_the_kind();
+    writes_one_way(&p1);
+    writes_shared_secrets_twice();
+    carries_messages(&p1);
+    imports_strictly();
+    works_out_the_mic(&p1, &challenge);
     takes_numbers_in_wide_registers(&p1, &challenge);
     names_numbers();
 

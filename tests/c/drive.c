@@ -162,6 +162,23 @@ static const uint8_t text[] =
     "dc1.a.bc.dc1.a.bc.dc1.a.bc.dc1.a.bc.dc1.a.bc."
     "0123456789012345678901234567890123456789012345678901234567890123456789";
 
+/* The text of a short part of the message, with up to two characters changed. */
+static void imports(unsigned room)
+{
+    static const uint8_t others[] = "NTLMntlm =AZaz09+/-_\t\r\n";
+    uint8_t header[80];
+    unsigned size = draw(50), changes = draw(3), at, other;
+    uint64_t header_len = dialtable_export_header(header, sizeof header, msg, size);
+
+    while (changes-- > 0) {
+        at = draw((uint32_t)header_len);
+        other = draw(sizeof others);
+        header[at] = others[other];
+    }
+    header_len -= draw(6) ? 0 : draw((uint32_t)header_len);
+    CALL(dialtable_import_header(out, room < 64 ? room % 40 : room, header, header_len));
+}
+
 static void writes(unsigned room)
 {
     uint32_t flags = draw(2) ? 0xE28A8215u : draw_32(), bits = draw(64), unverified = draw(3);
@@ -175,6 +192,9 @@ static void writes(unsigned room)
                                          msg + 2, a % 3));
     CALL(dialtable_write_nl_auth_response(out, room));
     CALL(dialtable_write_response_pairs(out, room, msg, len, msg + 11, name_len, unverified, mic));
+    CALL(dialtable_canonical_authenticate(out, room, msg, len));
+    CALL(dialtable_export_header(out, room, msg, len));
+    imports(room);
 }
 
 static void answers(unsigned room, unsigned places)
@@ -191,6 +211,36 @@ static void answers(unsigned room, unsigned places)
     CALL(dialtable_respond_for_bench(out, room, msg, len, clock, settings % 3, PARTS));
     CALL(dialtable_respond_to_old_server(out, room, msg, len, clock, PARTS));
     CALL(dialtable_respond_for_relay(out, room, msg, len, clock, PARTS));
+}
+
+/* A message of messages/ as it is, with this type. */
+static unsigned pick(uint8_t type)
+{
+    unsigned which = draw(sizeof messages / sizeof *messages);
+
+    while (messages[which].len < 12 || messages[which].bytes[8] != type)
+        which = (which + 1) % (sizeof messages / sizeof *messages);
+    return which;
+}
+
+/* Sign-ins of which the drawn message is one. */
+static void mics(unsigned bytes_room)
+{
+    uint8_t type = len < 12 || msg[8] > 2 || msg[8] == 0 ? 3 : msg[8];
+    const uint8_t *three[3];
+    dialtable_len lens[3], key_len = draw(8) ? 16 : draw(17);
+    unsigned i, which;
+
+    for (i = 0; i < 3; i++) {
+        which = pick((uint8_t)(i + 1));
+        three[i] = i + 1 == type ? msg : messages[which].bytes;
+        lens[i] = i + 1 == type ? len : messages[which].len;
+    }
+#define SIGN_IN mic, key_len, three[0], lens[0], three[1], lens[1], three[2], lens[2]
+    CALL(dialtable_mic(SIGN_IN, bytes, bytes_room));
+    if (type == 3 && len >= 88)
+        memcpy(msg + DIALTABLE_MIC_AT, bytes, 16);
+    CALL(dialtable_check_mic(SIGN_IN));
 }
 
 int main(void)
@@ -211,6 +261,7 @@ int main(void)
         nights();
         writes(room);
         answers(room, places);
+        mics(bytes_room);
         mix(msg, sizeof msg);
         mix(mic, sizeof mic);
     }

@@ -3,6 +3,7 @@
  * messages of messages.h. The stack is painted before a call, and what is no longer paint was used.
  */
 #include <stdio.h>
+#include <string.h>
 
 #include "dialtable.h"
 #include "messages.h"
@@ -38,10 +39,20 @@ static struct {
 
 #define NAMES zeros, 0, zeros, 8, zeros, 8
 
+/* The message of messages.h with this name. */
+static unsigned named(const char *name)
+{
+    unsigned which = 0;
+
+    while (strcmp(messages[which].name, name) != 0)
+        which++;
+    return which;
+}
+
 /* A caller's arguments that have no register lie in its own frame. */
 static void measure(const uint8_t *msg, dialtable_len len)
 {
-    unsigned place = 0, i;
+    unsigned place = 0, i, first = named("negotiate-names.bin"), second = named("challenge-smbd.bin");
 
     for (i = 0; i < 3; i++) {
         entries[i].length = len;
@@ -80,6 +91,13 @@ static void measure(const uint8_t *msg, dialtable_len len)
     STACK(respond_for_bench, out, sizeof out, msg, len, 5, 0, PARTS);
     STACK(respond_to_old_server, out, sizeof out, msg, len, 5, PARTS);
     STACK(respond_for_relay, out, sizeof out, msg, len, 5, PARTS);
+#define SIGN_IN zeros, 16, messages[first].bytes, messages[first].len, messages[second].bytes, messages[second].len, \
+                msg, len
+    STACK(canonical_authenticate, out, sizeof out, msg, len);
+    STACK(export_header, out, sizeof out, msg, len);
+    STACK(import_header, out, sizeof out, (const uint8_t *)"NTLM Zm9vYg==", 13);
+    STACK(mic, SIGN_IN, bytes, 16);
+    STACK(check_mic, SIGN_IN);
 }
 
 int main(void)

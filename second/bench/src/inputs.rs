@@ -318,3 +318,43 @@ impl Night {
         Self { buffer, places }
     }
 }
+
+/// The exported session key of every sign-in here.
+pub const SESSION_KEY: [u8; 16] = [0x4B; 16];
+
+/// The three messages of a sign-in.
+#[derive(Clone, Debug)]
+pub struct SignIn([Vec<u8>; 3]);
+
+impl SignIn {
+    pub fn usual() -> Self {
+        Self([
+            Opening::usual().message(FLAGS),
+            challenge(&six_pairs()),
+            Account::usual().message(FLAGS),
+        ])
+    }
+
+    /// Three messages of `len` bytes each.
+    pub fn of_messages(len: usize) -> Self {
+        Self([
+            Opening::of_message(len).message(FLAGS),
+            challenge(&long_list(len - BEFORE_LIST)),
+            Account::of_message(len).message(FLAGS),
+        ])
+    }
+
+    pub fn messages(&self) -> reader::SignIn<'_> {
+        let Self([negotiate, challenge, authenticate]) = self;
+        reader::SignIn {
+            negotiate,
+            challenge,
+            authenticate,
+        }
+    }
+
+    /// How many bytes the three have.
+    pub fn len(&self) -> usize {
+        self.0.iter().map(Vec::len).sum()
+    }
+}

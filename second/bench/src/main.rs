@@ -12,13 +12,13 @@ use std::time::{Duration, Instant};
 
 use dialtable::raw;
 use reader::{
-    answer_for_bench, authenticate_line, challenge_line, check_messages, explain, negotiate_line,
-    nl_auth_line, nl_auth_name, write_authenticate, write_negotiate, write_nl_auth_request,
-    write_response_pairs, Authenticate, AvId, Challenge, Negotiate, NlAuth, NlAuthFlags, Refusal,
-    Secrets, TargetInfo,
+    answer_for_bench, authenticate_line, canonical_authenticate, challenge_line, check_messages,
+    explain, export_header, import_header, negotiate_line, nl_auth_line, nl_auth_name,
+    write_authenticate, write_negotiate, write_nl_auth_request, write_response_pairs, Authenticate,
+    AvId, Challenge, Negotiate, NlAuth, NlAuthFlags, Refusal, Secrets, TargetInfo,
 };
 
-use inputs::{Account, Night, Opening, Target, BEFORE_LIST, FLAGS, TIMESTAMP};
+use inputs::{Account, Night, Opening, SignIn, Target, BEFORE_LIST, FLAGS, TIMESTAMP};
 
 const USAGE: &str = "usage: bench time | round | calls MESSAGES, or bench once MESSAGES PLACE";
 
@@ -34,6 +34,8 @@ struct Measured {
     name: &'static str,
     /// What it is given.
     on: String,
+    /// How many bytes it works through, where that is told as a speed.
+    through: Option<usize>,
     proved: Box<dyn FnMut(u64)>,
     second: Box<dyn FnMut(u64)>,
 }
@@ -207,10 +209,16 @@ fn row(out: &mut impl Write, call: &Measured, found: [f64; 2]) -> io::Result<()>
     let ratio = proved / second;
     let aim = if ratio > 1.0 { "  over the aim" } else { "" };
     let what = format!("{} {}", call.name, call.on);
-    writeln!(
+    write!(
         out,
         "  {what:<68}{proved:>10.1}{second:>10.1}{ratio:>10.2}{aim}"
-    )
+    )?;
+    if let Some(bytes) = call.through {
+        // Bytes in a nanosecond, times a thousand.
+        let [proved, second] = found.map(|time| 1_000.0 * bytes as f64 / time);
+        write!(out, "  proved {proved:.0} MB/s, second {second:.0} MB/s")?;
+    }
+    writeln!(out)
 }
 
 /// How often each side of each call is measured.
@@ -293,6 +301,11 @@ fn usual() -> Vec<Measured> {
         write_names(),
         go_back(challenge.clone(), "six pairs"),
         respond(challenge, account),
+        tidy(Account::usual().message(FLAGS)),
+        export(Account::usual().message(FLAGS)),
+        import(&Account::usual().message(FLAGS)),
+        mic(SignIn::usual(), "three messages"),
+        check_mic(SignIn::usual(), "three messages"),
     ]
 }
 
@@ -309,9 +322,11 @@ fn captured(folder: &Path) -> Result<Vec<Measured>, String> {
                 |message| go_back(message, ""),
                 |message| respond(message, Account::usual()),
             ],
-            Some(3) => &[read_authenticate, |message| {
-                line_of_authenticate(message, "")
-            }],
+            Some(3) => &[
+                read_authenticate,
+                |message| line_of_authenticate(message, ""),
+                tidy,
+            ],
             _ => &[
                 |message| read_nl_auth(message, ""),
                 |message| line_of_nl_auth(message, ""),
@@ -365,6 +380,10 @@ fn growing() -> Vec<Measured> {
         let list = inputs::long_list(len - BEFORE_LIST);
         respond(inputs::challenge(&list), Account::usual())
     });
+    each(|len| tidy(Account::of_message(len).message(FLAGS)));
+    each(|len| export(Account::of_message(len).message(FLAGS)));
+    each(|len| import(&Account::of_message(len).message(FLAGS)));
+    each(|len| mic(SignIn::of_messages(len), "three as long"));
     calls
 }
 
@@ -382,6 +401,7 @@ fn read_authenticate(message: Vec<u8>) -> Measured {
     Measured {
         name: "read_authenticate",
         on: bytes(&message),
+        through: None,
         proved: repeat!(raw::read_authenticate(
             black_box(&message),
             &mut numbers,
@@ -397,6 +417,7 @@ fn read_challenge(message: Vec<u8>, what: &str) -> Measured {
     Measured {
         name: "read_challenge",
         on: format!("{what} {}", bytes(&message)),
+        through: None,
         proved: repeat!(raw::read_challenge(
             black_box(&message),
             &mut numbers,
@@ -412,6 +433,7 @@ fn read_negotiate(message: Vec<u8>) -> Measured {
     Measured {
         name: "read_negotiate",
         on: bytes(&message),
+        through: None,
         proved: repeat!(raw::read_negotiate(black_box(&message), &mut numbers)),
         second: repeat!(Negotiate::read(black_box(&other))),
     }
@@ -423,6 +445,7 @@ fn read_nl_auth(message: Vec<u8>, what: &str) -> Measured {
     Measured {
         name: "read_nl_auth",
         on: what_and_bytes(what, &message),
+        through: None,
         proved: repeat!(raw::read_nl_auth(black_box(&message), &mut numbers)),
         second: repeat!(NlAuth::read(black_box(&other))),
     }
@@ -438,9 +461,9 @@ fn name_of_nl_auth(message: Vec<u8>, which: u32, what: &str) -> Measured {
     )
 }
 
-/// Room for any line here.
+/// Room for any line and any text here.
 fn room() -> Vec<u8> {
-    vec![0; 66_000]
+    vec![0; 90_000]
 }
 
 fn line_of_authenticate(message: Vec<u8>, what: &str) -> Measured {
@@ -501,6 +524,7 @@ fn line(
     Measured {
         name,
         on,
+        through: None,
         proved: repeat!(proved(black_box(&message), &mut out)),
         second: repeat!(second(black_box(&other), &mut other_out)),
     }
@@ -569,6 +593,7 @@ fn find_pair(list: Vec<u8>, what: &str) -> Measured {
     Measured {
         name: "find_pair",
         on: format!("{what} {}", bytes(&list)),
+        through: None,
         proved: repeat!(raw::find_pair(black_box(&list), TIMESTAMP, &mut numbers)),
         second: repeat!(TargetInfo(black_box(&other)).find(AvId(TIMESTAMP))),
     }
@@ -595,6 +620,7 @@ fn write(account: Account) -> Measured {
     Measured {
         name: "write_authenticate",
         on: bytes(&account.message(FLAGS)),
+        through: None,
         proved: repeat!(raw::write_authenticate(
             &mut out,
             FLAGS,
@@ -613,6 +639,7 @@ fn open(opening: Opening) -> Measured {
     Measured {
         name: "write_negotiate",
         on: bytes(&opening.message(FLAGS)),
+        through: None,
         proved: repeat!({
             let parts = black_box(opening.parts(FLAGS));
             raw::write_negotiate(
@@ -639,6 +666,7 @@ fn write_names() -> Measured {
     Measured {
         name: "write_nl_auth_request",
         on: format!("({} bytes)", len.expect("a request")),
+        through: None,
         proved: repeat!(raw::write_nl_auth_request(
             &mut out,
             ALL,
@@ -659,6 +687,7 @@ fn go_back(challenge: Vec<u8>, what: &str) -> Measured {
     Measured {
         name: "write_response_pairs",
         on: format!("{what} {}", bytes(&challenge)),
+        through: None,
         proved: repeat!({
             let parts = black_box(target.parts());
             raw::write_response_pairs(
@@ -684,6 +713,7 @@ fn respond(challenge: Vec<u8>, account: Account) -> Measured {
     Measured {
         name: "respond_for_bench",
         on: bytes(&challenge),
+        through: None,
         proved: repeat!(raw::respond_for_bench(
             &mut out,
             black_box(&challenge),
@@ -715,6 +745,90 @@ fn respond(challenge: Vec<u8>, account: Account) -> Measured {
                 &mut other_out,
             )
         }),
+    }
+}
+
+fn tidy(message: Vec<u8>) -> Measured {
+    line(
+        "canonical_authenticate",
+        bytes(&message),
+        |message, out| raw::canonical_authenticate(out, message),
+        canonical_authenticate,
+        message,
+    )
+}
+
+fn export(message: Vec<u8>) -> Measured {
+    let through = Some(message.len());
+    let call = line(
+        "export_header",
+        bytes(&message),
+        |message, out| raw::export_header(out, message),
+        export_header,
+        message,
+    );
+    Measured { through, ..call }
+}
+
+/// The message's text is read; its bytes are those that are counted.
+fn import(message: &[u8]) -> Measured {
+    let mut text = vec![0; 90_000];
+    let len = export_header(message, &mut text).expect("a text");
+    text.truncate(len);
+    let call = line(
+        "import_header",
+        bytes(message),
+        |text, out| raw::import_header(out, text),
+        import_header,
+        text,
+    );
+    let through = Some(message.len());
+    Measured { through, ..call }
+}
+
+fn mic(sign_in: SignIn, what: &str) -> Measured {
+    let other = sign_in.clone();
+    let mut out = [0; 16];
+    Measured {
+        name: "mic",
+        on: format!("{what} ({} bytes)", sign_in.len()),
+        through: Some(sign_in.len()),
+        proved: repeat!(raw::mic(
+            black_box(&inputs::SESSION_KEY),
+            &lent_messages(black_box(&sign_in)),
+            &mut out
+        )),
+        second: repeat!(reader::mic(
+            black_box(&inputs::SESSION_KEY),
+            &black_box(&other).messages()
+        )),
+    }
+}
+
+fn check_mic(sign_in: SignIn, what: &str) -> Measured {
+    let other = sign_in.clone();
+    Measured {
+        name: "check_mic",
+        on: format!("{what} ({} bytes)", sign_in.len()),
+        through: Some(sign_in.len()),
+        proved: repeat!(raw::check_mic(
+            black_box(&inputs::SESSION_KEY),
+            &lent_messages(black_box(&sign_in))
+        )),
+        second: repeat!(reader::check_mic(
+            black_box(&inputs::SESSION_KEY),
+            &black_box(&other).messages()
+        )),
+    }
+}
+
+/// The library's messages of a sign-in.
+fn lent_messages(sign_in: &SignIn) -> raw::SignIn<'_> {
+    let messages = sign_in.messages();
+    raw::SignIn {
+        negotiate: messages.negotiate,
+        challenge: messages.challenge,
+        authenticate: messages.authenticate,
     }
 }
 
@@ -783,6 +897,10 @@ mod tests {
             assert_eq!(inputs::nl_auth(len).len(), len);
             assert!(NlAuth::read(&inputs::nl_auth(len)).is_ok());
             assert_eq!(inputs::authenticate_with_name(len).len(), len);
+            let sign_in = SignIn::of_messages(len);
+            assert_eq!(sign_in.len(), 3 * len);
+            let checked = reader::check_mic(&inputs::SESSION_KEY, &sign_in.messages());
+            assert_eq!(checked, Ok(false));
         }
     }
 }

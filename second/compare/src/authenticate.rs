@@ -53,6 +53,7 @@ pub static KIND: Kind<6> = Kind {
         units,
         long_messages,
         long_lines,
+        secrets_written_twice,
     ],
 };
 
@@ -197,10 +198,11 @@ fn mics(random: &mut Random, messages: &mut Vec<Vec<u8>>) {
     }
 }
 
-/// Secrets of each number of digits, and around 24.
+/// Secrets of each number of digits, and around 24 and 44.
 fn lengths(random: &mut Random, messages: &mut Vec<Vec<u8>>) {
     for len in [
-        0, 1, 9, 10, 11, 16, 23, 24, 25, 99, 100, 101, 240, 280, 999, 1_000, 9_999, 10_000, 65_447,
+        0, 1, 9, 10, 11, 16, 23, 24, 25, 43, 44, 45, 99, 100, 101, 240, 280, 999, 1_000, 9_999,
+        10_000, 65_447,
     ] {
         for field in SECRETS {
             let mut contents: [Vec<u8>; 6] = Default::default();
@@ -254,6 +256,18 @@ fn long_lines(random: &mut Random, messages: &mut Vec<Vec<u8>>) {
     });
     let lengths = [4_000, 10_000, 16_000, 21_000, 32_000, 65_446];
     KIND.names_over_each_other(random, messages, 0, WITH_MIC, &NAMES, &lengths);
+}
+
+/// Two responses over the same bytes, which are around 65,535 bytes where each is
+/// written by itself, or far more.
+fn secrets_written_twice(random: &mut Random, messages: &mut Vec<Vec<u8>>) {
+    for total in [65_533, 65_534, 65_535, 65_536, 65_537, 100_000] {
+        let both = total - WITH_MIC;
+        let mut message = KIND.empty(random, UNICODE, WITH_MIC + both / 2 + 1);
+        message.heads[LM] = Head::new(both / 2, WITH_MIC);
+        message.heads[NT] = Head::new(both - both / 2, WITH_MIC);
+        messages.push(message.bytes());
+    }
 }
 
 /// A message of any layout, sound or damaged.

@@ -11,6 +11,7 @@ mod cases;
 mod challenge;
 pub mod command;
 mod dns_names;
+mod headers;
 mod hex;
 mod lines;
 mod names;

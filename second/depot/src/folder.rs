@@ -29,6 +29,15 @@ pub struct MessageFile {
     path: PathBuf,
 }
 
+/// What a file holds.
+#[derive(Clone, Debug, PartialEq, Eq)]
+pub enum Content {
+    /// A message, and the form that it has in the file.
+    Message(Form, Vec<u8>),
+    /// The texts of header lines, each of which is to carry a message.
+    HeaderTexts(Vec<Vec<u8>>),
+}
+
 /// Why a folder gives no messages. Each says what to do.
 #[derive(Debug)]
 pub enum NoFolder {
@@ -47,6 +56,7 @@ pub enum NotRead {
     TooLarge,
     Unreadable(io::Error),
     NoMessage(NoMessage),
+    HeaderLines,
 }
 
 impl Folder {
@@ -108,9 +118,23 @@ impl MessageFile {
         }
     }
 
-    /// The message and the form that it has in the file.
+    /// The message and the form that it has in the file, where it holds one.
     pub fn read(&self) -> Result<(Form, Vec<u8>), NotRead> {
-        form::read(self.content()?).map_err(NotRead::NoMessage)
+        match self.read_all()? {
+            Content::Message(form, message) => Ok((form, message)),
+            Content::HeaderTexts(_) => Err(NotRead::HeaderLines),
+        }
+    }
+
+    /// What the file holds.
+    pub fn read_all(&self) -> Result<Content, NotRead> {
+        let content = self.content()?;
+        if let Some(texts) = form::header_texts(&content) {
+            let texts = texts.into_iter().map(<[u8]>::to_vec);
+            return Ok(Content::HeaderTexts(texts.collect()));
+        }
+        let (form, message) = form::read(content).map_err(NotRead::NoMessage)?;
+        Ok(Content::Message(form, message))
     }
 
     /// All bytes of the file.
@@ -180,6 +204,10 @@ impl fmt::Display for NotRead {
                 write!(f, "{error}: make it readable or take it out of the folder")
             }
             Self::NoMessage(why) => why.fmt(f),
+            Self::HeaderLines => f.write_str(
+                "it holds header lines, which make run takes: \
+                 put the base64 of one message into a file of its own",
+            ),
         }
     }
 }

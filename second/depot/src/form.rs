@@ -1,4 +1,4 @@
-//! What a file holds: a message as it is, in hex or in base64.
+//! What a file holds: a message as it is, in hex or in base64; or HTTP header lines.
 //!
 //! A raw message is never taken for text. One that begins with the signature or
 //! with an NL_AUTH type has a zero byte among its first eight, and text has
@@ -46,7 +46,7 @@ impl fmt::Display for NoMessage {
     fn fmt(&self, f: &mut fmt::Formatter<'_>) -> fmt::Result {
         f.write_str(match self {
             Self::OtherText => {
-                "it is text, but neither pairs of hex digits nor the base64 of a message: \
+                "it is text, but neither pairs of hex digits, the base64 of a message nor header lines: \
                  correct it or take it out of the folder"
             }
             Self::ByteOrderMark => "it begins with a byte order mark: save it as plain ASCII text",
@@ -79,6 +79,45 @@ pub fn read(content: Vec<u8>) -> Result<(Form, Vec<u8>), NoMessage> {
         (_, Some(message)) => Ok((Form::Base64, message)),
         (Some(message), None) => Ok((Form::Hex, message)),
         (None, None) => Err(NoMessage::OtherText),
+    }
+}
+
+/// The names of the header fields that carry messages.
+const HEADERS: [&[u8]; 4] = [
+    b"Authorization",
+    b"WWW-Authenticate",
+    b"Proxy-Authorization",
+    b"Proxy-Authenticate",
+];
+
+/// The texts that the header lines of a file carry, as they are copied from a trace,
+/// one to a line; none where any line is something else. No file of another form is
+/// one of header lines.
+pub fn header_texts(content: &[u8]) -> Option<Vec<&[u8]>> {
+    let lines = content.split(|&byte| byte == b'\n').map(<[u8]>::trim_ascii);
+    let texts: Option<Vec<&[u8]>> = lines
+        .filter(|line| !line.is_empty())
+        .map(header_text)
+        .collect();
+    texts.filter(|texts| !texts.is_empty() && content.iter().all(|&byte| is_text(byte)))
+}
+
+/// What stands behind the name of one of the header fields, without the blanks
+/// around it; or a text by itself. curl puts a mark for the direction first.
+fn header_text(line: &[u8]) -> Option<&[u8]> {
+    let marks = [&b"> "[..], b"< "];
+    let mark = marks.into_iter().find_map(|mark| line.strip_prefix(mark));
+    let line = mark.unwrap_or(line);
+    let colon = line.iter().position(|&byte| byte == b':');
+    let named = colon.map(|at| (&line[..at], &line[at + 1..]));
+    let is_header = |name: &[u8]| {
+        HEADERS
+            .iter()
+            .any(|header| name.eq_ignore_ascii_case(header))
+    };
+    match named {
+        Some((name, text)) if is_header(name) => Some(text.trim_ascii()),
+        _ => (line.len() > 4 && line[..5].eq_ignore_ascii_case(b"NTLM ")).then_some(line),
     }
 }
 
@@ -195,7 +234,7 @@ fn base64_value(digit: u8) -> Option<u8> {
 
 #[cfg(test)]
 mod tests {
-    use super::{decode_base64, decode_hex, read, Form, Kind, NoMessage, SIGNATURE};
+    use super::{decode_base64, decode_hex, header_texts, read, Form, Kind, NoMessage, SIGNATURE};
 
     const P12: [u8; 13] = *b"\0\0\0\0\x01\0\0\0LINE\0";
 
@@ -350,6 +389,47 @@ mod tests {
                 Err(NoMessage::OtherText),
                 "{text}"
             );
+        }
+    }
+
+    #[test]
+    fn header_lines_are_read_as_they_are_copied() {
+        let texts = |content: &'static str| header_texts(content.as_bytes());
+        let ntlm: Option<Vec<&[u8]>> = Some(vec![b"NTLM Zg=="]);
+        for content in [
+            "Authorization: NTLM Zg==",
+            "authorization:NTLM Zg==\r\n",
+            "WWW-Authenticate:  NTLM Zg== \n",
+            "\n  Proxy-Authorization: NTLM Zg==\r\n\r\n",
+            "< Proxy-Authenticate:\tNTLM Zg==\n",
+            "> Authorization: NTLM Zg==\n",
+            "NTLM Zg==\n",
+        ] {
+            assert_eq!(texts(content), ntlm, "{content:?}");
+            assert_eq!(form_of(content.as_bytes()), Err(NoMessage::OtherText));
+        }
+        let three = "Authorization: ntlm  a\nWWW-Authenticate: NTLM\nAuthorization: Basic b:c\n";
+        let expected: Vec<&[u8]> = vec![b"ntlm  a", b"NTLM", b"Basic b:c"];
+        assert_eq!(texts(three), Some(expected));
+    }
+
+    #[test]
+    fn other_lines_are_no_header_lines() {
+        for content in [
+            "",
+            "\n \n",
+            "NTLM",
+            "NTLMSSP: x",
+            "Host: depot",
+            "Authorization NTLM Zg==",
+            "X-Authorization: NTLM Zg==",
+            "Authorization: NTLM Zg==\nHost: depot\n",
+            "TlRMTVNTUAADAAAA",
+            "4E544C4D",
+            "Authorization: NTLM Zg==\0",
+            "Authorization: NTLM \u{e4}",
+        ] {
+            assert_eq!(header_texts(content.as_bytes()), None, "{content:?}");
         }
     }
 

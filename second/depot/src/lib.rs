@@ -5,3 +5,4 @@
 
 pub mod folder;
 pub mod form;
+pub mod secret_file;

@@ -12,13 +12,13 @@ use std::io::{self, BufWriter, Write};
 use std::path::{Path, PathBuf};
 use std::process::ExitCode;
 
-use depot::folder::{Folder, MessageFile, NoFolder, NotRead};
+use depot::folder::{Content, Folder, MessageFile, NoFolder, NotRead};
 use depot::form::Kind;
 use night::{index_of, read_index, NoNight};
 use programs::{Answer, CannotRun, Program, Text};
 
 const USAGE: &str =
-    "usage: depot look FOLDER | depot run FOLDER NTLM_LINE NL_AUTH_LINE NTLM_EXPLAIN SECOND \
+    "usage: depot look FOLDER | depot run FOLDER NTLM_LINE NL_AUTH_LINE NTLM_EXPLAIN SECOND LINKED \
                      | depot read FILE | depot explain FILE NTLM_EXPLAIN SECOND \
                      | depot look-night FILE | depot night FILE NIGHT SECOND";
 
@@ -26,9 +26,12 @@ fn main() -> ExitCode {
     let args: Vec<OsString> = env::args_os().skip(1).collect();
     let done = match args.as_slice() {
         [command, folder] if command == "look" => look(Path::new(folder)),
-        [command, folder, ntlm, nl_auth, explain, second] if command == "run" => {
-            let [ntlm, nl_auth, explain, second] = [ntlm, nl_auth, explain, second].map(Path::new);
-            Bench::new(ntlm, nl_auth, explain, second).run(Path::new(folder))
+        [command, folder, programs @ ..] if command == "run" && programs.len() == 5 => {
+            let programs: Vec<&Path> = programs.iter().map(Path::new).collect();
+            let [ntlm, nl_auth, explain, second, linked] = programs[..] else {
+                return fail(2, &USAGE);
+            };
+            Bench::new(ntlm, nl_auth, explain, second, linked).run(Path::new(folder))
         }
         [command, file] if command == "read" => read(Path::new(file)).map(|_| true),
         [command, file, explain, second] if command == "explain" => {
@@ -227,6 +230,7 @@ struct Bench {
     ntlm: Pair,
     nl_auth: Pair,
     explain: Pair,
+    import: Pair,
 }
 
 /// What the summary counts.
@@ -240,7 +244,7 @@ struct Counts {
 }
 
 impl Bench {
-    fn new(ntlm: &Path, nl_auth: &Path, explain: &Path, second: &Path) -> Self {
+    fn new(ntlm: &Path, nl_auth: &Path, explain: &Path, second: &Path, linked: &Path) -> Self {
         let no_words: [&str; 0] = [];
         Self {
             ntlm: Pair {
@@ -254,6 +258,11 @@ impl Bench {
                 second: Program::new(second, &["nl"]),
             },
             explain: Pair::explain(explain, second),
+            import: Pair {
+                kind: "header line",
+                proved: Program::new(linked, &["import"]),
+                second: Program::new(second, &["import"]),
+            },
         }
     }
 
@@ -264,13 +273,21 @@ impl Bench {
         let mut out = BufWriter::new(io::stdout().lock());
         let mut counts = Counts::default();
         for file in &folder.messages {
-            counts.messages += 1;
-            match file.read() {
-                Ok((form, message)) => {
+            match file.read_all() {
+                Ok(Content::Message(form, message)) => {
+                    counts.messages += 1;
                     write!(out, "{}: {form}, {} bytes, ", file.name, message.len())?;
                     self.run_message(&message, &mut counts, &mut out)?;
                 }
+                Ok(Content::HeaderTexts(texts)) => {
+                    for (text, line) in texts.iter().zip(1..) {
+                        counts.messages += 1;
+                        write!(out, "{}, {line}: header line, ", file.name)?;
+                        self.run_header(text, &mut counts, &mut out)?;
+                    }
+                }
                 Err(why) => {
+                    counts.messages += 1;
                     counts.not_read += 1;
                     writeln!(out, "{}: NOT READ: {why}", file.name)?;
                 }
@@ -294,10 +311,42 @@ impl Bench {
     /// Runs each program once on nothing, so that one that can't be run is told
     /// before any message is.
     fn try_programs(&self) -> Result<(), CannotRun> {
-        for pair in [&self.ntlm, &self.nl_auth, &self.explain] {
+        for pair in [&self.ntlm, &self.nl_auth, &self.explain, &self.import] {
             pair.run(&[])?;
         }
         Ok(())
+    }
+
+    /// A header line's message goes through the import of both programs, and then the
+    /// way of every message. Nothing of what they import is shown: it holds secrets.
+    fn run_header(
+        &self,
+        text: &[u8],
+        counts: &mut Counts,
+        out: &mut impl Write,
+    ) -> Result<(), Failure> {
+        let (proved, second) = self.import.run(text)?;
+        let answered = imported(&proved).is_some() || is_refusal(&proved);
+        if !proved.is_same(&second) || !answered {
+            writeln!(out, "{} characters", text.len())?;
+            writeln!(out, "    DIFFERENT: the two don't import it alike")?;
+            writeln!(out, "    proved: {}", Imported(&proved))?;
+            writeln!(out, "    second: {}", Imported(&second))?;
+            counts.different += 1;
+            return Ok(());
+        }
+        match imported(&proved) {
+            Some(message) => {
+                write!(out, "{} bytes, ", message.len())?;
+                self.run_message(&message, counts, out)
+            }
+            None => {
+                writeln!(out, "{} characters", text.len())?;
+                writeln!(out, "    {proved}")?;
+                counts.refused += 1;
+                Ok(())
+            }
+        }
     }
 
     /// A message whose beginning is of no kind goes through both programs: a
@@ -361,6 +410,32 @@ impl Bench {
             None => writeln!(out, "    DIFFERENT: refused, but no check failed")?,
         }
         Ok(failed.is_some())
+    }
+}
+
+/// The message that an import printed in hex; none where it is refused.
+fn imported(answer: &Answer) -> Option<Vec<u8>> {
+    let Answer::Printed(line) = answer else {
+        return None;
+    };
+    let digits = line.strip_suffix(b"\n")?;
+    let (pairs, odd) = digits.as_chunks::<2>();
+    let value = |digit: u8| char::from(digit).to_digit(16);
+    let byte = |&[high, low]: &[u8; 2]| u8::try_from(value(high)? << 4 | value(low)?).ok();
+    let bytes: Option<Vec<u8>> = pairs.iter().map(byte).collect();
+    bytes.filter(|_| odd.is_empty())
+}
+
+/// What an import gave, without the message.
+struct Imported<'a>(&'a Answer);
+
+impl fmt::Display for Imported<'_> {
+    fn fmt(&self, f: &mut fmt::Formatter<'_>) -> fmt::Result {
+        match imported(self.0) {
+            Some(message) => write!(f, "a message of {} bytes", message.len()),
+            None if is_refusal(self.0) => self.0.fmt(f),
+            None => f.write_str("[the program printed neither a message nor a refusal]"),
+        }
     }
 }
 

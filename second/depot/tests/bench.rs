@@ -12,6 +12,8 @@ const P12: &[u8] = b"\0\0\0\0\x01\0\0\0LINE\0";
 const EXPLAIN: &str = "echo check 1 held; \
                        echo check 2 failed field=0 offset=0 length=0 message=8; \
                        echo check 3 not reached";
+/// A message of eight bytes.
+const IMPORT: &str = "echo 4E544C4D53535000";
 const FAILED: &str = "check 2 failed field=0 offset=0 length=0 message=8";
 
 /// Programs that stand for the real ones. All are written before any is run: a
@@ -45,6 +47,11 @@ fn program(name: &str) -> PathBuf {
                 "answers_otherwise",
                 "echo 0 8 NEGOTIATE refused 2 field=0 at=0; echo 1 entries",
             ),
+            // What each gives for a header line.
+            ("imports", IMPORT),
+            ("imports_otherwise", "echo 4E544C4D5353510000"),
+            ("imports_less", "echo 'refused 58 field=0 at=0'"),
+            ("imports_badly", "echo '4E5 NTLM secret'"),
             (
                 "holds_all",
                 "case \"$1\" in ntlm) echo refused 2 field=0 at=0 ;; *) echo check 1 held ;; esac",
@@ -54,12 +61,18 @@ fn program(name: &str) -> PathBuf {
             let path = folder.join(name);
             // The second program prints checks too.
             let explain = format!("if [ \"$1\" = explain ]; then {EXPLAIN}; exit; fi\n");
+            let import = format!("if [ \"$1\" = import ]; then {IMPORT}; exit; fi\n");
             let text = if script.starts_with("wc") {
                 format!("#!/bin/sh\n{script}\n")
             } else if script.starts_with("case") {
                 format!("#!/bin/sh\ncat >/dev/null\n{script}\n")
             } else {
-                format!("#!/bin/sh\ncat >/dev/null\n{explain}{script}\n")
+                let import = if name.starts_with("imports") {
+                    ""
+                } else {
+                    &import
+                };
+                format!("#!/bin/sh\ncat >/dev/null\n{explain}{import}{script}\n")
             };
             fs::write(&path, text).expect("a script");
             fs::set_permissions(&path, fs::Permissions::from_mode(0o755)).expect("its mode");
@@ -101,7 +114,13 @@ fn run(folder: &Path, ntlm: &str, nl_auth: &str, second: &str) -> (Option<i32>, 
 
 /// Runs a folder with these programs: three proved ones, then the second.
 fn run_all(folder: &Path, programs: [&str; 4]) -> (Option<i32>, String, String) {
-    let programs = programs.map(program);
+    run_linked(folder, programs, "imports")
+}
+
+/// The same with a program for the library's import.
+fn run_linked(folder: &Path, programs: [&str; 4], linked: &str) -> (Option<i32>, String, String) {
+    let [ntlm, nl_auth, explain, second] = programs;
+    let programs = [ntlm, nl_auth, explain, second, linked].map(program);
     let mut args = vec![Path::new("run"), folder];
     args.extend(programs.iter().map(PathBuf::as_path));
     told(&depot(&args))
@@ -478,7 +497,7 @@ fn a_folder_with_nothing_to_run_is_one_plain_line() {
     ];
     for (folder, start) in cases {
         for command in ["look", "run"] {
-            let programs = [(); 4].map(|()| program("refuses"));
+            let programs = [(); 5].map(|()| program("refuses"));
             let mut args = vec![Path::new(command), &folder];
             if command == "run" {
                 args.extend(programs.iter().map(PathBuf::as_path));
@@ -522,7 +541,7 @@ fn wrong_words_are_status_2() {
         &["run"],
         &["look"],
         &["look", "a", "b"],
-        &["run", "a", "b", "c", "d"],
+        &["run", "a", "b", "c", "d", "e"],
         &["read"],
         &["explain", "a", "b"],
         &["walk", "a"],
@@ -535,4 +554,58 @@ fn wrong_words_are_status_2() {
         assert_eq!((status, out.as_str()), (Some(2), ""));
         assert!(err.starts_with("usage: "));
     }
+}
+
+const HEADERS: &[u8] = b"Authorization: NTLM TlRMTVNTUAA=\r\nWWW-Authenticate: NTLM secret\r\n";
+
+#[test]
+fn each_header_line_is_a_message() {
+    let folder = folder_of("headers", &[("trace.txt", HEADERS)]);
+    let programs = ["refuses", "takes", "explains", "refuses"];
+    let (status, out, err) = run_linked(&folder, programs, "imports");
+    assert_eq!(
+        out,
+        format!(
+            "trace.txt, 1: header line, 8 bytes, NTLM\n    refused 2 field=0 at=0\n    {FAILED}\n\
+             trace.txt, 2: header line, 8 bytes, NTLM\n    refused 2 field=0 at=0\n    {FAILED}\n\
+             2 messages: 2 the same in both programs (0 taken, 2 refused), 0 different, 0 not read\n"
+        )
+    );
+    assert_eq!((status, err.as_str()), (Some(0), ""));
+}
+
+#[test]
+fn an_import_that_differs_shows_no_message() {
+    let folder = folder_of("headers-differ", &[("trace.txt", HEADERS)]);
+    let programs = ["refuses", "takes", "explains", "refuses"];
+    for (linked, shown) in [
+        ("imports_otherwise", "a message of 9 bytes"),
+        ("imports_less", "refused 58 field=0 at=0"),
+        (
+            "imports_badly",
+            "[the program printed neither a message nor a refusal]",
+        ),
+    ] {
+        let (status, out, _) = run_linked(&folder, programs, linked);
+        assert!(
+            out.starts_with(&format!(
+                "trace.txt, 1: header line, 17 characters\n    DIFFERENT: the two don't import it alike\n    \
+                 proved: {shown}\n    second: a message of 8 bytes\n"
+            )),
+            "{out}"
+        );
+        assert!(!out.contains("4E5"), "{out}");
+        assert!(out.ends_with(" 2 different, 0 not read\n"));
+        assert_eq!(status, Some(1));
+    }
+}
+
+#[test]
+fn header_lines_are_not_for_one_message() {
+    let folder = folder_of("headers-read", &[("trace.txt", HEADERS)]);
+    let file = folder.join("trace.txt");
+    let (status, out, err) = told(&depot(&[Path::new("read"), &file]));
+    assert_eq!((status, out.as_str()), (Some(1), ""));
+    assert!(err.contains("it holds header lines, which make run takes: "));
+    assert_eq!(err.lines().count(), 1);
 }

@@ -3,9 +3,9 @@
 use std::fs;
 use std::path::Path;
 
-use depot::folder::Folder;
+use depot::folder::{Content, Folder};
 use depot::form::Kind;
-use reader::{check_messages, Entry, Program, LINE_LIMIT};
+use reader::{check_messages, export_header, import_header, Entry, Program, Refusal, LINE_LIMIT};
 
 const MESSAGES: &str = concat!(env!("CARGO_MANIFEST_DIR"), "/../../messages");
 
@@ -29,18 +29,41 @@ fn line(program: Program, message: &[u8]) -> String {
     format!("`{}`", line.escape_ascii()).replace("\\\\", "\\")
 }
 
+fn printed(message: &[u8]) -> String {
+    match Kind::of(message) {
+        Kind::Ntlm => line(Program::Ntlm, message),
+        Kind::NlAuth => line(Program::NlAuth, message),
+        Kind::Unclear => {
+            let lines = [Program::Ntlm, Program::NlAuth].map(|p| line(p, message));
+            lines.join(" and ")
+        }
+    }
+}
+
+/// The message of a header line's text, which is exported with the same digits.
+fn carried(text: &[u8]) -> Result<Vec<u8>, Refusal> {
+    let mut message = vec![0; text.len()];
+    let len = import_header(text, &mut message)?;
+    message.truncate(len);
+    let mut again = vec![0; text.len()];
+    let len = export_header(&message, &mut again).expect("room");
+    assert!(text.ends_with(&again[5..len]));
+    Ok(message)
+}
+
 #[test]
 fn each_file_stands_in_the_table_with_its_line() {
     let folder = Folder::list(Path::new(MESSAGES)).expect("messages");
     let mut found = Vec::new();
     for file in &folder.messages {
-        let (_, message) = file.read().expect("a message");
-        let printed = match Kind::of(&message) {
-            Kind::Ntlm => line(Program::Ntlm, &message),
-            Kind::NlAuth => line(Program::NlAuth, &message),
-            Kind::Unclear => {
-                let lines = [Program::Ntlm, Program::NlAuth].map(|p| line(p, &message));
-                lines.join(" and ")
+        let printed = match file.read_all().expect("a message") {
+            Content::Message(_, message) => printed(&message),
+            Content::HeaderTexts(texts) => {
+                let lines = texts.iter().map(|text| match carried(text) {
+                    Ok(message) => printed(&message),
+                    Err(refusal) => format!("`{refusal}`"),
+                });
+                lines.collect::<Vec<_>>().join(", ")
             }
         };
         found.push((file.name.clone(), printed));

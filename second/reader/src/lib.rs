@@ -1,8 +1,9 @@
 //! NTLM and NL_AUTH messages by the rules of document 01, with those of
 //! document 02 that have landed: reading NEGOTIATE, CHALLENGE, AUTHENTICATE,
 //! NL_AUTH and TargetInfo, the log line of each message, why one is refused,
-//! answering a challenge, and writing NEGOTIATE, AUTHENTICATE, NL_AUTH and the pair list of an answer;
-//! and a night's messages in one call.
+//! answering a challenge, writing NEGOTIATE, AUTHENTICATE, NL_AUTH and the pair
+//! list of an answer, a night's messages in one call, an AUTHENTICATE's canonical
+//! form, the MIC of a sign-in's three messages, and messages in HTTP header lines.
 //!
 //! Reading borrows from the message and allocates nothing. Every call ends
 //! for any input, takes time linear in what it is lent, and does not panic.
@@ -19,13 +20,19 @@
 
 mod answer;
 mod authenticate;
+mod base64;
+mod canonical;
 mod challenge;
 mod dns_name;
 mod explain;
 mod flags;
+mod hmac_md5;
+mod http_header;
 mod kind;
 mod layout;
 mod line;
+mod md5;
+mod mic;
 mod negotiate;
 mod night;
 mod nl_auth;
@@ -45,10 +52,15 @@ pub use answer::{
     Answer, Domain, Policy, Secrets, Settings,
 };
 pub use authenticate::Authenticate;
+pub use canonical::canonical_authenticate;
 pub use challenge::Challenge;
 pub use explain::explain;
 pub use flags::{CharacterSet, NegotiateFlags, NlAuthFlags};
+pub use hmac_md5::hmac_md5;
+pub use http_header::{export_header, import_header};
 pub use line::{authenticate_line, challenge_line, negotiate_line, nl_auth_line, ntlm_line};
+pub use md5::md5;
+pub use mic::{check_mic, mic, SignIn};
 pub use negotiate::Negotiate;
 pub use night::{check_messages, Entry};
 pub use nl_auth::{NlAuth, NlAuthString, NlAuthType};

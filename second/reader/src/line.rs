@@ -112,11 +112,13 @@ impl Line for Authenticate<'_> {
     }
 }
 
-/// "K goes by NT response length: 0 `none`, 24 `v1`, any other `v2`."
+/// "K goes by NT response length: 0 `none`, 24 `v1`", and since request 11/12, by
+/// MS-NLMP 2.2.2.7 and 2.2.2.8, "lengths 1 to 23 and 25 to 43 are `odd`, not `v2`".
 const fn kind(nt_len: usize) -> &'static [u8] {
     match nt_len {
         0 => b" kind=none",
         24 => b" kind=v1",
+        1..=43 => b" kind=odd",
         _ => b" kind=v2",
     }
 }

@@ -67,6 +67,14 @@ pub enum Reason {
     NameTooLong = 53,
     /// "start plus length passes the buffer's end"
     PlaceOutside = 54,
+    /// "a key that isn't 16 bytes"
+    SessionKey = 55,
+    /// "the AUTHENTICATE has no MIC"
+    NoMic = 56,
+    /// "the scheme word or missing space"
+    Scheme = 57,
+    /// "a bad character, padding, group or last bits"
+    Base64 = 58,
 }
 
 impl Reason {

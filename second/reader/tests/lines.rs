@@ -31,10 +31,13 @@ fn every_word_of_an_auth_line() {
 fn kind_goes_by_the_nt_response_length() {
     for (len, kind) in [
         (0, "none"),
-        (1, "v2"),
-        (23, "v2"),
+        (1, "odd"),
+        (23, "odd"),
         (24, "v1"),
-        (25, "v2"),
+        (25, "odd"),
+        (43, "odd"),
+        (44, "v2"),
+        (45, "v2"),
         (65_000, "v2"),
     ] {
         let message = Auth::new(OEM, MAX_MESSAGE).field(NT, len, 88).0;

@@ -1,5 +1,6 @@
 //! Reads NTLM or NL_AUTH messages from standard input and prints the log line
-//! of each, or why an NTLM message is refused; or checks a night's messages.
+//! of each, or why an NTLM message is refused; or checks a night's messages; or reads
+//! the text of a header line and prints the message that it carries, in hex.
 
 #![forbid(unsafe_code)]
 
@@ -13,10 +14,11 @@ use std::path::{Path, PathBuf};
 use std::process::ExitCode;
 
 use night::{Answers, NoNight, Place, Refused};
-use reader::{check_messages, Entry, Program, Refusal, LINE_LIMIT, MAX_MESSAGE};
+use reader::{check_messages, import_header, Entry, Program, Refusal, LINE_LIMIT, MAX_MESSAGE};
 
 const USAGE: &str =
-    "usage: second [batch] ntlm | second [batch] nl | second [batch] explain | second night INDEX";
+    "usage: second [batch] ntlm | second [batch] nl | second [batch] explain | second night INDEX \
+                     | second import";
 
 /// How many bytes of input and output a batch holds at a time.
 const BATCH_BUFFER: usize = 1 << 18;
@@ -30,6 +32,7 @@ fn main() -> ExitCode {
         Command::One(program) => print_one(program),
         Command::Batch(program) => print_batch(program),
         Command::Night(index) => print_night(&index),
+        Command::Import => print_imported(),
     };
     match done {
         Ok(()) => ExitCode::SUCCESS,
@@ -48,11 +51,13 @@ enum Command {
     One(Program),
     Batch(Program),
     Night(PathBuf),
+    Import,
 }
 
 impl Command {
     fn parse(args: &[OsString]) -> Option<Self> {
         match args {
+            [import] if import == "import" => Some(Self::Import),
             [program] => Some(Self::One(parse_program(program)?)),
             [batch, program] if batch == "batch" => Some(Self::Batch(parse_program(program)?)),
             [night, index] if night == "night" => Some(Self::Night(PathBuf::from(index))),
@@ -105,6 +110,25 @@ fn print_one(program: Program) -> Result<(), Failure> {
     let mut room = Box::new([0; LINE_LIMIT]);
     let mut output = io::stdout().lock();
     output.write_all(program.line(&message, &mut room))?;
+    output.flush()?;
+    Ok(())
+}
+
+/// Takes all of standard input as the text of a header line, and prints its message in
+/// hex or its refusal, on one line.
+fn print_imported() -> Result<(), Failure> {
+    let mut text = Vec::new();
+    io::stdin().lock().read_to_end(&mut text)?;
+    let mut message = vec![0; MAX_MESSAGE];
+    let line = match import_header(&text, &mut message) {
+        Ok(len) => message[..len].iter().fold(String::new(), |mut line, byte| {
+            line.push_str(&format!("{byte:02X}"));
+            line
+        }),
+        Err(refusal) => refusal.to_string(),
+    };
+    let mut output = io::stdout().lock();
+    writeln!(output, "{line}")?;
     output.flush()?;
     Ok(())
 }

@@ -235,3 +235,20 @@ fn wrong_arguments() {
         assert!(error.starts_with("usage: ") && error.ends_with('\n'));
     }
 }
+
+#[test]
+fn import_prints_the_message_or_its_refusal() {
+    for (text, line) in [
+        ("NTLM Zm9v", "666F6F\n"),
+        ("ntlm   +/+/", "FBFFBF\n"),
+        ("NTLM ", "\n"),
+        ("NTLM", "refused 57 field=0 at=0\n"),
+        ("NTLM Zm9v\n", "refused 58 field=0 at=0\n"),
+    ] {
+        assert_eq!(printed(&["import"], text.as_bytes()), line, "{text}");
+    }
+    let long = format!("NTLM {}", "AAAA".repeat(22_000));
+    let refused = "refused 1 field=0 at=0\n";
+    assert_eq!(printed(&["import"], long.as_bytes()), refused);
+    assert_eq!(run(&["batch", "import"], b"").status.code(), Some(2));
+}

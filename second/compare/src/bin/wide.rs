@@ -9,9 +9,9 @@ use compare::command::{fail, finish, seed_and_count, NOT_NUMBERS};
 use compare::wide::call::{Call, Line, Parts, Respond, Thin};
 use compare::wide::night::WORDS;
 use compare::wide::run;
-use depot::folder::Folder;
+use depot::folder::{Content, Folder};
 use dialtable::raw;
-use reader::NegotiateParts;
+use reader::{NegotiateParts, SignIn};
 
 const USAGE: &str = "usage: wide MESSAGES SEED N";
 
@@ -34,11 +34,23 @@ fn main() -> ExitCode {
 /// The messages of a folder, as the depot bench reads them.
 fn messages(folder: &Path) -> Result<Vec<Vec<u8>>, String> {
     let folder = Folder::list(folder).map_err(|error| error.to_string())?;
-    let read = folder.messages.iter().map(|file| match file.read() {
-        Ok((_, message)) => Ok(message),
-        Err(error) => Err(format!("{}: {error}", file.name)),
-    });
-    read.collect()
+    let mut messages = Vec::new();
+    for file in &folder.messages {
+        match file.read_all() {
+            Ok(Content::Message(_, message)) => messages.push(message),
+            Ok(Content::HeaderTexts(texts)) => messages.extend(texts.iter().filter_map(carried)),
+            Err(error) => return Err(format!("{}: {error}", file.name)),
+        }
+    }
+    Ok(messages)
+}
+
+/// The message of a header line's text.
+fn carried(text: &Vec<u8>) -> Option<Vec<u8>> {
+    let mut message = vec![0; text.len()];
+    let len = reader::import_header(text, &mut message).ok()?;
+    message.truncate(len);
+    Some(message)
 }
 
 /// A call of the library.
@@ -121,6 +133,19 @@ fn library(call: &Call<'_>, out: &mut [u8], numbers: &mut [u64]) -> u64 {
                 Respond::Itself(thin) => itself(thin, out, challenge, clock, parts, numbers),
             }
         }
+        Call::CanonicalAuthenticate { message } => raw::canonical_authenticate(out, message),
+        Call::ExportHeader { message } => raw::export_header(out, message),
+        Call::ImportHeader { text } => raw::import_header(out, text),
+        Call::Mic { key, messages } => raw::mic(key, &three(&messages), out),
+        Call::CheckMic { key, messages } => raw::check_mic(key, &three(&messages)),
+    }
+}
+
+const fn three<'a>(messages: &SignIn<'a>) -> raw::SignIn<'a> {
+    raw::SignIn {
+        negotiate: messages.negotiate,
+        challenge: messages.challenge,
+        authenticate: messages.authenticate,
     }
 }
 

@@ -2,7 +2,7 @@
 
 use std::fmt::{self, Write};
 
-use reader::{Account, NegotiateParts, Secrets};
+use reader::{Account, NegotiateParts, Secrets, SignIn};
 
 use super::night::{Place, WORDS};
 use crate::hex::Hex;
@@ -184,11 +184,28 @@ pub enum Call<'a> {
         clock: u64,
         parts: Parts<'a>,
     },
+    CanonicalAuthenticate {
+        message: &'a [u8],
+    },
+    ExportHeader {
+        message: &'a [u8],
+    },
+    ImportHeader {
+        text: &'a [u8],
+    },
+    Mic {
+        key: &'a [u8],
+        messages: SignIn<'a>,
+    },
+    CheckMic {
+        key: &'a [u8],
+        messages: SignIn<'a>,
+    },
 }
 
 /// The names of the calls, without `dialtable_`, by [`Call::index`]; those of
 /// `crates/thin_calls` last.
-pub const NAMES: [&str; 35] = [
+pub const NAMES: [&str; 40] = [
     "read_authenticate",
     "read_challenge",
     "read_timestamp",
@@ -221,6 +238,11 @@ pub const NAMES: [&str; 35] = [
     "respond_for_bench",
     "respond_to_old_server",
     "respond_for_relay",
+    "canonical_authenticate",
+    "export_header",
+    "import_header",
+    "mic",
+    "check_mic",
     "thin_respond_for_bench",
     "thin_respond_to_old_server",
     "thin_respond_for_relay",
@@ -270,6 +292,11 @@ impl Call<'_> {
             Self::Decide { .. } => const { place_of("decide") },
             Self::DomainToSend { .. } => const { place_of("domain_to_send") },
             Self::Respond { how, .. } => how.index(),
+            Self::CanonicalAuthenticate { .. } => const { place_of("canonical_authenticate") },
+            Self::ExportHeader { .. } => const { place_of("export_header") },
+            Self::ImportHeader { .. } => const { place_of("import_header") },
+            Self::Mic { .. } => const { place_of("mic") },
+            Self::CheckMic { .. } => const { place_of("check_mic") },
         }
     }
 
@@ -295,10 +322,10 @@ impl Call<'_> {
     }
 
     /// The bytes that a reading gives beside its numbers: MIC or server
-    /// challenge.
+    /// challenge; and those of a MIC that is worked out.
     pub const fn array(&self) -> Option<usize> {
         match self {
-            Self::ReadAuthenticate { .. } => Some(16),
+            Self::ReadAuthenticate { .. } | Self::Mic { .. } => Some(16),
             Self::ReadChallenge { .. } => Some(8),
             _ => None,
         }
@@ -309,6 +336,14 @@ impl Call<'_> {
     pub fn written(&self, answer: u64) -> usize {
         self.array()
             .unwrap_or(usize::try_from(answer).unwrap_or(usize::MAX))
+    }
+
+    /// Whether two answers to it, given other secrets, must be the same. Whether a
+    /// MIC is right depends on secrets; that it is refused does not.
+    pub fn alike(&self, one: u64, two: u64) -> bool {
+        let answered = |answer| refusal(answer).is_none();
+        let free = matches!(self, Self::CheckMic { .. });
+        one == two || free && answered(one) && answered(two)
     }
 
     /// How many bytes it is given.
@@ -327,7 +362,10 @@ impl Call<'_> {
             | Self::ReadNlAuth { message }
             | Self::NlAuthName { message, .. }
             | Self::FieldBytes { message, .. }
-            | Self::Line { message, .. } => vec![("message", message)],
+            | Self::Line { message, .. }
+            | Self::CanonicalAuthenticate { message }
+            | Self::ExportHeader { message } => vec![("message", message)],
+            Self::ImportHeader { text } => vec![("text", text)],
             Self::CheckPairs { list }
             | Self::CountPairs { list }
             | Self::FindPair { list, .. }
@@ -359,6 +397,12 @@ impl Call<'_> {
             Self::Respond {
                 challenge, parts, ..
             } => [vec![("challenge", *challenge)], parts.inputs()].concat(),
+            Self::Mic { key, messages } | Self::CheckMic { key, messages } => vec![
+                ("key", key),
+                ("negotiate", messages.negotiate),
+                ("challenge", messages.challenge),
+                ("authenticate", messages.authenticate),
+            ],
         }
     }
 

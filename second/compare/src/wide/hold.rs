@@ -220,7 +220,7 @@ impl<L: Library> Holder<L> {
         for at in hidden(&self.ours.bytes[GUARD..GUARD + written]) {
             self.second.bytes[GUARD + at] = self.ours.bytes[GUARD + at];
         }
-        if first != other || !self.ours.same(&self.second, lent) {
+        if !one.alike(first, other) || !self.ours.same(&self.second, lent) {
             let text = format!(
                 "SECRETS TELL: {one}\n    and: {two}\n    lent: {} bytes, {} numbers\n    \
                  first: {}\n    other: {}",

@@ -8,7 +8,7 @@ use crate::wire::{damage, offsets, set_of, FIELD_LENGTHS, LONG, MAX_MESSAGE};
 use crate::wire::{KEY_EXCH, OEM, UNICODE};
 use crate::{authenticate, challenge, dns_names, negotiate, nl_auth, pairs};
 
-use super::call::Parts;
+use super::call::{Call, Parts};
 
 /// Where heads stand in some kind of message.
 fn head_places() -> Vec<usize> {
@@ -293,6 +293,101 @@ pub fn odd_or_long_name(random: &mut Random, others: usize) -> Vec<u8> {
 /// but 0.
 pub fn yes(random: &mut Random) -> u32 {
     random.pick(&[1, 2, 4, 0x100, 0x1_0000, 0x8000_0000, 0xFFFF_FFFF])
+}
+
+/// A session key, mostly of sixteen bytes.
+fn session_key(random: &mut Random) -> Vec<u8> {
+    let len = if random.one_in(12) {
+        random.pick(&[0, 1, 15, 17, 32, 64, 65])
+    } else {
+        16
+    };
+    random.bytes(len)
+}
+
+/// A sign-in's session key and its messages.
+pub struct SignIn {
+    key: Vec<u8>,
+    messages: [Vec<u8>; 3],
+}
+
+impl SignIn {
+    /// The message in the place of its kind, beside two others, mostly sound ones;
+    /// where it is of no kind, as the last.
+    pub fn new(random: &mut Random, message: &[u8]) -> Self {
+        let others: [fn(&mut Random) -> Vec<u8>; 3] =
+            [negotiate::drawn, challenge::drawn, authenticate::drawn];
+        let mut messages = others.map(|drawn| {
+            if random.one_in(8) {
+                drawn(random)
+            } else {
+                Vec::new()
+            }
+        });
+        let sound = [
+            negotiate::KIND.empty(random, UNICODE, 40).bytes(),
+            challenge::KIND.empty(random, OEM, 56).bytes(),
+            // So long that there is a MIC.
+            authenticate::KIND.empty(random, UNICODE, 90).bytes(),
+        ];
+        for (message, sound) in messages.iter_mut().zip(sound) {
+            if message.is_empty() {
+                *message = sound;
+            }
+        }
+        let place = match message.get(8..12) {
+            Some([1, 0, 0, 0]) => 0,
+            Some([2, 0, 0, 0]) => 1,
+            _ => 2,
+        };
+        messages[place] = message.to_vec();
+        let key = session_key(random);
+        Self { key, messages }
+    }
+
+    pub fn mic(&self) -> Call<'_> {
+        Call::Mic {
+            key: &self.key,
+            messages: self.messages(),
+        }
+    }
+
+    pub fn check_mic(&self) -> Call<'_> {
+        Call::CheckMic {
+            key: &self.key,
+            messages: self.messages(),
+        }
+    }
+
+    fn messages(&self) -> reader::SignIn<'_> {
+        let [negotiate, challenge, authenticate] = &self.messages;
+        reader::SignIn {
+            negotiate,
+            challenge,
+            authenticate,
+        }
+    }
+
+    /// The MIC that is right, where there is one.
+    pub fn right_mic(&self) -> Option<[u8; 16]> {
+        reader::mic(&self.key, &self.messages()).ok()
+    }
+
+    /// Puts a MIC into an AUTHENTICATE that has one.
+    pub fn set_mic(&mut self, mic: [u8; 16]) {
+        self.messages[2][72..88].copy_from_slice(&mic);
+    }
+
+    /// With another key of its length, and other bytes in the AUTHENTICATE after
+    /// its first 64.
+    pub fn with_other_secrets(&self, random: &mut Random) -> Self {
+        let key = random.bytes(self.key.len());
+        let mut messages = self.messages.clone();
+        for byte in messages[2].iter_mut().skip(64) {
+            *byte = random.byte();
+        }
+        Self { key, messages }
+    }
 }
 
 /// Any flags of an NL_AUTH request, mostly with a bit A to E.

@@ -16,10 +16,11 @@ use std::time::{Duration, Instant};
 use reader::{NegotiateFlags, NegotiateParts};
 
 use crate::cases::cases;
+use crate::headers::{changed, other_text, Change, CHANGES};
 use crate::pairs::IDS;
 use crate::random::Random;
 use crate::report::{print_counts, print_differences};
-use crate::wire::KEY_EXCH;
+use crate::wire::{KEY_EXCH, MAX_MESSAGE};
 
 use call::{Call, Line, Respond};
 use hold::{Holder, Lent, Library, MOST_NUMBERS};
@@ -140,6 +141,10 @@ impl<L: Library> Run<L> {
         self.going_back(&challenge);
         self.secrets_read(message);
         self.secrets_answered(&challenge);
+        self.mics(message);
+        self.canonical(message);
+        let some = [(); 4].map(|()| self.random.pick(&CHANGES));
+        self.headers(message, &some);
     }
 
     fn readings(&mut self, message: &[u8]) {
@@ -463,6 +468,69 @@ impl<L: Library> Run<L> {
             self.holder
                 .hold_alike(&calls[0], &calls[1], lent, secret_places);
         }
+    }
+}
+
+impl<L: Library> Run<L> {
+    /// A message's canonical form, and what comes out of that.
+    fn canonical(&mut self, message: &[u8]) {
+        self.hold_rooms(&Call::CanonicalAuthenticate { message });
+        let mut out = vec![0; message.len() + MAX_MESSAGE];
+        if let Ok(len) = reader::canonical_authenticate(message, &mut out) {
+            let message = &out[..len];
+            self.hold_rooms(&Call::CanonicalAuthenticate { message });
+        }
+    }
+
+    /// A message in a header line and back, and out of texts that are changed.
+    fn headers(&mut self, message: &[u8], changes: &[Change]) {
+        self.hold_rooms(&Call::ExportHeader { message });
+        let text = other_text(&mut self.random, message);
+        self.hold_rooms(&Call::ImportHeader { text: &text });
+        for &change in changes {
+            let text = changed(&mut self.random, message, change);
+            self.hold_rooms(&Call::ImportHeader { text: &text });
+        }
+        // As a text by itself.
+        self.hold_rooms(&Call::ImportHeader { text: message });
+    }
+
+    /// The MIC of a sign-in, as it came, and with a MIC that is right, or wrong in
+    /// one byte.
+    fn mics(&mut self, message: &[u8]) {
+        let mut sign_in = inputs::SignIn::new(&mut self.random, message);
+        self.hold_arrays(&sign_in.mic());
+        self.hold_arrays(&sign_in.check_mic());
+        self.secrets_hashed(&sign_in);
+        let Some(right) = sign_in.right_mic() else {
+            return;
+        };
+        sign_in.set_mic(right);
+        self.hold_arrays(&sign_in.mic());
+        self.hold_arrays(&sign_in.check_mic());
+        for at in [0, self.random.below(16), 15] {
+            let mut wrong = right;
+            wrong[at] ^= 1 << self.random.below(8);
+            sign_in.set_mic(wrong);
+            self.hold_arrays(&sign_in.check_mic());
+        }
+    }
+
+    /// Request 10/12 on demand 3: the refusals "depend only on the key's length,
+    /// the two earlier messages, and the AUTHENTICATE's length and first 64
+    /// bytes".
+    fn secrets_hashed(&mut self, sign_in: &inputs::SignIn) {
+        let other = sign_in.with_other_secrets(&mut self.random);
+        let lent = |room| Lent { room, numbers: 0 };
+        let room = self.random.pick(&[16, 16, 17, 15]);
+        // All but the MIC's own bytes.
+        let mic = |written: &[u8]| (0..written.len()).collect();
+        let calls = [sign_in, &other].map(inputs::SignIn::mic);
+        self.holder
+            .hold_alike(&calls[0], &calls[1], lent(room), mic);
+        let calls = [sign_in, &other].map(inputs::SignIn::check_mic);
+        self.holder
+            .hold_alike(&calls[0], &calls[1], lent(0), |_| Vec::new());
     }
 }
 

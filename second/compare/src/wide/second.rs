@@ -2,11 +2,12 @@
 
 use reader::{
     answer, answer_for_bench, answer_for_old_servers, answer_for_relay, authenticate_line,
-    challenge_line, check_messages, domain_to_send, explain, field_bytes, negotiate_line,
-    nl_auth_line, nl_auth_name, ntlm_line, write_authenticate, write_negotiate,
-    write_nl_auth_request, write_nl_auth_response, write_response_pairs, Answer, Authenticate,
-    AuthenticateParts, AvId, Challenge, Field, Negotiate, NegotiateFlags, NlAuth, NlAuthFlags,
-    Policy, Program, Reason, Refusal, ResponsePairs, Settings, TargetInfo,
+    canonical_authenticate, challenge_line, check_messages, check_mic, domain_to_send, explain,
+    export_header, field_bytes, import_header, mic, negotiate_line, nl_auth_line, nl_auth_name,
+    ntlm_line, write_authenticate, write_negotiate, write_nl_auth_request, write_nl_auth_response,
+    write_response_pairs, Answer, Authenticate, AuthenticateParts, AvId, Challenge, Field,
+    Negotiate, NegotiateFlags, NlAuth, NlAuthFlags, Policy, Program, Reason, Refusal,
+    ResponsePairs, Settings, TargetInfo,
 };
 
 use super::call::{refused_at, Call, Line, Parts, Respond, Thin};
@@ -84,6 +85,14 @@ fn call_of(call: &Call<'_>, out: &mut [u8], numbers: &mut [u64]) -> Result<usize
             put(numbers, &[time, u64::from(mic_due)]);
             Ok(len)
         }
+        Call::CanonicalAuthenticate { message } => canonical_authenticate(message, out),
+        Call::ExportHeader { message } => export_header(message, out),
+        Call::ImportHeader { text } => import_header(text, out),
+        Call::Mic { key, messages } => {
+            put_bytes(out, &mic(key, &messages)?);
+            Ok(0)
+        }
+        Call::CheckMic { key, messages } => check_mic(key, &messages).map(usize::from),
     }
 }
 

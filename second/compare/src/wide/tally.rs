@@ -7,9 +7,9 @@ use reader::Entry;
 use super::call::{place, refusal, Call, FARTHEST, NAMES};
 use crate::tally::{each_refusal, Columns, Refusals, REFUSALS};
 
-/// Each refusal that only answering, writing and a night can give, with every field
-/// that it can have.
-const OF_WRITING: [Refusals; 7] = [
+/// Each refusal that only answering, writing, working out and a night can give, with
+/// every field that it can have.
+const OF_WRITING: [Refusals; 11] = [
     (20, &[0]),
     (21, &[0]),
     (30, &[0]),
@@ -17,6 +17,10 @@ const OF_WRITING: [Refusals; 7] = [
     (32, &[6]),
     (34, &[1, 2, 3, 4, 5]),
     (54, &[0]),
+    (55, &[0]),
+    (56, &[0]),
+    (57, &[0]),
+    (58, &[0]),
 ];
 
 /// What the entries of a night are called, by their marks: 1 to 3, and any other.
@@ -29,7 +33,7 @@ const ENTRIES: [&str; 4] = [
 
 /// Numbers, their fields and the readings and writings that can refuse by them:
 /// each must have done so itself, since kinds of message share numbers.
-const OF_CALLS: [(&[u8], &[u8], &[&str]); 30] = [
+const OF_CALLS: [(&[u8], &[u8], &[&str]); 42] = [
     (
         &[1, 2, 4, 33],
         &[0],
@@ -133,6 +137,18 @@ const OF_CALLS: [(&[u8], &[u8], &[&str]); 30] = [
     (&[10, 11, 12, 13], &[2], &["entry_challenge"]),
     (&[4], &[0], &["entry_other_mark"]),
     (&[54], &[0], &ENTRIES),
+    (&[1, 2, 3, 4, 5, 30, 33], &[0], &["canonical_authenticate"]),
+    (&[6, 7], &[1, 2, 3, 4, 5, 6], &["canonical_authenticate"]),
+    (&[8, 9], &[3, 4, 5], &["canonical_authenticate"]),
+    (&[32], &[6], &["canonical_authenticate"]),
+    (&[1, 33], &[0], &["export_header", "import_header"]),
+    (&[57, 58], &[0], &["import_header"]),
+    (&[1, 2, 3, 4, 5, 55, 56], &[0], &["mic", "check_mic"]),
+    (&[6, 7], &[1, 2, 3, 4, 5, 6], &["mic", "check_mic"]),
+    (&[8], &[1, 3, 4, 5], &["mic", "check_mic"]),
+    (&[9], &[3, 4, 5], &["mic", "check_mic"]),
+    (&[33], &[0], &["mic"]),
+    (&[10, 11, 12, 13], &[2], &["mic", "check_mic"]),
 ];
 
 /// What a kind of place is called, and whether a place is of it.
@@ -174,7 +190,7 @@ const OF_PLACES: [(&[usize], &[&str]); 3] = [
 ];
 
 /// The calls that are given two inputs which only secrets tell apart.
-const WITH_SECRETS: [&str; 13] = [
+const WITH_SECRETS: [&str; 15] = [
     "read_authenticate",
     "authenticate_line",
     "ntlm_line",
@@ -185,6 +201,8 @@ const WITH_SECRETS: [&str; 13] = [
     "respond_for_bench",
     "respond_to_old_server",
     "respond_for_relay",
+    "mic",
+    "check_mic",
     "thin_respond_for_bench",
     "thin_respond_to_old_server",
     "thin_respond_for_relay",
@@ -204,13 +222,15 @@ fn refusals() -> Vec<Refusals> {
 }
 
 /// One more than the highest number, and than the highest field.
-const NUMBERS: usize = 55;
+const NUMBERS: usize = 59;
 const FIELDS: usize = 7;
 
 /// The counts of one call.
 #[derive(Clone, Copy, Debug)]
 struct Row {
     answered: u64,
+    /// How many of these answers are 1.
+    yes: u64,
     /// By number and field.
     refused: [[u64; FIELDS]; NUMBERS],
     /// Refused pairs by [`PLACES`].
@@ -231,6 +251,7 @@ impl Default for Tally {
     fn default() -> Self {
         let row = Row {
             answered: 0,
+            yes: 0,
             refused: [[0; FIELDS]; NUMBERS],
             places: [0; PLACES.len()],
             alike: 0,
@@ -246,7 +267,10 @@ impl Tally {
     pub fn add(&mut self, call: &Call<'_>, answer: u64) {
         let row = &mut self.rows[call.index()];
         match refusal(answer) {
-            None => row.answered += 1,
+            None => {
+                row.answered += 1;
+                row.yes += u64::from(answer == 1);
+            }
             Some((number, field)) => {
                 row.refused[usize::from(number)][usize::from(field)] += 1;
                 if matches!(number, 10..=13) {
@@ -305,6 +329,9 @@ impl Tally {
             // No message is taken by a mark that is none.
             if row.answered == 0 && name != "entry_other_mark" {
                 missing.push(format!("{name} answers"));
+            }
+            if name == "check_mic" && (row.yes == 0 || row.yes == row.answered) {
+                missing.push(format!("{name} says yes and says no"));
             }
             if row.alike == 0 && WITH_SECRETS.contains(&name) {
                 missing.push(format!("{name} with other secrets"));

@@ -1,6 +1,9 @@
+mod canonical;
 mod dns_names;
 mod explain;
+mod headers;
 mod max_len;
+mod mic;
 mod night;
 mod response_pairs;
 
