@@ -1,0 +1,150 @@
+"""Signs the box in to three acceptors that know nothing of this project, and prints in a table what each answered. Their files
+stand in a temporary folder; the messages that were seen, and smbd's logs, are kept in the folder of the programs, which
+SIGN_IN_PROGRAMS names. The status is 0 only where every trial went as expected."""
+import os
+import shutil
+import signal
+import sys
+import tempfile
+
+import box as client
+from box import Box, BoxRefused
+from gss import Gss
+from ntlm_auth import NtlmAuth
+from smbd import Smbd
+
+NO_128 = client.WANTED & ~client.BITS_128
+OEM = client.WANTED & ~client.UNICODE | client.OEM
+UNSENT = "a name can't be sent whole"
+
+
+class Trial:
+    """expected: "taken", "refused" by the acceptor, or what the box itself says. mic: what the bench's check of the MIC says
+    over the messages that the server saw; None where no MIC is due. shows: what the box's log lines must have, besides the
+    name. by_list: only a list of users can tell the fault. slug: its messages are kept under this name."""
+
+    def __init__(self, what, expected, mic, user=client.LONG, shows="", slug=None, timestamp=True, domain=None,
+                 by_list=False, **box):
+        self.what, self.expected, self.mic, self.user, self.timestamp = what, expected, mic, user, timestamp
+        self.shows, self.domain, self.by_list, self.box, self.slug = shows, domain, by_list, box, slug
+
+    def box_for(self, acceptor):
+        return Box(self.user, acceptor.domain if self.domain is None else self.domain, **self.box)
+
+    def logged(self, box):
+        """Were the three lines logged, with the name whole?"""
+        name = "".join(c if ord(c) < 0x80 else "\\u%04X" % ord(c) for c in self.user)
+        return len(box.lines) == 3 and " user=%s work=BOX7 " % name in box.lines[2] and self.shows in box.lines[2]
+
+
+TRIALS = (
+    Trial("short name", "taken", "yes", user=client.SHORT, slug="short"),
+    Trial("name of 60 characters, 120 bytes", "taken", "yes", slug="long"),
+    Trial("the same, outside ASCII", "taken", "yes", user=client.OUTSIDE_ASCII, slug="outside-ascii"),
+    Trial("no domain of its own: the server's is sent", "taken", "yes", domain="", slug="no-domain"),
+    Trial("OEM server", "taken", "yes", wanted=OEM, shows=" set=O ", slug="oem"),
+    Trial("server without a timestamp", "taken", None, timestamp=False, slug="no-timestamp"),
+    Trial("old settings: 128-bit not demanded, not asked for", "taken", "yes", wanted=NO_128, settings=client.NTLMV2,
+          slug="old-settings"),
+    Trial("no key exchange", "taken", "yes", wanted=client.WANTED & ~client.KEY_EXCH, shows=" key=0 ",
+          slug="no-key-exchange"),
+    Trial("128-bit not asked for, and demanded", "refused 20 field=0 at=0", None, wanted=NO_128),
+    Trial("name outside ASCII, OEM server", UNSENT, None, user=client.OUTSIDE_ASCII, wanted=OEM),
+    Trial("name of 129 characters: no room in the box", UNSENT, None, user="n" * 129),
+    Trial("name clipped to 32 bytes in the box", "refused", "yes", user=client.LONG[:16], by_list=True),
+    Trial("name clipped to 32 bytes in the message", "refused", "yes", spoil=client.clip_sent(32), slug="clipped"),
+    Trial("one bit of the MIC changed", "refused", "no", spoil=client.turn_mic_bit),
+    Trial("challenge altered by a relay: SEAL taken out", "refused", "no", relay=client.drop_seal, slug="relayed"),
+    Trial("wrong password", "refused", "yes", password=client.PASSWORD + "?"),
+)
+
+
+def try_one(trial, acceptor):
+    """-> (what happened, as a cell of the table; did it go as expected; the box)"""
+    box = trial.box_for(acceptor)
+    try:
+        taken, why = acceptor.sign_in(box, trial.timestamp)
+    except BoxRefused as refusal:
+        return "the box: %s" % refusal, str(refusal) == trial.expected, box
+    mic = client.bench(box, "check") if box.mic_is_there() else None
+    word = "taken" if taken else "refused"
+    good = word == trial.expected and mic == trial.mic and not (taken and why)
+    cell = word + (": " + why if why else "")
+    if mic != trial.mic:
+        cell += "; MIC on the bench: %s" % mic
+    if not trial.logged(box):
+        return cell + "; logged: %s" % box.lines, False, box
+    return cell, good, box
+
+
+def keep(messages, trial, acceptor, box):
+    if trial.slug:
+        for kind, message in (("negotiate", box.first), ("challenge", box.challenge), ("authenticate", box.sent)):
+            with open(os.path.join(messages, "%s-%s-%s.bin" % (kind, acceptor.name, trial.slug)), "wb") as file:
+                file.write(message)
+
+
+def run(acceptors, messages):
+    """-> the rows of the table, and how many trials went other than expected"""
+    rows, bad = [["Trial", "MIC on the bench"] + [acceptor.name for acceptor in acceptors]], 0
+    for trial in TRIALS:
+        row = [trial.what, trial.mic or ("none due" if trial.expected == "taken" else "nothing sent")]
+        for acceptor in acceptors:
+            if trial.by_list and not acceptor.knows_users:
+                row.append("not tried: it has no list of users")
+                continue
+            cell, good, box = try_one(trial, acceptor)
+            row.append(cell if good else cell + " (NOT AS EXPECTED)")
+            bad += not good
+            keep(messages, trial, acceptor, box)
+            if trial.slug == "long":
+                print("\n".join(["%s's sign-in with a name of 60 characters:" % acceptor.name]
+                                + ["    " + line for line in box.lines]))
+        rows.append(row)
+    return rows, bad
+
+
+def show(rows):
+    widths = [max(len(row[i]) for row in rows) for i in range(len(rows[0]))]
+    rows.insert(1, ["-" * width for width in widths])
+    for row in rows:
+        print("| " + " | ".join(cell.ljust(width) for cell, width in zip(row, widths)) + " |")
+
+
+LEGEND = """taken: ntlm_auth has the box's name and session key; gss-ntlmssp has them too, and bytes went sealed both ways; through smbd a
+file was written to the share and read back, and is the user's. MIC on the bench: dialtable_check_mic over what the server saw."""
+
+
+def on_signals(action):
+    for number in (signal.SIGINT, signal.SIGTERM, signal.SIGHUP):
+        signal.signal(number, action)
+
+
+def stop(number, frame):
+    on_signals(signal.SIG_IGN)  # what was started is ended in peace
+    sys.exit("ended by signal %d" % number)
+
+
+def main(programs):
+    on_signals(stop)
+    messages = os.path.join(programs, "messages")
+    shutil.rmtree(messages, ignore_errors=True)
+    os.makedirs(messages)
+    with tempfile.TemporaryDirectory(prefix="sign-in.") as folder:
+        os.chmod(folder, 0o755)  # the users of the share go through it
+        smbd = Smbd(os.path.join(folder, "smbd"))
+        acceptors = (NtlmAuth(folder), Gss(folder), smbd)
+        try:
+            rows, bad = run(acceptors, messages)
+        finally:
+            smbd.end(programs)
+    print()
+    show(rows)
+    print(LEGEND)
+    print("; ".join("%s: %s" % (acceptor.name, acceptor.version()) for acceptor in acceptors))
+    print("every trial went as expected" if bad == 0 else "%d went other than expected" % bad)
+    return bad != 0
+
+
+if __name__ == "__main__":
+    sys.exit(main(os.environ["SIGN_IN_PROGRAMS"]))
