@@ -1,6 +1,7 @@
 """Signs the box in to three acceptors that know nothing of this project, and prints in a table what each answered. Their files
 stand in a temporary folder; the messages that were seen, and smbd's logs, are kept in the folder of the programs, which
 SIGN_IN_PROGRAMS names. The status is 0 only where every trial went as expected."""
+import json
 import os
 import shutil
 import signal
@@ -77,16 +78,19 @@ def try_one(trial, acceptor):
     return cell, good, box
 
 
-def keep(messages, trial, acceptor, box):
+def keep(messages, trial, acceptor, box, keys):
+    """Keeps what the server saw, and notes its session key."""
     if trial.slug:
+        handshake = "%s-%s" % (acceptor.name, trial.slug)
+        keys[handshake] = box.key.hex()
         for kind, message in (("negotiate", box.first), ("challenge", box.challenge), ("authenticate", box.sent)):
-            with open(os.path.join(messages, "%s-%s-%s.bin" % (kind, acceptor.name, trial.slug)), "wb") as file:
+            with open(os.path.join(messages, "%s-%s.bin" % (kind, handshake)), "wb") as file:
                 file.write(message)
 
 
 def run(acceptors, messages):
     """-> the rows of the table, and how many trials went other than expected"""
-    rows, bad = [["Trial", "MIC on the bench"] + [acceptor.name for acceptor in acceptors]], 0
+    rows, bad, keys = [["Trial", "MIC on the bench"] + [acceptor.name for acceptor in acceptors]], 0, {}
     for trial in TRIALS:
         row = [trial.what, trial.mic or ("none due" if trial.expected == "taken" else "nothing sent")]
         for acceptor in acceptors:
@@ -96,11 +100,13 @@ def run(acceptors, messages):
             cell, good, box = try_one(trial, acceptor)
             row.append(cell if good else cell + " (NOT AS EXPECTED)")
             bad += not good
-            keep(messages, trial, acceptor, box)
+            keep(messages, trial, acceptor, box, keys)
             if trial.slug == "long":
                 print("\n".join(["%s's sign-in with a name of 60 characters:" % acceptor.name]
                                 + ["    " + line for line in box.lines]))
         rows.append(row)
+    with open(os.path.join(messages, "keys.json"), "w") as file:
+        json.dump(keys, file, indent=1)
     return rows, bad
 
 
