@@ -59,6 +59,11 @@ class Box:
         """A MIC that was due: the sixteen bytes are zeros where it was not."""
         return any(self.sent[MIC_AT:MIC_AT + 16])
 
+    def response_time(self):
+        """The Time of the NTLMv2 response that was sent (MS-NLMP 2.2.1.3, 2.2.2.8)."""
+        response = int.from_bytes(self.sent[24:28], "little")
+        return int.from_bytes(self.sent[response + 24:response + 32], "little")
+
     def end(self):
         if self.program:
             for pipe in (self.program.stdin, self.program.stdout, self.program.stderr):

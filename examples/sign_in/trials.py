@@ -32,10 +32,14 @@ class Trial:
     def box_for(self, acceptor):
         return Box(self.user, acceptor.domain if self.domain is None else self.domain, **self.box)
 
-    def logged(self, box):
-        """Were the three lines logged, with the name whole?"""
+    def fault_of(self, box):
+        """What is wrong with a box's lines and answer, whatever the acceptor says: three lines with the name whole, and the
+        server's time in the response where it sent one."""
         name = "".join(c if ord(c) < 0x80 else "\\u%04X" % ord(c) for c in self.user)
-        return len(box.lines) == 3 and " user=%s work=BOX7 " % name in box.lines[2] and self.shows in box.lines[2]
+        if len(box.lines) != 3 or " user=%s work=BOX7 " % name not in box.lines[2] or self.shows not in box.lines[2]:
+            return "logged: %s" % box.lines
+        times = [word[5:] for word in box.lines[1].split() if word.startswith("time=")]
+        return "another time than the server's" if times and "%016X" % box.response_time() not in times else ""
 
 
 TRIALS = (
@@ -73,9 +77,8 @@ def try_one(trial, acceptor):
     cell = word + (": " + why if why else "")
     if mic != trial.mic:
         cell += "; MIC on the bench: %s" % mic
-    if not trial.logged(box):
-        return cell + "; logged: %s" % box.lines, False, box
-    return cell, good, box
+    fault = trial.fault_of(box)
+    return cell + ("; " + fault if fault else ""), good and not fault, box
 
 
 def keep(messages, trial, acceptor, box, keys):
