@@ -51,14 +51,14 @@ static int tell(uint64_t answer, const struct radio *radio)
     if (DIALTABLE_IS_REFUSED(answer)) {
         printf("refused %u field=%u at=%llu\n", DIALTABLE_NUMBER(answer), DIALTABLE_FIELD(answer),
                (unsigned long long)DIALTABLE_PLACE(answer));
-    } else if (answer == SIGN_IN_NAME) {
+    } else if (answer == NAME_UNSENT) {
         puts("a name can't be sent whole");
-    } else if (answer == SIGN_IN_RESPONSE) {
+    } else if (answer == NO_RESPONSE) {
         puts("the radio module has no response");
     } else {
         hex_write("key", radio->session_key, sizeof radio->session_key);
     }
-    return answer == SIGN_IN_SENT ? 0 : 1;
+    return answer != 0;
 }
 
 int main(int argc, char **argv)

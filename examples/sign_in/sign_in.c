@@ -14,7 +14,7 @@ static const uint8_t version[8] = {6, 1, 0xB1, 0x1D, 0, 0, 0, 15}, zeros[16] = {
 /* A message's line is logged whole or, where it has no room, by its refusal. */
 static void log_line(const uint8_t *msg, dialtable_len msg_len)
 {
-    uint8_t line[128 + 3 * 4 * NAME_ROOM];
+    uint8_t line[256 + 3 * 4 * NAME_ROOM];
     uint64_t line_len = dialtable_ntlm_program_line(msg, msg_len, line, sizeof line);
 
     if (!DIALTABLE_IS_REFUSED(line_len)) log_it(line, line_len);
@@ -73,18 +73,17 @@ static uint64_t work_out(struct radio *radio, const uint8_t *challenge, dialtabl
     task.time = time;
     task.key_exchange =
         (flags & DIALTABLE_FLAG_KEY_EXCH) != 0 && (flags & (DIALTABLE_FLAG_SIGN | DIALTABLE_FLAG_SEAL)) != 0;
-    return radio_respond(radio, &task) ? 0 : SIGN_IN_RESPONSE;
+    return radio_respond(radio, &task) ? 0 : NO_RESPONSE;
 }
 
 uint64_t sign_in(const struct settings *box, struct radio *radio)
 {
     uint8_t first[64], challenge[CHALLENGE_ROOM], pairs[PAIRS_ROOM], out[ANSWER_ROOM], mic[16];
-    uint64_t decision[DIALTABLE_DECISION_NUMBERS], done[DIALTABLE_RESPONSE_NUMBERS];
+    uint64_t answer, worked_out, time, decision[DIALTABLE_DECISION_NUMBERS], done[DIALTABLE_RESPONSE_NUMBERS];
     dialtable_len first_len, challenge_len, pairs_len;
-    uint64_t answer, time, mic_answer;
     struct names own;
 
-    /* The recipe of dialtable.h. */
+    /* The recipe of dialtable.h, line by line. */
     first_len = dialtable_write_negotiate(first, sizeof first, box->wanted, version, NULL, 0, NULL, 0);
     if (DIALTABLE_IS_REFUSED(first_len)) return first_len;
     log_line(first, first_len);
@@ -92,25 +91,24 @@ uint64_t sign_in(const struct settings *box, struct radio *radio)
     log_line(challenge, challenge_len);
     answer = dialtable_decide(box->settings, challenge, challenge_len, decision, DIALTABLE_DECISION_NUMBERS);
     if (DIALTABLE_IS_REFUSED(answer)) return answer;
-    if (!encode(box, (decision[DIALTABLE_DECISION_FLAGS] & DIALTABLE_FLAG_UNICODE) != 0, &own)) return SIGN_IN_NAME;
+    if (!encode(box, (decision[DIALTABLE_DECISION_FLAGS] & DIALTABLE_FLAG_UNICODE) != 0, &own)) return NAME_UNSENT;
     time = decision[DIALTABLE_DECISION_TIMESTAMP_THERE] ? decision[DIALTABLE_DECISION_TIMESTAMP] : box->clock;
     pairs_len = dialtable_write_response_pairs(pairs, sizeof pairs, challenge, challenge_len, own.target,
                                                own.target_len, 0, zeros);
     if (DIALTABLE_IS_REFUSED(pairs_len)) return pairs_len;
-    answer = work_out(radio, challenge, challenge_len, time, pairs, pairs_len, &own);
-    if (answer != 0) return answer;
+    worked_out = work_out(radio, challenge, challenge_len, time, pairs, pairs_len, &own);
+    if (worked_out != 0) return worked_out;
     answer = dialtable_respond(out, sizeof out, challenge, challenge_len, box->settings, box->clock, version, zeros,
                                radio->lm, 24, radio->nt, radio->nt_len, own.domain, own.domain_len, own.user,
                                own.user_len, own.workstation, own.workstation_len, radio->key, 16, done,
                                DIALTABLE_RESPONSE_NUMBERS);
     if (DIALTABLE_IS_REFUSED(answer)) return answer;
     if (done[DIALTABLE_RESPONSE_MIC_DUE]) {
-        mic_answer = dialtable_mic(radio->session_key, 16, first, first_len, challenge, challenge_len, out, answer,
-                                   mic, sizeof mic);
-        if (DIALTABLE_IS_REFUSED(mic_answer)) return mic_answer;
+        worked_out = dialtable_mic(radio->session_key, 16, first, first_len, challenge, challenge_len, out, answer, mic,
+                                   sizeof mic);
+        if (DIALTABLE_IS_REFUSED(worked_out)) return worked_out;
         memcpy(out + DIALTABLE_MIC_AT, mic, sizeof mic);
     }
     log_line(out, answer);
-    exchange(out, answer, NULL, 0);
-    return SIGN_IN_SENT;
+    return exchange(out, answer, NULL, 0);
 }

@@ -18,15 +18,14 @@ struct settings {
     uint64_t clock;
 };
 
-/* What can go wrong besides the library's refusals, which are above all of these. */
+/* Answers 0 where the AUTHENTICATE was sent, or the library's refusal, or one of these; then it was not sent. */
 enum {
-    SIGN_IN_SENT,    /* nothing: the answer is sent */
-    SIGN_IN_NAME,    /* a name of the settings can't be sent whole, so nothing is */
-    SIGN_IN_RESPONSE /* the radio module has no response */
+    NAME_UNSENT = 1, /* a name of the settings can't be sent whole */
+    NO_RESPONSE      /* the radio module has none */
 };
 uint64_t sign_in(const struct settings *box, struct radio *radio);
 
-/* The box's own. Sends a message, and where there is room for it receives the server's; answers its length. */
+/* The box's own. Sends a message, and where there is room for it receives the server's; answers its length, else 0. */
 dialtable_len exchange(const uint8_t *msg, dialtable_len msg_len, uint8_t *in, dialtable_len in_len);
 void log_it(const uint8_t *line, dialtable_len line_len);
 
