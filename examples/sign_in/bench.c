@@ -1,9 +1,9 @@
 /*
- * The bench's side of a sign-in. Standard input has four lines of hex: the session key, and the NEGOTIATE, CHALLENGE and
- * AUTHENTICATE that were seen.
+ * The bench's side of a sign-in. Standard input has four lines of hex: the session key, and the NEGOTIATE, CHALLENGE
+ * and AUTHENTICATE that were seen.
  *     bench check         does the MIC of the AUTHENTICATE fit the key and the three messages: yes, no, or refused
- *     bench clip BYTES    the AUTHENTICATE with its user name clipped to so many bytes and a MIC that fits again: the fault
- *                         that this library was made against, for trials
+ *     bench clip BYTES    the AUTHENTICATE with its user name clipped to so many bytes and a MIC that fits again, for
+ *                         trials: the fault that this library was made against
  */
 #include <stdio.h>
 #include <stdlib.h>
@@ -82,6 +82,6 @@ int main(int argc, char **argv)
 
     if (argc == 2 && strcmp(argv[1], "check") == 0 && read_seen(&seen)) return check(&seen);
     if (argc == 3 && strcmp(argv[1], "clip") == 0 && read_seen(&seen)) return clip(&seen, strtoul(argv[2], NULL, 0));
-    fputs("usage: bench check, or bench clip BYTES; with key, NEGOTIATE, CHALLENGE and AUTHENTICATE as lines of hex\n", stderr);
+    fputs("usage: bench check or bench clip BYTES, with key, NEGOTIATE, CHALLENGE and AUTHENTICATE in hex\n", stderr);
     return 2;
 }

@@ -5,7 +5,7 @@
  *     in   HEX                the server's CHALLENGE
  *     out  authenticate HEX
  *     out  key HEX            the session key, for whoever speaks with the server after this
- * or 'refused NUMBER field=FIELD at=PLACE', or another reason in a line, and status 1. The log lines go to standard error.
+ * or 'refused NUMBER field=FIELD at=PLACE', or another reason in a line, and status 1. The log goes to standard error.
  */
 #include <locale.h>
 #include <stdio.h>
@@ -29,9 +29,17 @@ dialtable_len exchange(const uint8_t *msg, dialtable_len msg_len, uint8_t *in, d
     exit(1);
 }
 
-void log_it(const uint8_t *line, dialtable_len line_len)
+static int tell_refused(FILE *to, uint64_t answer)
 {
-    fwrite(line, 1, (size_t)line_len, stderr);
+    if (!DIALTABLE_IS_REFUSED(answer)) return 0;
+    fprintf(to, "refused %u field=%u at=%llu\n", DIALTABLE_NUMBER(answer), DIALTABLE_FIELD(answer),
+            (unsigned long long)DIALTABLE_PLACE(answer));
+    return 1;
+}
+
+void log_it(const uint8_t *line, uint64_t line_len)
+{
+    if (!tell_refused(stderr, line_len)) fwrite(line, 1, (size_t)line_len, stderr);
 }
 
 static int read_password(struct radio *radio)
@@ -48,10 +56,8 @@ static int read_password(struct radio *radio)
 
 static int tell(uint64_t answer, const struct radio *radio)
 {
-    if (DIALTABLE_IS_REFUSED(answer)) {
-        printf("refused %u field=%u at=%llu\n", DIALTABLE_NUMBER(answer), DIALTABLE_FIELD(answer),
-               (unsigned long long)DIALTABLE_PLACE(answer));
-    } else if (answer == NAME_UNSENT) {
+    if (tell_refused(stdout, answer)) return 1;
+    if (answer == NAME_UNSENT) {
         puts("a name can't be sent whole");
     } else if (answer == NO_RESPONSE) {
         puts("the radio module has no response");
@@ -67,7 +73,7 @@ int main(int argc, char **argv)
     struct settings box;
 
     if (argc != 7) {
-        fputs("usage: sign_in USER DOMAIN WORKSTATION TARGET WANTED SETTINGS, with the password as first line\n", stderr);
+        fputs("usage: sign_in USER DOMAIN WORKSTATION TARGET WANTED SETTINGS, the password as a line\n", stderr);
         return 2;
     }
     if (setlocale(LC_CTYPE, "C.UTF-8") == NULL || !radio_draw(&radio) || !read_password(&radio)) {

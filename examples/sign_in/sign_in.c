@@ -11,15 +11,6 @@ struct names {
 
 static const uint8_t version[8] = {6, 1, 0xB1, 0x1D, 0, 0, 0, 15}, zeros[16] = {0};
 
-/* A message's line is logged whole or, where it has no room, by its refusal. */
-static void log_line(const uint8_t *msg, dialtable_len msg_len)
-{
-    uint8_t line[256 + 3 * 4 * NAME_ROOM];
-    uint64_t line_len = dialtable_ntlm_program_line(msg, msg_len, line, sizeof line);
-
-    if (!DIALTABLE_IS_REFUSED(line_len)) log_it(line, line_len);
-}
-
 static int encode_one(const char *text, int unicode, uint8_t *out, dialtable_len *len)
 {
     long n = name_encode(text, unicode, out, NAME_ROOM);
@@ -78,7 +69,7 @@ static uint64_t work_out(struct radio *radio, const uint8_t *challenge, dialtabl
 
 uint64_t sign_in(const struct settings *box, struct radio *radio)
 {
-    uint8_t first[64], challenge[CHALLENGE_ROOM], pairs[PAIRS_ROOM], out[ANSWER_ROOM], mic[16];
+    uint8_t first[64], challenge[CHALLENGE_ROOM], pairs[PAIRS_ROOM], out[ANSWER_ROOM], mic[16], line[LINE_ROOM];
     uint64_t answer, worked_out, time, decision[DIALTABLE_DECISION_NUMBERS], done[DIALTABLE_RESPONSE_NUMBERS];
     dialtable_len first_len, challenge_len, pairs_len;
     struct names own;
@@ -86,9 +77,9 @@ uint64_t sign_in(const struct settings *box, struct radio *radio)
     /* The recipe of dialtable.h, line by line. */
     first_len = dialtable_write_negotiate(first, sizeof first, box->wanted, version, NULL, 0, NULL, 0);
     if (DIALTABLE_IS_REFUSED(first_len)) return first_len;
-    log_line(first, first_len);
+    log_it(line, dialtable_negotiate_line(first, first_len, line, sizeof line));
     challenge_len = exchange(first, first_len, challenge, sizeof challenge);
-    log_line(challenge, challenge_len);
+    log_it(line, dialtable_challenge_line(challenge, challenge_len, line, sizeof line));
     answer = dialtable_decide(box->settings, challenge, challenge_len, decision, DIALTABLE_DECISION_NUMBERS);
     if (DIALTABLE_IS_REFUSED(answer)) return answer;
     if (!encode(box, (decision[DIALTABLE_DECISION_FLAGS] & DIALTABLE_FLAG_UNICODE) != 0, &own)) return NAME_UNSENT;
@@ -109,6 +100,6 @@ uint64_t sign_in(const struct settings *box, struct radio *radio)
         if (DIALTABLE_IS_REFUSED(worked_out)) return worked_out;
         memcpy(out + DIALTABLE_MIC_AT, mic, sizeof mic);
     }
-    log_line(out, answer);
+    log_it(line, dialtable_authenticate_line(out, answer, line, sizeof line));
     return exchange(out, answer, NULL, 0);
 }

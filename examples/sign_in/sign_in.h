@@ -9,6 +9,7 @@
 #define CHALLENGE_ROOM 1024
 #define PAIRS_ROOM (32 + CHALLENGE_ROOM + NAME_ROOM)
 #define ANSWER_ROOM (88 + 24 + RADIO_NT_ROOM + 3 * NAME_ROOM + 16)
+#define LINE_ROOM (256 + 3 * 4 * NAME_ROOM)
 
 /* Text is UTF-8. */
 struct settings {
@@ -27,6 +28,7 @@ uint64_t sign_in(const struct settings *box, struct radio *radio);
 
 /* The box's own. Sends a message, and where there is room for it receives the server's; answers its length, else 0. */
 dialtable_len exchange(const uint8_t *msg, dialtable_len msg_len, uint8_t *in, dialtable_len in_len);
-void log_it(const uint8_t *line, dialtable_len line_len);
+/* Logs a line whole; where line_len is a refusal, since it had no room, logs that. */
+void log_it(const uint8_t *line, uint64_t line_len);
 
 #endif
