@@ -95,8 +95,8 @@ uint64_t sign_in(const struct settings *box, struct radio *radio)
                                DIALTABLE_RESPONSE_NUMBERS);
     if (DIALTABLE_IS_REFUSED(answer)) return answer;
     if (done[DIALTABLE_RESPONSE_MIC_DUE]) {
-        worked_out = dialtable_mic(radio->session_key, 16, first, first_len, challenge, challenge_len, out, answer, mic,
-                                   sizeof mic);
+        worked_out = dialtable_mic(radio->session_key, 16, first, first_len, challenge, challenge_len, out, answer,
+                                   mic, sizeof mic);
         if (DIALTABLE_IS_REFUSED(worked_out)) return worked_out;
         memcpy(out + DIALTABLE_MIC_AT, mic, sizeof mic);
     }
