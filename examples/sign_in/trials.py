@@ -35,7 +35,8 @@ class Trial:
     def fault_of(self, box):
         """What is wrong with a box's lines and answer, whatever the acceptor says: three lines with the name whole, and the
         server's time in the response where it sent one."""
-        name = "".join(c if ord(c) < 0x80 else "\\u%04X" % ord(c) for c in self.user)
+        units = memoryview(self.user.encode("utf-16-le")).cast("H")
+        name = "".join(chr(unit) if unit < 0x80 else "\\u%04X" % unit for unit in units)
         if len(box.lines) != 3 or " user=%s work=BOX7 " % name not in box.lines[2] or self.shows not in box.lines[2]:
             return "logged: %s" % box.lines
         times = [word[5:] for word in box.lines[1].split() if word.startswith("time=")]
@@ -71,6 +72,8 @@ def try_one(trial, acceptor):
         taken, why = acceptor.sign_in(box, trial.timestamp)
     except BoxRefused as refusal:
         return "the box: %s" % refusal, str(refusal) == trial.expected, box
+    except Exception as error:
+        return "broke off: %r" % error, False, box
     mic = client.bench(box, "check") if box.mic_is_there() else None
     word = "taken" if taken else "refused"
     good = word == trial.expected and mic == trial.mic and not (taken and why)
@@ -83,7 +86,7 @@ def try_one(trial, acceptor):
 
 def keep(messages, trial, acceptor, box, keys):
     """Keeps what the server saw, and notes its session key."""
-    if trial.slug:
+    if trial.slug and box.sent:
         handshake = "%s-%s" % (acceptor.name, trial.slug)
         keys[handshake] = box.key.hex()
         for kind, message in (("negotiate", box.first), ("challenge", box.challenge), ("authenticate", box.sent)):
@@ -120,12 +123,14 @@ def show(rows):
         print("| " + " | ".join(cell.ljust(width) for cell, width in zip(row, widths)) + " |")
 
 
-LEGEND = """taken: ntlm_auth has the box's name and session key; gss-ntlmssp has them too, and bytes went sealed both ways; through smbd a
-file was written to the share and read back, and is the user's. MIC on the bench: dialtable_check_mic over what the server saw."""
+LEGEND = """taken: ntlm_auth has the box's name and session key; gss-ntlmssp has them too, and bytes went sealed both ways;
+through smbd a file was written to the share and read back, and is the user's.
+MIC on the bench: what dialtable_check_mic says to the messages as the server saw them."""
+LIMIT = 300  # seconds; a run takes two
 
 
 def on_signals(action):
-    for number in (signal.SIGINT, signal.SIGTERM, signal.SIGHUP):
+    for number in (signal.SIGINT, signal.SIGTERM, signal.SIGHUP, signal.SIGALRM):
         signal.signal(number, action)
 
 
@@ -136,6 +141,7 @@ def stop(number, frame):
 
 def main(programs):
     on_signals(stop)
+    signal.alarm(LIMIT)
     messages = os.path.join(programs, "messages")
     shutil.rmtree(messages, ignore_errors=True)
     os.makedirs(messages)
