@@ -1,5 +1,5 @@
 # make help lists the targets.
-.PHONY: help run explain lib lib-small lib-thumb install test test-firmware compare wide bench sign-in
+.PHONY: help run explain lib lib-small lib-thumb install test test-firmware compare wide bench
 
 MESSAGES ?= messages
 PREFIX ?= /usr/local
@@ -63,5 +63,6 @@ test:
 test-firmware:
 	@tools/test-firmware
 
+.PHONY: sign-in
 sign-in:
 	@tools/sign-in
