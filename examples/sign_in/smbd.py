@@ -185,12 +185,13 @@ class Smbd:
         try:
             smb = connection._SMBConnection  # impacket 0.10.0 leaves this out of its NTLM sign-in, and 3.1.1 wants it
             smb._Session["PreauthIntegrityHashValue"] = smb._Connection["PreauthIntegrityHashValue"]
-            connection.login(box.user, "not known to impacket", box.domain)
+            try:
+                connection.login(box.user, "not known to impacket", box.domain)
+            except SessionError as error:
+                return False, error.getErrorString()[0]
             if connection.isGuestSession():
                 return True, "signed in as guest"
             return True, self._file(connection, server, USERS.get(box.user))
-        except SessionError as error:
-            return False, error.getErrorString()[0]
         finally:
             box.end()
             connection.close()

@@ -157,7 +157,7 @@ def main(programs):
     show(rows)
     print(LEGEND)
     print("; ".join("%s: %s" % (acceptor.name, acceptor.version()) for acceptor in acceptors))
-    print("every trial went as expected" if bad == 0 else "%d went other than expected" % bad)
+    print("%d went other than expected; smbd's logs are in %s" % (bad, programs) if bad else "every trial went as expected")
     return bad != 0
 
 
