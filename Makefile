@@ -26,6 +26,8 @@ help:
 	@echo '                    seed; SEED=number for other messages, N=number for how many are drawn after those at the boundaries'
 	@echo 'make wide           the part of it that holds every call of the library against the second reader; SEED= and N= too'
 	@echo 'make bench          how fast the library is beside the second reader, its instructions, its size and its stack'
+	@echo 'make sign-in        a box signs in to Samba and gss-ntlmssp, sound and with faults, and a file goes to a share and back;'
+	@echo '                    needs Debian packages, which it names, and root'
 
 run:
 	@tools/run "$$MESSAGES"
@@ -70,3 +72,7 @@ test:
 
 test-firmware:
 	@tools/test-firmware
+
+.PHONY: sign-in
+sign-in:
+	@tools/sign-in

@@ -1,0 +1,111 @@
+"""The box: the program sign_in at the other end of a pipe, and what may happen to its messages on the way."""
+import os
+import subprocess
+
+UNICODE, OEM, REQUEST_TARGET, SIGN, SEAL, NTLM = 0x1, 0x2, 0x4, 0x10, 0x20, 0x200
+ALWAYS_SIGN, EXTENDED, TARGET_INFO, VERSION = 0x8000, 0x80000, 0x800000, 0x2000000
+BITS_128, KEY_EXCH, BITS_56 = 0x20000000, 0x40000000, 0x80000000
+WANTED = (UNICODE | REQUEST_TARGET | SIGN | SEAL | NTLM | ALWAYS_SIGN | EXTENDED | TARGET_INFO | VERSION | BITS_128
+          | KEY_EXCH | BITS_56)
+DEMAND_128, NTLMV2 = 1, 2
+DEFAULTS = DEMAND_128 | NTLMV2
+MIC_AT = 72
+
+SHORT = "box7"
+LONG = "bench-operator-of-the-northern-depot-number-seven-hall-b-2nd"
+OUTSIDE_ASCII = "Jürgen-Żółć-" * 5
+PASSWORD = "Tr0ub4dor & 3"
+assert len(LONG) == len(OUTSIDE_ASCII) == 60
+
+PROGRAMS = os.environ["SIGN_IN_PROGRAMS"]
+
+
+class BoxRefused(Exception):
+    """The box itself would not go on; the text says why."""
+
+
+class Box:
+    """relay: what becomes of the server's challenge before the box has it. spoil: what becomes of the box's answer."""
+
+    def __init__(self, user, domain, password=PASSWORD, wanted=WANTED, settings=DEFAULTS, relay=None, spoil=None):
+        self.user, self.domain, self.password = user, domain, password
+        self.wanted, self.settings = wanted, settings
+        self.relay = relay or (lambda challenge: challenge)
+        self.spoil = spoil or (lambda box, answer: answer)
+        self.program, self.key, self.lines = None, None, []
+        self.first = self.challenge = self.sent = b""
+
+    def negotiate(self):
+        self.end()
+        command = [PROGRAMS + "/sign_in", self.user, self.domain, "BOX7", "cifs/localhost", hex(self.wanted),
+                   str(self.settings)]
+        self.program = subprocess.Popen(command, stdin=subprocess.PIPE, stdout=subprocess.PIPE, stderr=subprocess.PIPE)
+        self._say(self.password)
+        self.first = self._hear("negotiate")
+        return self.first
+
+    def answer(self, challenge):
+        """The AUTHENTICATE that goes to the server. self.challenge is what the server sent."""
+        self.challenge = challenge
+        self._say(self.relay(challenge).hex())
+        answer = self._hear("authenticate")
+        self.key = self._hear("key")
+        self.lines = self.program.stderr.read().decode().splitlines()
+        self.end()
+        self.sent = self.spoil(self, answer)
+        return self.sent
+
+    def mic_is_there(self):
+        """A MIC that was due: the sixteen bytes are zeros where it was not."""
+        return any(self.sent[MIC_AT:MIC_AT + 16])
+
+    def response_time(self):
+        """The Time of the NTLMv2 response that was sent (MS-NLMP 2.2.1.3, 2.2.2.8)."""
+        response = int.from_bytes(self.sent[24:28], "little")
+        return int.from_bytes(self.sent[response + 24:response + 32], "little")
+
+    def end(self):
+        if self.program:
+            for pipe in (self.program.stdin, self.program.stdout, self.program.stderr):
+                pipe.close()
+            self.program.wait()
+            self.program = None
+
+    def _say(self, line):
+        self.program.stdin.write(line.encode() + b"\n")
+        self.program.stdin.flush()
+
+    def _hear(self, word):
+        line = self.program.stdout.readline().decode().strip()
+        if not line.startswith(word + " "):
+            self.lines = self.program.stderr.read().decode().splitlines()
+            self.end()
+            raise BoxRefused(line)
+        return bytes.fromhex(line[len(word) + 1:])
+
+
+def bench(box, *command):
+    """The bench's program over what the server saw."""
+    seen = "".join(part.hex() + "\n" for part in (box.key, box.first, box.challenge, box.sent))
+    done = subprocess.run([PROGRAMS + "/bench", *command], input=seen, capture_output=True, text=True)
+    return done.stdout.strip() or done.stderr.strip()
+
+
+def clip_sent(length):
+    """The user name clipped in the message alone, with a MIC that fits it: the response is over the whole name."""
+    def spoil(box, answer):
+        box.sent = answer
+        return bytes.fromhex(bench(box, "clip", str(length)).split()[1])
+    return spoil
+
+
+def turn_mic_bit(box, answer):
+    answer = bytearray(answer)
+    answer[MIC_AT + 5] ^= 1
+    return bytes(answer)
+
+
+def drop_seal(challenge):
+    """A relay that wants to read along takes SEAL out of the server's flags."""
+    flags = int.from_bytes(challenge[20:24], "little") & ~SEAL
+    return challenge[:20] + flags.to_bytes(4, "little") + challenge[24:]
