@@ -4,37 +4,41 @@
  *     gcc -Iinclude program.c target/staticlib/libdialtable.a -o program
  *
  * A sign-in, in the order that it wants: the Time, the flags and the pair list come before the response is worked out,
- * and the MIC after the message is written. What is no dialtable_ call here is the box's own; own is the names of its
- * settings, with that of the server it wants (the target name).
+ * and the MIC after the message is written. What is no dialtable_ call here is the box's own; box is its settings, own
+ * the names of these as they go on the wire, with that of the server it wants (the target name). This is
+ * examples/sign_in/sign_in.c, which 'make sign-in' tries on servers.
  *
- *     first_len = dialtable_write_negotiate(first, sizeof first, wanted, version, NULL, 0, NULL, 0);
+ *     first_len = dialtable_write_negotiate(first, sizeof first, box->wanted, version, NULL, 0, NULL, 0);
  *     if (DIALTABLE_IS_REFUSED(first_len)) return first_len;
+ *     log_it(line, dialtable_negotiate_line(first, first_len, line, sizeof line));
  *     challenge_len = exchange(first, first_len, challenge, sizeof challenge);
- *     answer = dialtable_decide(DIALTABLE_DEFAULTS, challenge, challenge_len, decision, DIALTABLE_DECISION_NUMBERS);
+ *     log_it(line, dialtable_challenge_line(challenge, challenge_len, line, sizeof line));
+ *     answer = dialtable_decide(box->settings, challenge, challenge_len, decision, DIALTABLE_DECISION_NUMBERS);
  *     if (DIALTABLE_IS_REFUSED(answer)) return answer;
- *     encode(&own, (decision[DIALTABLE_DECISION_FLAGS] & DIALTABLE_FLAG_UNICODE) != 0);
- *     time = decision[DIALTABLE_DECISION_TIMESTAMP_THERE] ? decision[DIALTABLE_DECISION_TIMESTAMP] : clock;
+ *     if (!encode(box, (decision[DIALTABLE_DECISION_FLAGS] & DIALTABLE_FLAG_UNICODE) != 0, &own)) return NAME_UNSENT;
+ *     time = decision[DIALTABLE_DECISION_TIMESTAMP_THERE] ? decision[DIALTABLE_DECISION_TIMESTAMP] : box->clock;
  *     pairs_len = dialtable_write_response_pairs(pairs, sizeof pairs, challenge, challenge_len, own.target,
  *                                                own.target_len, 0, zeros);
  *     if (DIALTABLE_IS_REFUSED(pairs_len)) return pairs_len;
- *     work_out(&radio, challenge, challenge_len, time, pairs, pairs_len, &own);
- *     answer = dialtable_respond(out, sizeof out, challenge, challenge_len, DIALTABLE_DEFAULTS, clock, version, zeros,
- *                                radio.lm, 24, radio.nt, radio.nt_len, own.domain, own.domain_len, own.user,
- *                                own.user_len, own.workstation, own.workstation_len, radio.key, 16, done,
+ *     worked_out = work_out(radio, challenge, challenge_len, time, pairs, pairs_len, &own);
+ *     if (worked_out != 0) return worked_out;
+ *     answer = dialtable_respond(out, sizeof out, challenge, challenge_len, box->settings, box->clock, version, zeros,
+ *                                radio->lm, 24, radio->nt, radio->nt_len, own.domain, own.domain_len, own.user,
+ *                                own.user_len, own.workstation, own.workstation_len, radio->key, 16, done,
  *                                DIALTABLE_RESPONSE_NUMBERS);
  *     if (DIALTABLE_IS_REFUSED(answer)) return answer;
  *     if (done[DIALTABLE_RESPONSE_MIC_DUE]) {
- *         worked_out = dialtable_mic(radio.session_key, 16, first, first_len, challenge, challenge_len, out, answer, mic,
- *                                    sizeof mic);
+ *         worked_out = dialtable_mic(radio->session_key, 16, first, first_len, challenge, challenge_len, out, answer,
+ *                                    mic, sizeof mic);
  *         if (DIALTABLE_IS_REFUSED(worked_out)) return worked_out;
  *         memcpy(out + DIALTABLE_MIC_AT, mic, sizeof mic);
  *     }
- *     line_len = dialtable_authenticate_line(out, answer, line, sizeof line);
- *     if (!DIALTABLE_IS_REFUSED(line_len)) log_it(line, line_len);
+ *     log_it(line, dialtable_authenticate_line(out, answer, line, sizeof line));
  *     return exchange(out, answer, NULL, 0);
  *
- * The key that is sent (radio.key) is the exported session key (radio.session_key) as the radio module has encrypted it;
- * the MIC is worked out with the exported one itself.
+ * encode writes every name whole or answers 0. box->settings are DIALTABLE_DEFAULTS, or less for an old server. The key
+ * that is sent (radio->key) is the exported session key (radio->session_key) as the radio module has encrypted it; the
+ * MIC is worked out with the exported one itself.
  *
  * Names go out as they are given: the challenge's UNICODE decides, before the call, whether user, workstation and own
  * domain must be UTF-16LE or bytes; a target name is always UTF-16LE. Where the own domain is empty the server's may be

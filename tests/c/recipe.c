@@ -25,7 +25,11 @@ static void check(int holds, int line, const char *what)
     }
 }
 
-/* The box's names, and what its radio module works out. */
+/* The box's settings, its names, and what its radio module works out. */
+struct settings {
+    uint32_t wanted, settings;
+    uint64_t clock;
+};
 struct names {
     const uint8_t *domain, *user, *workstation, *target;
     dialtable_len domain_len, user_len, workstation_len, target_len;
@@ -37,16 +41,18 @@ struct module {
 };
 
 static const uint8_t version[8] = {10, 0, 0x61, 0x4A, 0, 0, 0, 15}, zeros[16] = {0};
-static const uint32_t wanted = DIALTABLE_FLAG_UNICODE | DIALTABLE_FLAG_OEM | DIALTABLE_FLAG_REQUEST_TARGET |
-                               DIALTABLE_FLAG_SIGN | DIALTABLE_FLAG_VERSION | DIALTABLE_FLAG_128 |
-                               DIALTABLE_FLAG_KEY_EXCH;
-static const uint64_t clock_now = CLOCK;
+static const struct settings settings = {DIALTABLE_FLAG_UNICODE | DIALTABLE_FLAG_OEM | DIALTABLE_FLAG_REQUEST_TARGET |
+                                             DIALTABLE_FLAG_SIGN | DIALTABLE_FLAG_VERSION | DIALTABLE_FLAG_128 |
+                                             DIALTABLE_FLAG_KEY_EXCH,
+                                         DIALTABLE_DEFAULTS, CLOCK};
+enum { NAME_UNSENT = 1 };
 
 static const char *server;        /* the file that the server sends */
 static uint8_t first_sent[64], sent[1024];
 static dialtable_len first_sent_len, sent_len;
-static struct module radio;
-static char logged[512];
+static struct module worked;
+static int lines;
+static char logged[512]; /* the last line */
 
 /* Sends a message, and where there is room for it receives the server's. */
 static dialtable_len exchange(const uint8_t *msg, dialtable_len msg_len, uint8_t *in, dialtable_len in_len)
@@ -71,7 +77,7 @@ static dialtable_len exchange(const uint8_t *msg, dialtable_len msg_len, uint8_t
     return got;
 }
 
-static void encode(struct names *own, int unicode)
+static int encode(const struct settings *box, int unicode, struct names *own)
 {
     static const uint8_t wide[] = {'b', 0, 'o', 0, 'x', 0, '7', 0}, narrow[] = {'b', 'o', 'x', '7'};
     static const uint8_t target[] = {'c', 0, 'i', 0, 'f', 0, 's', 0, '/', 0, 's', 0};
@@ -82,11 +88,12 @@ static void encode(struct names *own, int unicode)
     own->user_len = unicode ? sizeof wide : sizeof narrow;
     own->target = target;
     own->target_len = sizeof target;
+    return box == &settings;
 }
 
 /* In the place of the real work: bytes that can be seen again. */
-static void work_out(struct module *module, const uint8_t *challenge, dialtable_len challenge_len, uint64_t time,
-                     const uint8_t *pairs, dialtable_len pairs_len, const struct names *own)
+static uint64_t work_out(struct module *module, const uint8_t *challenge, dialtable_len challenge_len, uint64_t time,
+                         const uint8_t *pairs, dialtable_len pairs_len, const struct names *own)
 {
     uint64_t found[DIALTABLE_FOUND_NUMBERS];
 
@@ -102,24 +109,28 @@ static void work_out(struct module *module, const uint8_t *challenge, dialtable_
     memset(module->session_key, 0x55, sizeof module->session_key);
     module->nt_len = sizeof module->nt;
     module->time = time;
+    return 0;
 }
 
-static void log_it(const uint8_t *line, dialtable_len len)
+static void log_it(const uint8_t *line, uint64_t len)
 {
+    CHECK(!DIALTABLE_IS_REFUSED(len) && len < sizeof logged);
     memcpy(logged, line, (size_t)len);
     logged[len] = 0;
+    lines++;
 }
 
 static uint64_t sign_in(void)
 {
     uint8_t first[64], challenge[1024], pairs[1100], out[1024], mic[16], line[500];
-    dialtable_len first_len, challenge_len, pairs_len, line_len;
-    uint64_t answer, worked_out, time, clock = clock_now;
-    uint64_t decision[DIALTABLE_DECISION_NUMBERS], done[DIALTABLE_RESPONSE_NUMBERS];
+    dialtable_len first_len, challenge_len, pairs_len;
+    uint64_t answer, worked_out, time, decision[DIALTABLE_DECISION_NUMBERS], done[DIALTABLE_RESPONSE_NUMBERS];
+    const struct settings *box = &settings;
+    struct module *radio = &worked;
     struct names own;
 
     sent_len = 0;
-    logged[0] = 0;
+    lines = 0;
 #include "recipe.inc"
 }
 
@@ -139,16 +150,17 @@ int main(int argc, char **argv)
     server = argv[1];
     CHECK(sign_in() == 0);
     CHECK(first_sent_len == 40 && memcmp(first_sent, "NTLMSSP\0" "\1", 9) == 0);
-    CHECK(radio.time == SERVER_TIME && radio.flags == DIALTABLE_PAIR_FLAG_MIC);
+    CHECK(worked.time == SERVER_TIME && worked.flags == DIALTABLE_PAIR_FLAG_MIC);
     CHECK(sent_len == 88 + 14 + 8 + 24 + 60 + 16 && memcmp(sent + DIALTABLE_MIC_AT, mic, 16) == 0);
     CHECK(strcmp(logged, "auth flags=628A8215 set=U domain=PEERSRV user=box7 work= lm=24 nt=60 key=16 mic=1 kind=v2"
                          " max=000000\n")
           == 0);
+    CHECK(lines == 3);
 
     /* The box's own clock, and zeros for the MIC; its line says mic=1 all the same. */
     server = argv[2];
     CHECK(sign_in() == 0);
-    CHECK(radio.time == CLOCK && radio.flags == 0);
+    CHECK(worked.time == CLOCK && worked.flags == 0);
     CHECK(memcmp(sent + DIALTABLE_MIC_AT, zeros, 16) == 0);
     CHECK(strstr(logged, " mic=1 ") != NULL && strstr(logged, " user=box7 ") != NULL);
 
@@ -157,11 +169,11 @@ int main(int argc, char **argv)
     CHECK(sign_in() == 0);
     CHECK(strstr(logged, " set=O ") != NULL && strstr(logged, " user=box7 ") != NULL);
 
-    /* No challenge: nothing is sent but the NEGOTIATE, and nothing is logged. */
+    /* No challenge: nothing is sent but the NEGOTIATE, and the log says why. */
     server = argv[4];
     answer = sign_in();
     CHECK(DIALTABLE_IS_REFUSED(answer) && DIALTABLE_NUMBER(answer) == DIALTABLE_REFUSED_WRONG_TYPE);
-    CHECK(sent_len == 0 && logged[0] == 0);
+    CHECK(sent_len == 0 && lines == 2 && strcmp(logged, "refused 4 field=0 at=0\n") == 0);
 
     printf("%d passed, %d failed\n", passed, failed);
     return failed != 0;
