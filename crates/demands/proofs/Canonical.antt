@@ -374,7 +374,8 @@ canonical-ignored s t d = go (readAuthenticate s .reading) refl where
   both a x p q =
       let m = meaningOf s (readAuthenticate s .mic) a in
       let b : SameFields s t (a .fields) = same .bytes a p in
-      let e : bareAuthenticate (Taken x) ≡ bareAuthenticate (Taken a) = rw (← p, ← q) (sym (same .reading)) in
+      let e : bareAuthenticate (Taken x) ≡ bareAuthenticate (Taken a) =
+      sym (ap bareAuthenticate q) ∙ sym (same .reading) ∙ ap bareAuthenticate p in
       let f = ap (fieldsOf (a .fields)) e in
       canonical-by-meaning s t m (each-means s a p)
       (record {
@@ -393,13 +394,13 @@ canonical-ignored s t d = go (readAuthenticate s .reading) refl where
   taken : (r : Reading) (a : Authenticate) → readAuthenticate s .reading ≡ Taken a → readAuthenticate t .reading ≡ r → SameCanonical s t
   taken (Taken x) a p q = both a x p q
   taken (Refused e) a p q =
-      let h : Refused e ≡ bareAuthenticate (readAuthenticate s .reading) = rw (← q) (sym (same .reading)) in
+      let h : Refused e ≡ bareAuthenticate (readAuthenticate s .reading) = sym (ap bareAuthenticate q) ∙ sym (same .reading) in
       let z : readAuthenticate s .reading ≡ Refused e = refused-too (readAuthenticate s .reading) e h in
       refused-alike s t e z q
 
   go : (r : Reading) → readAuthenticate s .reading ≡ r → SameCanonical s t
   go (Taken a) p = taken (readAuthenticate t .reading) a p refl
-  go (Refused e) p = refused-alike s t e p (refused-too (readAuthenticate t .reading) e (rw (← p) (same .reading)))
+  go (Refused e) p = refused-alike s t e p (refused-too (readAuthenticate t .reading) e (sym (ap bareAuthenticate p) ∙ same .reading))
 
 field-long : (s t : List ℕ) (f : Field) → length s ≡ length t → length (fieldBytes s f) ≡ length (fieldBytes t f)
 unfolding fieldBytes
