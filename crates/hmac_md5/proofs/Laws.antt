@@ -2,15 +2,13 @@
 use Prim.Native.Nat.{ℕ, zero, suc, _+_, _-_, _≤_, _<_}
 use mathlib.Core.Path.{_≡_, refl, sym, ap, _∙_}
 use mathlib.Core.List.{List, [], _∷_, _++_}
-use native.Mathlib.Nat.{sub-zero}
 use native.Mathlib.Omega.{arith}
 use borrow.Author.Count.{below-more, below-none}
 use borrow.Author.Tests.{lt-ltb, le-ltb}
-use borrow.Rule.Slice.PartMut.{postOf}
 use lib.Bits.{bitXor}
-use lib.ListN.{length, getD, take, drop, set, replicate, length-set, length-take, length-replicate, replicate-append-replicate}
-use lib.Seq.{take-all, drop-at, ext-getD, getD-set-same, getD-set-other}
-use Rattle.md5.specs.Digest.{md5}
+use lib.ListN.{length, getD, set, replicate, length-set, length-append, length-replicate}
+use lib.Seq.{ext-getD, getD-set-same, getD-set-other}
+use Rattle.md5.specs.Digest.{wordBytes, md5}
 use Rattle.md5.specs.State.{fresh, taken, finished}
 use Rattle.md5.specs.declared.state.State.{State}
 use Rattle.md5.proofs.States.{taken-append}
@@ -20,43 +18,52 @@ use Rattle.hmac_md5.specs.Hmac.{filledOut, keyBlock, xored, hmac, begun,
 abbrev zeros : ℕ → List ℕ
 zeros n = replicate n 0
 
-drop-zeros : (n m : ℕ) → n ≤ m → drop n (zeros m) ≡ zeros (m - n)
-drop-zeros n m h =
-    let e : n + (m - n) ≡ m = omega arith in
-    ap (λ (k : ℕ). drop n (zeros k)) (sym e) ∙ ap (drop n) (sym (replicate-append-replicate n (m - n) 0))
-    ∙ drop-at (zeros n) (zeros (m - n)) n (length-replicate n 0)
+getD-zeros : (n k : ℕ) → getD (zeros n) k 0 ≡ 0
+getD-zeros zero k = refl
+getD-zeros (suc n) zero = refl
+getD-zeros (suc n) (suc k) = getD-zeros n k
 
-pub is-filled-out : (k ys : List ℕ) → length k ≤ 64 → ys ≡ take (length (take (length k - 0) (drop 0 (zeros 64)))) (drop 0 k) →
-    ys ++ postOf 0 (length k - 0) (zeros 64) ≡ filledOut k
-unfolding filledOut
-is-filled-out k ys h e =
-    let n : length (take (length k) (zeros 64)) ≡ length k = length-take (length k) (zeros 64) ∙ omega arith in
-    simp (e, sub-zero, n, take-all (length k) k (omega arith), drop-zeros (length k) 64 h)
+pub past-end : (key : List ℕ) (i : ℕ) → length key ≤ i → 0 ≡ getD key i 0
+past-end [] i h = refl
+past-end (b ∷ key) zero h = absurd (omega arith)
+past-end (b ∷ key) (suc i) h = past-end key i (omega arith)
 
-pub of-long : (key d r : List ℕ) → 64 < length key → d ≡ md5 key → r ≡ filledOut d → r ≡ keyBlock key
+-- a key with zero bytes after it has its own bytes, and then zeros
+getD-filled : (key : List ℕ) (n k : ℕ) → getD (key ++ zeros n) k 0 ≡ getD key k 0
+getD-filled [] n k = getD-zeros n k
+getD-filled (b ∷ key) n zero = refl
+getD-filled (b ∷ key) n (suc k) = getD-filled key n k
+
+short-block : (key : List ℕ) → length key ≤ 64 → keyBlock key ≡ filledOut key
 unfolding keyBlock
-of-long key d r h e f = simp (lt-ltb 64 (length key) h) (f ∙ ap filledOut e)
+short-block key h = simp (le-ltb 64 (length key) h)
 
-pub of-short : (key r : List ℕ) → length key ≤ 64 → r ≡ filledOut key → r ≡ keyBlock key
-unfolding keyBlock
-of-short key r h f = simp (le-ltb 64 (length key) h) f
+digest-short : (m : List ℕ) → length (md5 m) ≤ 64
+unfolding md5 wordBytes
+digest-short m = omega arith
 
--- a block of which i bytes stand XOR x
-pub record Xored (pad block : List ℕ) (x i : ℕ) : Type 0 where
+-- the block of a long key is that of its digest
+pub of-long : (key d text r : List ℕ) → 64 < length key → d ≡ md5 key → r ≡ hmac d text → r ≡ hmac key text
+unfolding hmac keyBlock
+of-long key d text r h e f =
+    f ∙ simp (e, le-ltb 64 (length (md5 key)) (digest-short key), lt-ltb 64 (length key) h)
+
+-- a block of which i bytes stand, each the key's XOR x
+pub record Xored (pad key : List ℕ) (x i : ℕ) : Type 0 where
   pub long : length pad ≡ 64
-  pub same : (k : ℕ) → k < i → getD pad k 0 ≡ bitXor (getD block k 0) x
+  pub same : (k : ℕ) → k < i → getD pad k 0 ≡ bitXor (getD key k 0) x
 
-pub none-xored : (block : List ℕ) (x : ℕ) → Xored (zeros 64) block x 0
-none-xored block x = record { long = refl; same = below-none _ }
+pub none-xored : (key : List ℕ) (x : ℕ) → Xored (zeros 64) key x 0
+none-xored key x = record { long = refl; same = below-none _ }
 
-pub one-xored : (pad block : List ℕ) (x i : ℕ) → Xored pad block x i → i < 64 → Xored (set pad i (bitXor (getD block i 0) x)) block x (i + 1)
-one-xored pad block x i d h =
+pub one-xored : (pad key : List ℕ) (x i b : ℕ) → Xored pad key x i → i < 64 → b ≡ getD key i 0 → Xored (set pad i (bitXor b x)) key x (i + 1)
+one-xored pad key x i b d h e =
     record {
       long = simp (length-set, d .long);
       same =
           below-more _ i
           (λ k l. getD-set-other pad i k _ 0 (λ e. omega arith) ∙ d .same k l)
-          (getD-set-same pad i _ 0 (omega (arith, d .long)));
+          (getD-set-same pad i _ 0 (omega (arith, d .long)) ∙ ap (λ (y : ℕ). bitXor y x) e);
     }
 
 getD-xored : (block : List ℕ) (x k : ℕ) → k < length block → getD (xored x block) k 0 ≡ bitXor (getD block k 0) x
@@ -68,13 +75,18 @@ length-xored : (block : List ℕ) (x : ℕ) → length (xored x block) ≡ lengt
 length-xored [] x = refl
 length-xored (b ∷ block) x = ap suc (length-xored block x)
 
-pub all-xored : (pad block : List ℕ) (x i : ℕ) → Xored pad block x i → length block ≡ 64 → 64 ≤ i → pad ≡ xored x block
-all-xored pad block x i d n h =
-    ext-getD 0 pad (xored x block) (d .long ∙ sym (length-xored block x ∙ n))
-    (λ k l. d .same k (omega (arith, d .long)) ∙ sym (getD-xored block x k (omega (arith, d .long))))
+pub all-xored : (pad key : List ℕ) (x i : ℕ) → Xored pad key x i → length key ≤ 64 → 64 ≤ i → pad ≡ xored x (keyBlock key)
+unfolding filledOut
+all-xored pad key x i d n h =
+    let block : List ℕ = key ++ zeros (64 - length key) in
+    let m : length block ≡ 64 = simp (length-append, length-replicate) (omega arith) in
+    ext-getD 0 pad (xored x block) (d .long ∙ sym (length-xored block x ∙ m))
+    (λ k l. d .same k (omega (arith, d .long)) ∙ ap (λ (y : ℕ). bitXor y x) (sym (getD-filled key (64 - length key) k))
+    ∙ sym (getD-xored block x k (omega (arith, d .long, m))))
+    ∙ ap (xored x) (sym (short-block key n))
 
-pub is-padded : (key k l : List ℕ) (x : ℕ) (s t : State) → k ≡ keyBlock key → l ≡ xored x k → s ≡ fresh → t ≡ taken s l → t ≡ taken fresh (xored x (keyBlock key))
-is-padded key k l x s t e f g h = simp (h, g, f, e)
+pub is-padded : (key l : List ℕ) (x : ℕ) (s t : State) → l ≡ xored x (keyBlock key) → s ≡ fresh → t ≡ taken s l → t ≡ taken fresh (xored x (keyBlock key))
+is-padded key l x s t f g h = simp (h, g, f)
 
 pub is-begun : (key : List ℕ) (t : State) → t ≡ taken fresh (xored 0x36 (keyBlock key)) → t ≡ begun key
 unfolding begun

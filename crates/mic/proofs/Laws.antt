@@ -126,10 +126,7 @@ passed n nego chal auth h =
     }
 
 module _ (key nego chal auth : List ℕ) (h : checkMessages (length key) nego chal auth ≡ Clear) where
-  pub key-short : length key ≤ 65535
-  key-short = omega (arith, passed (length key) nego chal auth h .key)
-
-  pub key-fits : length key ≤ 0x400000000000000
+  pub key-fits : length key ≤ 64
   key-fits = omega (arith, passed (length key) nego chal auth h .key)
 
   pub nego-fits : length nego ≤ 65535
@@ -144,7 +141,7 @@ module _ (key nego chal auth : List ℕ) (h : checkMessages (length key) nego ch
   pub mic-fits : 88 ≤ length auth
   mic-fits = passed (length key) nego chal auth h .mic-inside
 
-pub ruleset fits = (key-short, key-fits, nego-fits, chal-fits, auth-fits, mic-fits)
+pub ruleset fits = (key-fits, nego-fits, chal-fits, auth-fits, mic-fits)
 
 -- ---- the answers
 

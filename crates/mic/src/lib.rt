@@ -91,7 +91,7 @@ fn check_messages(size: usize, nego: &[u8], chal: &[u8], auth: &[u8]) -> Verdict
 
 // The first two messages, after the key.
 fn two_taken(key: &[u8], nego: &[u8], chal: &[u8]) -> State
-    requires { ⌜ (length (now key) ≤ 65535) × ((length (now nego) ≤ 65535) × (length (now chal) ≤ 65535)) ⌝ }
+    requires { ⌜ (length (now key) ≤ 64) × ((length (now nego) ≤ 65535) × (length (now chal) ≤ 65535)) ⌝ }
     ensures { λ r. ⌜ (r .count ≤ 0x100000) × (r ≡ taken (taken (begun (now (key .entry))) (now (nego .entry))) (now (chal .entry))) ⌝ }
 {
     let s = hmac_md5::begin(key);
