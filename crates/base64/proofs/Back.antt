@@ -3,13 +3,13 @@ use Prim.Native.Nat.{ℕ, _+_, _*_, _/_, _%_, _<_}
 use mathlib.Core.Path.{_≡_, refl, sym, ap, ap₂, _∙_}
 use mathlib.Core.Logic.{_⊎_, inl, inr, ⊎-elim}
 use mathlib.Core.Bool.{Bool, true, false, _&&_, _||_}
-use mathlib.Core.List.{List, [], _∷_, _++_}
+use mathlib.Core.List.{List, [], _∷_}
 use native.Mathlib.Omega.{arith}
 use borrow.Author.Tests.{ltb-true, eqb-true}
 use lib.Dec.{eqb, ltb}
 use lib.Pow.{areBytes}
 use Rattle.wire.proofs.Bools.{and-left, and-right}
-use Rattle.base64.specs.Base64.{alphabet, letter, pad, three, two, one, encode, isLetter, valueOf, groupHolds, isEmpty, isBase64, groupBytes, decode}
+use Rattle.base64.specs.Base64.{letter, pad, three, two, one, encode, isLetter, valueOf, groupHolds, isEmpty, isBase64, groupBytes, decode}
 use Rattle.base64.proofs.Alphabet.{value-letter, is-letter, letter-value, value-small, pad-no-letter, no-pad}
 
 byte : (a : ℕ) (m : List ℕ) → areBytes (a ∷ m) ≡ true → a < 256

@@ -1,14 +1,14 @@
 -- How long an encoding is, and how many bytes a text in base64 stands for.
 use Prim.Native.Nat.{ℕ, suc, _+_, _-_, _*_, _/_, _%_, _≤_, _<_}
 use mathlib.Core.Path.{_≡_, refl, sym, ap, ap₂, _∙_}
-use mathlib.Core.Bool.{Bool, true, false, cond, _&&_, _||_}
-use mathlib.Core.List.{List, [], _∷_, _++_}
+use mathlib.Core.Bool.{Bool, true, false, cond}
+use mathlib.Core.List.{List, [], _∷_}
 use native.Mathlib.Omega.{arith}
 use borrow.Author.Tests.{eq-eqb, ne-eqb}
 use lib.Dec.{eqb}
 use lib.ListN.{length, getD, length-append}
 use Rattle.wire.proofs.Bools.{and-left, and-right}
-use Rattle.base64.specs.Base64.{pad, three, two, one, encode, isLetter, valueOf, groupHolds, isEmpty, isBase64, groupBytes, decode}
+use Rattle.base64.specs.Base64.{three, two, one, encode, valueOf, groupHolds, isBase64, groupBytes, decode}
 use Rattle.base64.proofs.Writing.{short, third-letter, fourth-letter}
 
 pub length-encode : (m : List ℕ) → length (encode m) ≡ 4 * ((length m + 2) / 3)

@@ -4,24 +4,22 @@ pub mod Lines
 use Prim.Native.Nat.{ℕ, suc, _+_, _*_, _/_, _≤_, _<_}
 use mathlib.Core.Path.{_≡_, refl, sym, ap, ap₂, _∙_, subst}
 use mathlib.Core.Logic.{inl}
-use mathlib.Core.Bool.{Bool, true, false, _&&_}
+use mathlib.Core.Bool.{true, false}
 use mathlib.Core.List.{List, [], _∷_, _++_}
 use native.Mathlib.Omega.{arith}
-use lib.Dec.{leb, ltb}
-use lib.ListN.{length, take, drop, getD, replicate, length-replicate}
+use lib.ListN.{length, take, drop, replicate, length-replicate}
 use lib.Pow.{areBytes}
 use lib.Seq.{take-append-seam}
-use borrow.Author.Tests.{leb-true, leb-false, le-leb, ltb-true, lt-ltb, ne-eqb}
+use borrow.Author.Tests.{leb-true, leb-false, le-leb, ltb-true, lt-ltb}
 use Rattle.text.specs.Text.{ascii}
 use Rattle.wire.specs.declared.check.Checked.the-variants.{Held, Failed}
 use Rattle.wire.specs.declared.check.Verdict.{Verdict}
 use Rattle.wire.specs.declared.check.Verdict.the-variants.{Clear, Refused as Not}
-use Rattle.wire.specs.declared.refusal.Refusal.{Refusal}
 use Rattle.wire.specs.declared.refusal.Refusal.the-variants.{TooLong, NoRoom, WrongScheme, WrongBase64}
 use Rattle.wire.proofs.Laws.{held-true}
 use Rattle.wire.proofs.Bools.{and-left}
-use Rattle.place.specs.declared.written.Written.the-variants.{Length, Refused}
-use Rattle.place.specs.Written.{answered, outAfter, atFront, roomHolds}
+use Rattle.place.specs.declared.written.Written.the-variants.{Length}
+use Rattle.place.specs.Written.{answered, outAfter, roomHolds}
 use Rattle.base64.specs.Base64.{alphabet, letter, three, two, one, encode, isLetter, valueOf, groupHolds, groupBytes, isBase64, decode}
 use Rattle.base64.proofs.Alphabet.{is-letter}
 use Rattle.base64.proofs.Back.{back, encoded-base64, one-text}
@@ -31,7 +29,7 @@ use Rattle.c_number.specs.Number.{writtenNumber}
 use Rattle.demands.specs.Answers.{TellsWritten}
 use Rattle.demands.specs.Order.{placeIn}
 use Rattle.demands.specs.WrittenExactly.{WrittenExactly}
-use Rattle.demands.specs.HeaderLine.{TextAfter, decodedSize, ImportFails, importOrder, HeaderIsImported, lineSize, ExportFails, HeaderIsExported, ExportKept, ImportKept, ExportTells, ImportTells, ExportShort, ImportShort, Gives, Bytes, ImportOfExport, LineOf, DifferInCaseOrSpaces, OneMessage, AnsweredAlike, CaseAndSpacesIgnored, BytesUnread, EveryByteCounts, WorkedLines}
+use Rattle.demands.specs.HeaderLine.{decodedSize, ImportFails, importOrder, HeaderIsImported, lineSize, ExportFails, HeaderIsExported, ExportKept, ImportKept, ExportTells, ImportTells, ExportShort, ImportShort, Gives, Bytes, ImportOfExport, LineOf, OneMessage, CaseAndSpacesIgnored, BytesUnread, EveryByteCounts, WorkedLines}
 use Rattle.demands.proofs.Bools.{failed-false, chained, after-held, both-ways}
 use Rattle.demands.proofs.Answers.Told.{tells-refusal, tells-length}
 use Rattle.demands.proofs.Kept.{by-verdict as kept-by-verdict}

@@ -1,20 +1,19 @@
 -- The scheme word, the spaces and the text of a line.
-use Prim.Native.Nat.{ℕ, zero, suc, _+_, _-_, _≤_, _<_}
+use Prim.Native.Nat.{ℕ, zero, suc, _-_, _≤_}
 use mathlib.Core.Path.{_≡_, refl, sym, ap, ap₂, _∙_, subst}
-use mathlib.Core.Logic.{_⊎_, inl, inr, ⊎-elim}
+use mathlib.Core.Logic.{inl, inr}
 use mathlib.Core.Bool.{Bool, true, false, cond, _&&_}
 use mathlib.Core.List.{List, [], _∷_, _++_}
 use native.Mathlib.Omega.{arith}
 use lib.Dec.{eqb, leb}
 use lib.ListN.{length, getD, drop, replicate}
-use borrow.Author.Tests.{eqb-true, eqb-false, eq-eqb, ne-eqb, leb-true, leb-false, le-leb}
+use borrow.Author.Tests.{eqb-true, eqb-false, eq-eqb, ne-eqb, leb-true, le-leb}
 use Rattle.text.specs.Text.{ascii}
 use Rattle.wire.specs.declared.check.Checked.the-variants.{Held}
-use Rattle.wire.specs.Check.{checked}
 use Rattle.wire.proofs.Laws.{held-true}
 use Rattle.wire.proofs.Bools.{and-left, and-right}
 use Rattle.http_header.specs.HttpHeader.{upper, schemeHolds, afterSpaces, textOf}
-use Rattle.demands.specs.HeaderLine.{InCase, SchemeAt, TextAfter, OneTextAfter, TextIsThere, Spelt, LineOf}
+use Rattle.demands.specs.HeaderLine.{InCase, SchemeAt, TextAfter, TextIsThere, Spelt, LineOf}
 
 -- ---- letters
 

@@ -1,19 +1,18 @@
 -- A text is in base64 exactly when it has none of the faults of check 58, said by positions.
-use Prim.Native.Nat.{ℕ, zero, suc, _+_, _-_, _/_, _*_, _%_, _≤_, _<_}
-use mathlib.Core.Path.{_≡_, refl, sym, ap, _∙_, subst}
-use mathlib.Core.Logic.{_⊎_, inl, inr, ⊎-elim}
-use mathlib.Core.Bool.{Bool, true, false, cond, _&&_, _||_}
+use Prim.Native.Nat.{ℕ, zero, suc, _+_, _%_, _≤_, _<_}
+use mathlib.Core.Path.{_≡_, refl, sym, ap, _∙_}
+use mathlib.Core.Logic.{inl, inr, ⊎-elim}
+use mathlib.Core.Bool.{Bool, true, false, _&&_, _||_}
 use mathlib.Core.List.{List, [], _∷_}
 use native.Mathlib.Omega.{arith}
 use lib.Dec.{eqb}
 use lib.ListN.{length, getD}
-use borrow.Author.Tests.{eqb-true, eqb-false, eq-eqb, ne-eqb}
+use borrow.Author.Tests.{eqb-true, eqb-false}
 use Rattle.wire.proofs.Bools.{and-left, and-right}
 use Rattle.base64.specs.Base64.{alphabet, letter, isLetter, valueOf, groupHolds, isEmpty, isBase64, decode}
 use Rattle.base64.proofs.Alphabet.{value-letter, is-letter, letter-value, value-small, pad-no-letter}
 use Rattle.base64.proofs.Size.{decoded-length}
-use Rattle.base64.proofs.Writing.{short}
-use Rattle.demands.specs.HeaderLine.{characters, HasValue, WrongCharacter, WrongPadding, WrongGroup, WrongLastBits, NotBase64, decodedSize}
+use Rattle.demands.specs.HeaderLine.{characters, HasValue, NotBase64, decodedSize}
 use Rattle.demands.proofs.Bools.{true-not-false, both-ways, or-either}
 
 -- ---- characters
