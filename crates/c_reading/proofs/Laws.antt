@@ -86,26 +86,26 @@ module _ (w v : NegoReading) (e : w ≡ v) where
   nego-refused d h = simp (← e, h)
 
 -- the numbers of AUTHENTICATE, each as it was asked for
-pub auth-numbers : (a : Authenticate) (m lmo lml nto ntl doo dol uso usl woo wol keo kel lmm ntm dom usm wom kem : ℕ) →
-    m ≡ bit (a .«mic_present») →
-    lmo ≡ a .fields .lm .offset →
-    lml ≡ a .fields .lm .len →
-    nto ≡ a .fields .nt .offset →
-    ntl ≡ a .fields .nt .len →
-    doo ≡ a .fields .domain .offset →
-    dol ≡ a .fields .domain .len →
-    uso ≡ a .fields .user .offset →
-    usl ≡ a .fields .user .len →
-    woo ≡ a .fields .workstation .offset →
-    wol ≡ a .fields .workstation .len →
-    keo ≡ a .fields .key .offset →
-    kel ≡ a .fields .key .len →
-    lmm ≡ a .fields .lm .«max_len» →
-    ntm ≡ a .fields .nt .«max_len» →
-    dom ≡ a .fields .domain .«max_len» →
-    usm ≡ a .fields .user .«max_len» →
-    wom ≡ a .fields .workstation .«max_len» →
-    kem ≡ a .fields .key .«max_len» →
-    a .flags .bits ∷ m ∷ lmo ∷ lml ∷ nto ∷ ntl ∷ doo ∷ dol ∷ uso ∷ usl ∷ woo ∷ wol ∷ keo ∷ kel ∷ lmm ∷ ntm ∷ dom ∷ usm ∷ wom ∷ kem ∷ [] ≡ authenticateNumbers a
+pub auth-numbers : (a : Authenticate) (mic o1 l1 o2 l2 o3 l3 o4 l4 o5 l5 o6 l6 m1 m2 m3 m4 m5 m6 : ℕ) →
+    mic ≡ bit (a .«mic_present») →
+    o1 ≡ a .fields .lm .offset →
+    l1 ≡ a .fields .lm .len →
+    o2 ≡ a .fields .nt .offset →
+    l2 ≡ a .fields .nt .len →
+    o3 ≡ a .fields .domain .offset →
+    l3 ≡ a .fields .domain .len →
+    o4 ≡ a .fields .user .offset →
+    l4 ≡ a .fields .user .len →
+    o5 ≡ a .fields .workstation .offset →
+    l5 ≡ a .fields .workstation .len →
+    o6 ≡ a .fields .key .offset →
+    l6 ≡ a .fields .key .len →
+    m1 ≡ a .fields .lm .«max_len» →
+    m2 ≡ a .fields .nt .«max_len» →
+    m3 ≡ a .fields .domain .«max_len» →
+    m4 ≡ a .fields .user .«max_len» →
+    m5 ≡ a .fields .workstation .«max_len» →
+    m6 ≡ a .fields .key .«max_len» →
+    a .flags .bits ∷ mic ∷ o1 ∷ l1 ∷ o2 ∷ l2 ∷ o3 ∷ l3 ∷ o4 ∷ l4 ∷ o5 ∷ l5 ∷ o6 ∷ l6 ∷ m1 ∷ m2 ∷ m3 ∷ m4 ∷ m5 ∷ m6 ∷ [] ≡ authenticateNumbers a
 unfolding authenticateNumbers
-auth-numbers a m lmo lml nto ntl doo dol uso usl woo wol keo kel lmm ntm dom usm wom kem p0 p1 p2 p3 p4 p5 p6 p7 p8 p9 p10 p11 p12 p13 p14 p15 p16 p17 p18 = rw (p0, p1, p2, p3, p4, p5, p6, p7, p8, p9, p10, p11, p12, p13, p14, p15, p16, p17, p18)
+auth-numbers a mic o1 l1 o2 l2 o3 l3 o4 l4 o5 l5 o6 l6 m1 m2 m3 m4 m5 m6 p a1 b1 a2 b2 a3 b3 a4 b4 a5 b5 a6 b6 c1 c2 c3 c4 c5 c6 = rw (p, a1, b1, a2, b2, a3, b3, a4, b4, a5, b5, a6, b6, c1, c2, c3, c4, c5, c6)

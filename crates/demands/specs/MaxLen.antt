@@ -6,7 +6,6 @@ use mathlib.Core.List.{List, [], _∷_, _++_}
 use lib.ListN.{length, getD}
 use Rattle.text.specs.Text.{ascii}
 use Rattle.field.specs.declared.Field.{Field}
-use Rattle.authenticate.specs.declared.Fields.{Fields}
 use Rattle.authenticate.specs.declared.Reading.{Reading}
 use Rattle.authenticate.specs.declared.Reading.the-variants.{Taken, Refused}
 use Rattle.challenge.specs.declared.Reading.{Reading as ChallengeReading}

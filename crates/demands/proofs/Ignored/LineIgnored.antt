@@ -37,7 +37,7 @@ use Rattle.nl_auth.specs.declared.Reading.the-variants.{Taken as NlTaken, Refus
 use Rattle.nl_auth.specs.NlAuth.{readNlAuth}
 use Rattle.line_nego.specs.Nego.{negoNames, negoText}
 use Rattle.line_auth.specs.Auth.{authNames, authLengths, authEnd, authText}
-use Rattle.line.specs.Line.{negoLine, negotiateLine, authLine, authenticateLine, chalLine, challengeLine, lineAs, ntlmLine, nlLine, nlAuthLine}
+use Rattle.line.specs.Line.{negoLine, negotiateLine, authLine, authenticateLine, chalLine, challengeLine, ntlmLine, nlLine, nlAuthLine}
 use Rattle.line_chal.specs.Chal.{timeWord, chalEnd, chalWords, chalText}
 use Rattle.line_nl.specs.Nl.{nlOem, nlUtf8, nlText}
 use Rattle.nl_auth_text.specs.StringText.{oemText, utf8Text}

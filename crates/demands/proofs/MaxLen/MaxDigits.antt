@@ -11,7 +11,7 @@ use Rattle.field.specs.declared.Field.{Field}
 use Rattle.line_max.specs.Max.{maxDigit, maxDigits}
 use Rattle.line_max.proofs.Laws.{alike, unlike}
 use Rattle.demands.specs.MaxLen.{Unlike, MaxDigits}
-use Rattle.demands.specs.Message.{Format, lenOf, maxLenOf, Counts}
+use Rattle.demands.specs.Message.{Format}
 use Rattle.demands.proofs.Message.{Stands}
 use Rattle.demands.proofs.Message.Fields.{AllStand}
 
