@@ -49,8 +49,9 @@
  *
  * Every call takes bytes as they come, of any length, and always ends. Nothing is kept between calls and nothing is
  * allocated; calls are reentrant. Memory is lent for the length of the call: inputs are only read, an output is written
- * at its start and left as it was after that. An output must not overlap an input or another output. A pointer may be
- * NULL where its length is 0; version, mic and bindings, which come without a length, must never be NULL.
+ * at its start and left as it was after that, and of a night's entries only the answers are written. An output must not
+ * overlap an input or another output. A pointer may be NULL where its length is 0; version, mic and bindings, where they
+ * come without a length, must never be NULL.
  *
  * The answer is 0, or the length of what was written, or a refusal; dialtable_check_mic's may also be 1, for yes. A
  * refusal changes no byte of any output. An output exactly as long as what is written suffices.
