@@ -356,13 +356,13 @@ refused-too : (r : Reading) (e : Refusal) → Refused e ≡ bareAuthenticate r �
 refused-too (Taken a) e h = absurd (let z : _≡_ {A = ℕ} 0 1 = cc in omega arith)
 refused-too (Refused x) e h = sym h
 
-fieldsOf : Fields → Reading → Fields
+abbrev fieldsOf : Fields → Reading → Fields
 fieldsOf d (Taken a) = a .fields
 fieldsOf d (Refused e) = d
 
-flagsOf : NegotiateFlags → Reading → NegotiateFlags
-flagsOf d (Taken a) = a .flags
-flagsOf d (Refused e) = d
+abbrev bitsOf : Reading → ℕ
+bitsOf (Taken a) = a .flags .bits
+bitsOf (Refused e) = 0
 
 pub canonical-ignored : CanonicalIgnored
 unfolding meaningOf fieldBytes
@@ -381,7 +381,7 @@ canonical-ignored s t d = go (readAuthenticate s .reading) refl where
       (record {
         message = x;
         read = q;
-        flags = ap (flagsOf (a .flags)) e;
+        flags = ap bitsOf e;
         mic = sym (same .mic);
         lm = ap (λ (z : Fields). fieldBytes t (z .lm)) f ∙ sym (b .lm);
         nt = ap (λ (z : Fields). fieldBytes t (z .nt)) f ∙ sym (b .nt);
