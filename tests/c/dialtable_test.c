@@ -1057,8 +1057,8 @@ static void tells_the_kind(void)
                                            kinds[i].len, NULL, 0, NULL, 0, NULL, 0, NULL, 0);
         EQUAL(len, 88 + kinds[i].len);
         line_len = dialtable_authenticate_line(out, len, line, sizeof line);
-        sprintf(expected, "auth flags=00000001 set=U domain= user= work= lm=0 nt=%u key=0 mic=1 kind=%s\n", kinds[i].len,
-                kinds[i].kind);
+        sprintf(expected, "auth flags=00000001 set=U domain= user= work= lm=0 nt=%u key=0 mic=1 kind=%s max=000000\n",
+                kinds[i].len, kinds[i].kind);
         EQUAL(line_len, strlen(expected));
         CHECK(memcmp(line, expected, strlen(expected)) == 0);
     }
