@@ -6,7 +6,7 @@ use mathlib.Core.List.{List, [], _∷_}
 use native.Mathlib.Nat.{add-zero, add-assoc}
 use native.Mathlib.Numerals.{add-one}
 use native.Mathlib.Omega.{arith}
-use lib.Dec.{eqb}
+use lib.Dec.{T, eqb, leb, leb→le}
 use lib.ListN.{length, getD, drop, drop-of-length-le}
 use lib.Seq.{drop-cons}
 use Rattle.wire.specs.Number.{standsAt}
@@ -26,10 +26,10 @@ and-true : (a : Bool) → a && true ≡ a
 and-true true = refl
 and-true false = refl
 
-pub stands-next : (s : List ℕ) (at : ℕ) (xs : List ℕ) (same : Bool) (i : ℕ) → Compared s at xs same i → length xs ≡ 16 → i < 16 →
+pub stands-next : (s : List ℕ) (at : ℕ) (xs : List ℕ) (same : Bool) (i n : ℕ) → Compared s at xs same i → length xs ≡ 16 → i < n → T (leb n 16) →
     Compared s at xs (same && eqb (getD s (at + i) 0) (getD xs i 0)) (i + 1)
-stands-next s at xs same i c l h =
-    let k : i < length xs = omega arith in
+stands-next s at xs same i n c l h b =
+    let k : i < length xs = omega (arith, leb→le n 16 b) in
     let d : drop i xs ≡ getD xs i 0 ∷ drop (i + 1) xs = rw (add-one, drop-cons xs i 0) in
     record {
       rest =
