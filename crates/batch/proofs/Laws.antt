@@ -32,7 +32,7 @@ use Rattle.challenge.specs.declared.Answer.{Answer as ChalAnswer}
 use Rattle.challenge.specs.declared.Challenge.{Challenge as ChalMessage}
 use Rattle.challenge.specs.declared.Reading.the-variants.{Taken as ChalTaken, Refused as ChalRefused}
 use Rattle.challenge.specs.Challenge.{readChallenge}
-use Rattle.explain.specs.Explain.{readAs}
+use Rattle.verdict.specs.Verdict.{readAs}
 use Rattle.explain.proofs.Refusals.{nego-placed, chal-placed, auth-placed}
 use Rattle.batch.specs.declared.Answer.{Answer}
 use Rattle.batch.specs.declared.Entry.{Entry}

@@ -14,7 +14,7 @@ use Rattle.wire.specs.Check.{checked, after}
 use Rattle.wire.specs.Refusal.{numberOf, fieldOf, placeOf}
 use Rattle.head.specs.Head.{lengthHolds}
 use Rattle.head.specs.declared.Kind.the-variants.{Negotiate, Challenge, Authenticate}
-use Rattle.explain.specs.Explain.{readAs}
+use Rattle.verdict.specs.Verdict.{readAs}
 use Rattle.batch.specs.declared.Answer.{Answer}
 use Rattle.batch.specs.declared.Entry.{Entry}
 use Rattle.batch.specs.declared.CEntry.{CEntry}

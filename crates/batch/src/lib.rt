@@ -6,7 +6,7 @@ ghost use lib.ListN.{length};
 ghost use Rattle.wire.specs.declared.check.Verdict.the-variants.{Clear, Refused};
 ghost use Rattle.wire.specs.Refusal.{placeOf};
 ghost use Rattle.head.specs.declared.Kind.the-variants.{Negotiate, Challenge, Authenticate};
-ghost use Rattle.explain.specs.Explain.{readAs};
+ghost use Rattle.verdict.specs.Verdict.{readAs};
 ghost use Rattle.batch.specs.Batch.{answerOf, placeInside, atPlace, bufferVerdict, toFill, answered, filled, readMarked, answeredFromC};
 use authenticate::Reading as AuthenticateReading;
 use challenge::Reading as ChallengeReading;

@@ -17,7 +17,8 @@ use Rattle.wire.specs.declared.refusal.Refusal.the-variants.{WrongType, PlaceOu
 use Rattle.wire.specs.Check.{checked, after}
 use Rattle.head.specs.declared.Kind.{Kind}
 use Rattle.head.specs.declared.Kind.the-variants.{Negotiate, Challenge, Authenticate}
-use Rattle.explain.specs.Explain.{checksOf, readAs, negoVerdict, authVerdict}
+use Rattle.verdict.specs.Verdict.{negoVerdict, authVerdict, readAs}
+use Rattle.explain.specs.Explain.{checksOf}
 use Rattle.batch.specs.declared.CEntry.{CEntry}
 use Rattle.batch.specs.declared.Entry.{Entry}
 use Rattle.batch.specs.Batch.{answerOf, atPlace, readMarked, withAnswer, answered, answeredFromC}

@@ -37,7 +37,8 @@ use Rattle.authenticate.specs.declared.Reading.the-variants.{Taken as AuthTaken
 use Rattle.authenticate.specs.Authenticate.{readAuthenticate}
 use Rattle.line_checks.specs.declared.Figures.{Figures as Given}
 use Rattle.line_checks.specs.Checks.{checkLines}
-use Rattle.explain.specs.Explain.{checksOf, readAs, fieldsOf, numbered, figuresOf, noFigures, ofPair, figuresAs, explainedAs, explanation, negoVerdict, chalVerdict, authVerdict}
+use Rattle.verdict.specs.Verdict.{negoVerdict, chalVerdict, authVerdict, readAs}
+use Rattle.explain.specs.Explain.{checksOf, fieldsOf, numbered, figuresOf, noFigures, ofPair, figuresAs, explainedAs, explanation}
 use Rattle.explain.proofs.Laws.{no-head}
 use Rattle.demands.specs.Order.{placeIn}
 use Rattle.demands.specs.Message.{Format, negotiate, authenticate, challenge, Nonempty, lenOf, offsetOf}

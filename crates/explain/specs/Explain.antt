@@ -16,18 +16,10 @@ use Rattle.field.specs.Field.{noField}
 use Rattle.head.specs.declared.Kind.{Kind}
 use Rattle.head.specs.declared.Kind.the-variants.{Negotiate, Challenge, Authenticate}
 use Rattle.head.specs.Head.{flagsAt, kindOf}
-use Rattle.negotiate.specs.declared.Reading.{Reading as NegoReading}
-use Rattle.negotiate.specs.declared.Reading.the-variants.{Taken as NegoTaken, Refused as NegoRefused}
 use Rattle.negotiate.specs.Negotiate as N
-use Rattle.negotiate.specs.Negotiate.{readNegotiate}
-use Rattle.challenge.specs.declared.Reading.{Reading as ChalReading}
-use Rattle.challenge.specs.declared.Reading.the-variants.{Taken as ChalTaken, Refused as ChalRefused}
 use Rattle.challenge.specs.Challenge as C
-use Rattle.challenge.specs.Challenge.{readChallenge}
-use Rattle.authenticate.specs.declared.Reading.{Reading as AuthReading}
-use Rattle.authenticate.specs.declared.Reading.the-variants.{Taken as AuthTaken, Refused as AuthRefused}
 use Rattle.authenticate.specs.Authenticate as A
-use Rattle.authenticate.specs.Authenticate.{readAuthenticate}
+use Rattle.verdict.specs.Verdict.{readAs}
 use Rattle.line_checks.specs.declared.Figures.{Figures}
 use Rattle.line_checks.specs.Checks.{aboutPair, checkLines}
 
@@ -36,25 +28,6 @@ abbrev pub checksOf : Kind → List ℕ
 checksOf Negotiate = 1 ∷ 2 ∷ 3 ∷ 4 ∷ 5 ∷ 6 ∷ 7 ∷ []
 checksOf Challenge = 1 ∷ 2 ∷ 3 ∷ 4 ∷ 5 ∷ 6 ∷ 7 ∷ 8 ∷ 11 ∷ 12 ∷ 10 ∷ 13 ∷ []
 checksOf Authenticate = 1 ∷ 2 ∷ 3 ∷ 4 ∷ 5 ∷ 6 ∷ 7 ∷ 8 ∷ 9 ∷ []
-
--- ---- the reading: all checks held, or the refusal of the first that failed
-
-abbrev pub negoVerdict : NegoReading → Verdict
-negoVerdict (NegoTaken m) = Clear
-negoVerdict (NegoRefused e) = Not e
-
-abbrev pub chalVerdict : ChalReading → Verdict
-chalVerdict (ChalTaken c) = Clear
-chalVerdict (ChalRefused e) = Not e
-
-abbrev pub authVerdict : AuthReading → Verdict
-authVerdict (AuthTaken a) = Clear
-authVerdict (AuthRefused e) = Not e
-
-abbrev pub readAs : Kind → List ℕ → Verdict
-readAs Negotiate s = negoVerdict (readNegotiate s)
-readAs Challenge s = chalVerdict (readChallenge s .reading)
-readAs Authenticate s = authVerdict (readAuthenticate s .reading)
 
 -- ---- the figures
 

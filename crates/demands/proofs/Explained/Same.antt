@@ -36,7 +36,8 @@ use Rattle.authenticate.specs.Authenticate.{readAuthenticate}
 use Rattle.authenticate.specs.Authenticate as A
 use Rattle.line_checks.specs.declared.Figures.{Figures as Given}
 use Rattle.line_checks.specs.Checks.{pairText, pairWords, messageWords, figureWords, failedWords, wordsOf, lineOf, linesFrom, checkLines}
-use Rattle.explain.specs.Explain.{checksOf, readAs, fieldsOf, numbered, hasPair, figuresOf, figuresOn, figuresAs, explainedAs, explanation, negoVerdict, chalVerdict, authVerdict}
+use Rattle.verdict.specs.Verdict.{negoVerdict, chalVerdict, authVerdict, readAs}
+use Rattle.explain.specs.Explain.{checksOf, fieldsOf, numbered, hasPair, figuresOf, figuresOn, figuresAs, explainedAs, explanation}
 use Rattle.demands.specs.MaxLen.{bareNegotiate, bareChallenge, bareAuthenticate}
 use Rattle.demands.specs.Message.{negotiate, authenticate, challenge, lenOf, offsetOf, Nonempty, DifferInIgnored}
 use Rattle.demands.specs.Secret.{DifferInSecrets}

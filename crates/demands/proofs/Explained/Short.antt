@@ -27,7 +27,8 @@ use Rattle.place.specs.Written.{bytesAnswer}
 use Rattle.c_number.specs.Number.{writtenNumber}
 use Rattle.line_checks.specs.declared.Figures.{Figures as Given}
 use Rattle.line_checks.specs.Checks.{aboutPair, plainWords, pairText, pairWords, messageWords, figureWords, failedWords, wordsOf, lineOf, linesFrom, checkLines}
-use Rattle.explain.specs.Explain.{checksOf, readAs, fieldsOf, numbered, hasPair, ofPair, figuresOf, figuresOn, figuresAs, explainedAs, explanation, chalVerdict}
+use Rattle.verdict.specs.Verdict.{chalVerdict, readAs}
+use Rattle.explain.specs.Explain.{checksOf, fieldsOf, numbered, hasPair, ofPair, figuresOf, figuresOn, figuresAs, explainedAs, explanation}
 use Rattle.explain.proofs.Laws.{no-head}
 use Rattle.demands.specs.Answers.{TellsWritten}
 use Rattle.demands.specs.Message.{Nonempty}

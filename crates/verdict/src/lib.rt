@@ -1,0 +1,1 @@
+// A message's verdict in definitions. The crate has no code: see specs/Verdict.antt.
