@@ -138,7 +138,6 @@ module _ {A : Type 0} (at : A → Place) (es : List A) (s : List ℕ) where
   pub record ListedSecret (p : ℕ) : Type 0 where
     pub entry : A
     pub listed : Listed entry es
-    pub inside : Inside s (at entry)
     pub marked : at entry .Marked Authenticate
     pub within : Within (at entry) p
     pub secret : Secret (message s (at entry)) (p - at entry .start)

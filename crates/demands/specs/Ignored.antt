@@ -31,7 +31,7 @@ use Rattle.respond.specs.declared.decision.Settings.{Settings}
 use Rattle.respond.specs.Answer.{respondAnswer, respondOut}
 use Rattle.respond.specs.Decision.{decisionOn}
 use Rattle.respond.specs.Domain.{domainPart}
-use Rattle.demands.specs.MaxLen.{bareAuthenticate, bareChallenge, bareNegotiate, AlikeButMax}
+use Rattle.demands.specs.MaxLen.{bareAuthenticate, bareChallenge, bareNegotiate, EndsInMax, AlikeButMax}
 use Rattle.demands.specs.Message.{negotiate, authenticate, challenge, DifferInIgnored, SameMaxLen}
 use Rattle.demands.specs.NlAuth.{typeOf}
 use Rattle.demands.specs.TakenExactly.{IsTakenNegotiate, IsTakenChallenge, IsTakenAuthenticate}
@@ -124,6 +124,14 @@ ChallengeLineIgnored =
     (s t : List ℕ) → DifferInIgnored challenge s t →
     AlikeButMax challenge (IsTakenChallenge (readChallenge s .reading)) s t (challengeLine s) (challengeLine t)
     × (SameMaxLen challenge s t → challengeLine s ≡ challengeLine t)
+
+-- the line of every taken message ends in the word that its heads say
+pub record MaxWordSaid : Type 0 where
+  pub auth : (s : List ℕ) → IsTakenAuthenticate (readAuthenticate s .reading) →
+      (before : List ℕ) × EndsInMax authenticate s (authenticateLine s) before
+  pub nego : (s : List ℕ) → IsTakenNegotiate (readNegotiate s) → (before : List ℕ) × EndsInMax negotiate s (negotiateLine s) before
+  pub chal : (s : List ℕ) → IsTakenChallenge (readChallenge s .reading) →
+      (before : List ℕ) × EndsInMax challenge s (challengeLine s) before
 
 -- the NTLM program's line, by the kind that it reads the message as
 pub record DifferAsRead (s t : List ℕ) : Type 0 where

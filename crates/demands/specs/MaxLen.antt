@@ -73,6 +73,8 @@ pub record AlikeToMax (k : Format) (s t line line′ : List ℕ) : Type 0 where
   pub before : List ℕ
   pub first : EndsInMax k s line before
   pub second : EndsInMax k t line′ before
+  -- so the calls of the lines answer the same length, or both 33
+  pub same-length : length line ≡ length line′
 
 -- the lines of two messages: alike to the last word where the first is taken, and alike where it is refused
 pub record AlikeButMax (k : Format) (IsTaken : Type 0) (s t line line′ : List ℕ) : Type 0 where

@@ -36,7 +36,6 @@ nt-byte =
     record {
       entry = second;
       listed = inr (inl refl);
-      inside = omega arith;
       marked = refl;
       within = (omega arith, omega arith);
       secret = secret-field 2 (omega arith) (inr (inl refl))

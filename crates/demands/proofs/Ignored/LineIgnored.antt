@@ -3,7 +3,7 @@ use Prim.Native.Nat.{ℕ}
 use mathlib.Core.Path.{_≡_, refl, sym, ap, _∙_, subst}
 use mathlib.Core.List.{List, [], _++_, append-assoc}
 use native.Mathlib.Omega.{arith}
-use lib.ListN.{length}
+use lib.ListN.{length, length-append}
 use Rattle.text.specs.Text.{ascii}
 use Rattle.wire.specs.declared.check.Verdict.the-variants.{Clear}
 use Rattle.field.specs.Field.{fieldBytes}
@@ -41,7 +41,7 @@ use Rattle.line.specs.Line.{negoLine, negotiateLine, authLine, authenticateLine
 use Rattle.line_chal.specs.Chal.{timeWord, chalEnd, chalWords, chalText}
 use Rattle.line_nl.specs.Nl.{nlOem, nlUtf8, nlText}
 use Rattle.nl_auth_text.specs.StringText.{oemText, utf8Text}
-use Rattle.demands.specs.Ignored.{SameBytes, SameFields, SameAnswer, SameNegotiate, SameChallenge, SameNlAuth, AuthenticateLineIgnored, NegotiateLineIgnored, ChallengeLineIgnored, NtlmLineIgnored, NlAuthLineIgnored}
+use Rattle.demands.specs.Ignored.{SameBytes, SameFields, SameAnswer, SameNegotiate, SameChallenge, SameNlAuth, AuthenticateLineIgnored, NegotiateLineIgnored, ChallengeLineIgnored, MaxWordSaid, NtlmLineIgnored, NlAuthLineIgnored}
 use Rattle.demands.specs.Message.{Format, negotiate, authenticate, challenge, DifferInIgnored}
 use Rattle.demands.specs.MaxLen.{bareAuthenticate, bareChallenge, bareNegotiate, EndsInMax, AlikeToMax}
 use Rattle.demands.specs.TakenExactly.{IsTakenNegotiate, IsTakenChallenge, IsTakenAuthenticate}
@@ -56,6 +56,13 @@ use Rattle.demands.proofs.Ignored.ChallengeIgnored.{challenge-ignored, 
 use Rattle.demands.proofs.Ignored.{authenticate-ignored, seen as authenticate-seen}
 use Rattle.demands.proofs.Message.Unchanged.{Seen, looked}
 use Rattle.demands.proofs.Ignored.NlIgnored.{nl-auth-ignored}
+
+-- two lines that are alike up to their last words
+alike-to : (k : Format) (s t line line′ before : List ℕ) → EndsInMax k s line before → EndsInMax k t line′ before → AlikeToMax k s t line line′
+alike-to k s t line line′ before e f =
+    let same : length (before ++ (ascii " max=" ++ (e .digits ++ lineEnd))) ≡ length (before ++ (ascii " max=" ++ (f .digits ++ lineEnd))) =
+    simp (length-append, e .said .count, f .said .count) in
+    record { before = before; first = e; second = f; same-length = ap length (e .line-is) ∙ same ∙ sym (ap length (f .line-is)) }
 
 -- an AUTHENTICATE line goes by the reading and the names' bytes
 pub auth-line-same : (s t : List ℕ) (r : Reading) → ((a : Message) → r ≡ Taken a → SameFields s t (a .fields)) → authLine s r ≡ authLine t r
@@ -108,11 +115,8 @@ authenticate-line-ignored s t d = (
     taken : (r q : Reading) → readAuthenticate s .reading ≡ r → readAuthenticate t .reading ≡ q → bareAuthenticate r ≡ bareAuthenticate q →
         IsTakenAuthenticate r → AlikeToMax authenticate s t (authLine s r) (authLine t q)
     taken (Taken a) (Taken b) p q e i =
-        record {
-          before = authBefore s a;
-          first = auth-ends s a p;
-          second = subst (EndsInMax authenticate t (authText t b)) (auth-before-same s t a b (w .bytes a p) e) (auth-ends t b q);
-        }
+        alike-to authenticate s t _ _ (authBefore s a) (auth-ends s a p)
+        (subst (EndsInMax authenticate t (authText t b)) (auth-before-same s t a b (w .bytes a p) e) (auth-ends t b q))
     taken (Taken a) (Refused x) p q e i = absurd (let z : _≡_ {A = ℕ} 0 1 = cc in omega arith)
     taken (Refused x) q p r e i = absurd i
 
@@ -180,11 +184,8 @@ challenge-line-ignored s t d = (
     taken : (r q : ChallengeReading) → readChallenge s .reading ≡ r → readChallenge t .reading ≡ q → bareChallenge r ≡ bareChallenge q →
         IsTakenChallenge r → AlikeToMax challenge s t (chalLine s r) (chalLine t q)
     taken (ChallengeTaken c) (ChallengeTaken e) p q same i =
-        record {
-          before = chalBefore s c;
-          first = chal-ends s c p;
-          second = subst (EndsInMax challenge t (chalText t e)) (chal-before-same s t c e (w .target-name c p) (w .target-info c p) same) (chal-ends t e q);
-        }
+        alike-to challenge s t _ _ (chalBefore s c) (chal-ends s c p)
+        (subst (EndsInMax challenge t (chalText t e)) (chal-before-same s t c e (w .target-name c p) (w .target-info c p) same) (chal-ends t e q))
     taken (ChallengeTaken c) (ChallengeRefused x) p q same i = absurd (let z : _≡_ {A = ℕ} 0 1 = cc in omega arith)
     taken (ChallengeRefused x) q p r same i = absurd i
 
@@ -236,11 +237,8 @@ negotiate-line-ignored s t d = (
     taken : (r q : NegotiateReading) → readNegotiate s ≡ r → readNegotiate t ≡ q → bareNegotiate r ≡ bareNegotiate q →
         IsTakenNegotiate r → AlikeToMax negotiate s t (negoLine s r) (negoLine t q)
     taken (NegotiateTaken m) (NegotiateTaken o) p q e i =
-        record {
-          before = negoBefore s m;
-          first = nego-ends s m p;
-          second = subst (EndsInMax negotiate t (negoText t o)) (nego-before-same s t m o (w .domain m p) (w .workstation m p) e) (nego-ends t o q);
-        }
+        alike-to negotiate s t _ _ (negoBefore s m) (nego-ends s m p)
+        (subst (EndsInMax negotiate t (negoText t o)) (nego-before-same s t m o (w .domain m p) (w .workstation m p) e) (nego-ends t o q))
     taken (NegotiateTaken m) (NegotiateRefused x) p q e i = absurd (let z : _≡_ {A = ℕ} 0 1 = cc in omega arith)
     taken (NegotiateRefused x) q p r e i = absurd i
 
@@ -253,6 +251,27 @@ negotiate-line-ignored s t d = (
 pub kind-same : (k : Format) (s t : List ℕ) → Seen k s → DifferInIgnored k s t → kindOf s ≡ kindOf t
 unfolding kindOf
 kind-same k s t seen d = simp (d .length-same, same32 s t 8 (λ p l r. looked k s t seen d p (seen .early p (omega arith))))
+
+pub max-word-said : MaxWordSaid
+unfolding authenticateLine negotiateLine challengeLine
+max-word-said =
+    record {
+      auth = λ s i. auth s (readAuthenticate s .reading) refl i;
+      nego = λ s i. nego s (readNegotiate s) refl i;
+      chal = λ s i. chal s (readChallenge s .reading) refl i;
+    }
+  where
+    auth : (s : List ℕ) (r : Reading) → readAuthenticate s .reading ≡ r → IsTakenAuthenticate r → (before : List ℕ) × EndsInMax authenticate s (authLine s r) before
+    auth s (Taken a) p i = (authBefore s a, auth-ends s a p)
+    auth s (Refused e) p i = absurd i
+
+    nego : (s : List ℕ) (r : NegotiateReading) → readNegotiate s ≡ r → IsTakenNegotiate r → (before : List ℕ) × EndsInMax negotiate s (negoLine s r) before
+    nego s (NegotiateTaken m) p i = (negoBefore s m, nego-ends s m p)
+    nego s (NegotiateRefused e) p i = absurd i
+
+    chal : (s : List ℕ) (r : ChallengeReading) → readChallenge s .reading ≡ r → IsTakenChallenge r → (before : List ℕ) × EndsInMax challenge s (chalLine s r) before
+    chal s (ChallengeTaken c) p i = (chalBefore s c, chal-ends s c p)
+    chal s (ChallengeRefused e) p i = absurd i
 
 pub ntlm-line-ignored : NtlmLineIgnored
 unfolding ntlmLine
