@@ -29,7 +29,7 @@ use Rattle.c_number.specs.Number.{writtenNumber}
 use Rattle.demands.specs.Answers.{TellsWritten}
 use Rattle.demands.specs.Order.{placeIn}
 use Rattle.demands.specs.WrittenExactly.{WrittenExactly}
-use Rattle.demands.specs.HeaderLine.{decodedSize, ImportFails, importOrder, HeaderIsImported, lineSize, ExportFails, HeaderIsExported, ExportKept, ImportKept, ExportTells, ImportTells, ExportShort, ImportShort, Gives, Bytes, ImportOfExport, LineOf, OneMessage, CaseAndSpacesIgnored, BytesUnread, EveryByteCounts, WorkedLines}
+use Rattle.demands.specs.HeaderLine.{ExportIs, decodedSize, ImportFails, importOrder, HeaderIsImported, lineSize, ExportFails, HeaderIsExported, ExportKept, ImportKept, ExportTells, ImportTells, ExportShort, ImportShort, Gives, Bytes, ImportOfExport, LineOf, OneMessage, CaseAndSpacesIgnored, BytesUnread, EveryByteCounts, WorkedLines}
 use Rattle.demands.proofs.Bools.{failed-false, chained, after-held, both-ways}
 use Rattle.demands.proofs.Answers.Told.{tells-refusal, tells-length}
 use Rattle.demands.proofs.Kept.{by-verdict as kept-by-verdict}
@@ -204,6 +204,10 @@ module _ (bytes out : List ℕ) (n : ℕ) where
 exported : (out m : List ℕ) (n : ℕ) → exportAnswer (length out) m ≡ Length n → take n (exportOut out m) ≡ headerLine m
 unfolding exportAnswer exportOut
 exported out m n h = front (headerLine m) out n (checkExport (length out) m) h
+
+pub export-is : ExportIs
+unfolding headerLine
+export-is out m n h = exported out m n h
 
 short-message : (room : ℕ) (m : List ℕ) (n : ℕ) → exportAnswer room m ≡ Length n → length m ≤ 65535
 unfolding exportAnswer checkExport

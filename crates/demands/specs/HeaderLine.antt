@@ -1,6 +1,6 @@
 -- Document 02, 12/12: "Carry messages in HTTP header lines." A line is spoken of by the positions of its bytes, and the output by
--- its length; nothing here names a definition of export or import but their answers and outputs. "Exported text holds secrets and
--- stays out of every log": no crate of a line, and no program, uses `http_header` (crates.txt).
+-- its length; beside their answers and outputs nothing here names a definition of export or import, but for `ExportIs`. "Exported
+-- text holds secrets and stays out of every log": no crate of a line, and no program, uses `http_header` (crates.txt).
 use Prim.Native.Nat.{ℕ, _+_, _-_, _*_, _/_, _%_, _≤_, _<_}
 use mathlib.Core.Path.{_≡_}
 use mathlib.Core.Bool.{cond}
@@ -10,6 +10,7 @@ use lib.Dec.{eqb}
 use lib.ListN.{length, take, drop, getD, replicate}
 use Rattle.text.specs.Text.{ascii}
 use Rattle.place.specs.declared.written.Written.the-variants.{Length}
+use Rattle.base64.specs.Base64.{alphabet, encode}
 use Rattle.http_header.specs.HttpHeader.{exportAnswer, exportOut, importAnswer, importOut}
 use Rattle.c_number.specs.Number.{writtenNumber}
 use Rattle.demands.specs.Answers.{TellsWritten}
@@ -115,6 +116,15 @@ ExportFails room m n i =
 
 abbrev pub HeaderIsExported : Type 0
 HeaderIsExported = (room : ℕ) (m : List ℕ) → WrittenExactly (exportAnswer room m) (1 ∷ 33 ∷ []) (ExportFails room m) (lineSize m)
+
+-- what is written: "the scheme word `NTLM`, one space, and the message in RFC 4648 section 4 base64 with padding"
+abbrev pub ExportIs : Type 0
+ExportIs =
+    (out m : List ℕ) (n : ℕ) → exportAnswer (length out) m ≡ Length n → take n (exportOut out m) ≡ ascii "NTLM " ++ encode m
+
+-- with the table above
+abbrev pub OneTable : Type 0
+OneTable = characters ≡ alphabet
 
 -- "no lent byte changed"; and a success changes only the bytes that it writes
 abbrev pub ExportKept : Type 0

@@ -80,6 +80,10 @@ module _ (s : List ℕ) (e : Refusal) (number at : ℕ) (p : Placed e (length s)
   pub size-there : NumberThere number (at + 2) (length s)
   size-there = record { there = λ h. omega (arith, p .there (rw i at h)) }
 
+pub no-figures-are : (head : Field) → head ≡ noField →
+    record { number = 0; field = 0; head = head; message = 0; at = 0; id = 0; size = 0 } ≡ noFigures
+no-figures-are head h = rw h
+
 pub figures-are : (s : List ℕ) (head : Field) (e : Refusal) (number field message at id size : ℕ) →
     number ≡ numberOf e → field ≡ fieldOf e → message ≡ min (length s) 65536 → at ≡ placeOf e →
     id ≡ ofPair number (u16At s at) → size ≡ ofPair number (u16At s (at + 2)) →

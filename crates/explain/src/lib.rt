@@ -3,6 +3,7 @@ ghost use mathlib.Core.Path.{_≡_};
 ghost use Prim.Native.Nat.{min};
 ghost use lib.ListN.{length};
 ghost use Rattle.wire.specs.Number.{u16At};
+ghost use Rattle.field.specs.Field.{noField};
 ghost use Rattle.head.specs.declared.Kind.the-variants.{Negotiate, Challenge, Authenticate};
 ghost use Rattle.place.specs.Written.{bytesAnswer, bytesAfter};
 ghost use Rattle.explain.specs.Explain.{fieldsOf, numbered, ofPair, figuresOf, noFigures, figuresAs, explanation, FixedPart, NumberThere, Placed};
@@ -22,6 +23,16 @@ use wire::refusal::Refusal;
 
 // ---- the head of the field that a check failed at; none for field 0
 
+fn no_field() -> Field
+    ensures { λ r. ⌜ r ≡ noField ⌝ }
+{
+    Field {
+        offset: 0,
+        len: 0,
+        max_len: 0,
+    }
+}
+
 fn negotiate_head(msg: &[u8], field: u8) -> Field
     requires { ⌜ FixedPart 32 field (length (now msg)) ⌝ }
     ensures { λ r. ⌜ r ≡ numbered field (fieldsOf Negotiate (now (msg .entry))) ⌝ }
@@ -32,11 +43,7 @@ fn negotiate_head(msg: &[u8], field: u8) -> Field
     if field == 2 {
         return field_at(msg, 24, flags_at(msg, 12).oem_workstation_supplied());
     }
-    Field {
-        offset: 0,
-        len: 0,
-        max_len: 0,
-    }
+    no_field()
 }
 
 fn challenge_head(msg: &[u8], field: u8) -> Field
@@ -49,11 +56,7 @@ fn challenge_head(msg: &[u8], field: u8) -> Field
     if field == 2 {
         return field_at(msg, 40, flags_at(msg, 20).target_info());
     }
-    Field {
-        offset: 0,
-        len: 0,
-        max_len: 0,
-    }
+    no_field()
 }
 
 fn authenticate_head(msg: &[u8], field: u8) -> Field
@@ -78,11 +81,7 @@ fn authenticate_head(msg: &[u8], field: u8) -> Field
     if field == 6 {
         return field_at(msg, 52, flags_at(msg, 60).key_exch());
     }
-    Field {
-        offset: 0,
-        len: 0,
-        max_len: 0,
-    }
+    no_field()
 }
 
 // ---- the figures
@@ -133,11 +132,7 @@ fn no_figures() -> Figures
     Figures {
         number: 0,
         field: 0,
-        head: Field {
-            offset: 0,
-            len: 0,
-            max_len: 0,
-        },
+        head: no_field(),
         message: 0,
         at: 0,
         id: 0,

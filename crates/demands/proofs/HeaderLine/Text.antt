@@ -12,12 +12,12 @@ use Rattle.wire.proofs.Bools.{and-left, and-right}
 use Rattle.base64.specs.Base64.{alphabet, letter, isLetter, valueOf, groupHolds, isEmpty, isBase64, decode}
 use Rattle.base64.proofs.Alphabet.{value-letter, is-letter, letter-value, value-small, pad-no-letter}
 use Rattle.base64.proofs.Size.{decoded-length}
-use Rattle.demands.specs.HeaderLine.{characters, HasValue, NotBase64, decodedSize}
+use Rattle.demands.specs.HeaderLine.{characters, OneTable, HasValue, NotBase64, decodedSize}
 use Rattle.demands.proofs.Bools.{true-not-false, both-ways, or-either}
 
 -- ---- characters
 
-one-table : characters ≡ alphabet
+pub one-table : OneTable
 unfolding characters alphabet
 one-table = refl
 

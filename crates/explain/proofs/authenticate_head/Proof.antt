@@ -17,4 +17,4 @@ authenticate-head-spec =
     (λ c κs. search in-fixed) (λ c. search branches depth 14 fits 100000)
     (λ c κs. search in-fixed) (λ c. search branches depth 14 fits 100000)
     (λ c κs. search in-fixed) (λ c κs. search needs) (λ c κs. search in-fixed)
-    (λ c. search (branches, key-head) depth 14 fits 100000) (λ c. search branches depth 14 fits 100000))
+    (λ c. search (branches, key-head) depth 14 fits 100000) (λ c κs. search needs) (λ c. search branches depth 14 fits 100000))

@@ -13,4 +13,4 @@ challenge-head-spec =
     (tie.spec
     (λ c κs. search in-fixed) (λ c κs. search needs) (λ c κs. search in-fixed) (λ c. search (branches, name-head))
     (λ c κs. search in-fixed) (λ c κs. search needs) (λ c κs. search in-fixed) (λ c. search (branches, info-head) depth 8 fits 20000)
-    (λ c. search branches))
+    (λ c κs. search needs) (λ c. search branches))

@@ -13,4 +13,4 @@ negotiate-head-spec =
     (tie.spec
     (λ c κs. search in-fixed) (λ c κs. search needs) (λ c κs. search in-fixed) (λ c. search (branches, domain-head))
     (λ c κs. search in-fixed) (λ c κs. search needs) (λ c κs. search in-fixed) (λ c. search (branches, workstation-head) depth 8 fits 20000)
-    (λ c. search branches))
+    (λ c κs. search needs) (λ c. search branches))
