@@ -37,3 +37,4 @@ pub mod Canonical
 pub mod Mic
 pub mod HeaderLine
 pub mod First64
+pub mod MicExample
