@@ -1,8 +1,13 @@
 -- A sign-in's MIC, computed from the definitions.
-use Prim.Native.Nat.{ℕ}
-use mathlib.Core.Path.{_≡_, refl}
-use mathlib.Core.Bool.{true, false}
+use Prim.Native.Nat.{ℕ, _≤_, _<_}
+use mathlib.Core.Path.{_≡_, refl, sym}
+use mathlib.Core.Logic.{_⊎_, inl, inr}
+use mathlib.Core.Bool.{Bool, true, false}
 use native.Mathlib.Omega.{arith}
+use lib.Dec.{eqb}
+use lib.ListN.{getD}
+use lib.Seq.{getD-set-other}
+use borrow.Author.Tests.{eqb-true, eqb-false}
 use Rattle.wire.specs.declared.check.Verdict.the-variants.{Clear}
 use Rattle.wire.specs.declared.refusal.Refusal.the-variants.{WrongSessionKey}
 use Rattle.field.specs.Field.{fieldAt, fieldBytes}
@@ -18,7 +23,8 @@ use Rattle.hmac_md5.specs.Hmac.{filledOut, keyBlock, hmac}
 use Rattle.mic.specs.declared.Checking.the-variants.{Compared, Refused}
 use Rattle.mic.specs.Mic.{zeroed, micOf, checkMessages, workOut, checkMic}
 use Rattle.demands.specs.TakenExactly.{InfoBytes}
-use Rattle.demands.specs.MicExample.{key, nego, chal, info, auth, mic, otherChal, MicExample}
+use Rattle.demands.specs.Mic.{DifferInMic}
+use Rattle.demands.specs.MicExample.{key, nego, chal, info, auth, mic, otherChal, otherAuth, MicExample}
 use Rattle.demands.proofs.Mic.{mic-exactly, mic-agree}
 
 bytes-of-info : InfoBytes chal info
@@ -35,32 +41,38 @@ bytes-of-other =
       absent = λ no. absurd (no (record { first = omega arith; last = omega arith; counts = (λ e. refl, λ e. refl); some = omega arith }));
     }
 
-clear : checkMessages 16 nego chal auth ≡ Clear
+-- the three readings, and those with another challenge and another MIC
+clear : (checkMessages 16 nego chal auth ≡ Clear) × (checkMessages 16 nego otherChal auth ≡ Clear) × (checkMessages 16 nego chal otherAuth ≡ Clear)
 unfolding checkMessages readNegotiate negotiateFieldsAt negotiateEnds negotiateBegins negotiateChecks readHead signatureHolds fieldAt fieldBytes readChallenge challengeReadingOf checkInfo fieldsOf challengeFieldsAt challengeEnds challengeBegins challengeNames challengeChecks checkPairs stepAt pairOf left readAuthenticate readingOf fieldsAt checkEnds checkBegins checkNames checkShared checkFields micPresent
-clear = refl
-
-other-clear : checkMessages 16 nego otherChal auth ≡ Clear
-unfolding checkMessages readNegotiate negotiateFieldsAt negotiateEnds negotiateBegins negotiateChecks readHead signatureHolds fieldAt fieldBytes readChallenge challengeReadingOf checkInfo fieldsOf challengeFieldsAt challengeEnds challengeBegins challengeNames challengeChecks checkPairs stepAt pairOf left readAuthenticate readingOf fieldsAt checkEnds checkBegins checkNames checkShared checkFields micPresent
-other-clear = refl
+clear = (refl, refl, refl)
 
 worked-out : micOf key nego chal auth ≡ mic
 unfolding sines step steppedBy turns round added blockTaken padding start wordBytes md5 filledOut keyBlock hmac zeroed micOf
 worked-out = refl
 
-no-other : checkMic key nego otherChal auth ≡ Compared false
+no : (checkMic key nego otherChal auth ≡ Compared false) × (checkMic key nego chal otherAuth ≡ Compared false)
 unfolding sines step steppedBy turns round added blockTaken padding start wordBytes md5 filledOut keyBlock hmac zeroed micOf checkMic
-no-other = rw other-clear refl
+no = (rw (clear .1) refl, rw (clear .2) refl)
+
+-- byte 72 is one of the MIC's
+differs : DifferInMic auth otherAuth
+differs = record { length-same = refl; elsewhere = λ p. go p (eqb p 72) refl } where
+  go : (p : ℕ) (b : Bool) → eqb p 72 ≡ b → (getD auth p 0 ≡ getD otherAuth p 0) ⊎ ((72 ≤ p) × (p < 88))
+  go p true e = let h = eqb-true p 72 e in inr (omega (arith, h), omega (arith, h))
+  go p false e = inl (sym (getD-set-other auth 72 p 0xB7 0 (eqb-false p 72 e)))
 
 pub mic-example : MicExample
 unfolding workOut checkMic checkMessages
 mic-example =
     record {
       info-bytes = bytes-of-info;
-      holds = mic-exactly key nego chal info auth bytes-of-info .0 .0 clear;
-      verdict = clear;
-      worked = simp (clear, worked-out);
-      yes = mic-agree key nego chal auth .yes .1 (clear, simp (clear, worked-out));
-      other-holds = mic-exactly key nego otherChal info auth bytes-of-other .0 .0 other-clear;
-      no = no-other;
+      holds = mic-exactly key nego chal info auth bytes-of-info .0 .0 (clear .0);
+      verdict = clear .0;
+      worked = simp (clear .0, worked-out);
+      yes = mic-agree key nego chal auth .yes .1 (clear .0, simp (clear .0, worked-out));
+      other-holds = mic-exactly key nego otherChal info auth bytes-of-other .0 .0 (clear .1);
+      no = no .0;
+      differ = differs;
+      other-mic = no .1;
       short-key = refl;
     }

@@ -9,7 +9,7 @@ use Rattle.wire.specs.declared.refusal.Refusal.the-variants.{WrongSessionKey}
 use Rattle.mic.specs.declared.Checking.the-variants.{Compared, Refused}
 use Rattle.mic.specs.Mic.{workOut, checkMic}
 use Rattle.demands.specs.TakenExactly.{InfoBytes}
-use Rattle.demands.specs.Mic.{MicHolds}
+use Rattle.demands.specs.Mic.{MicHolds, DifferInMic}
 
 -- the exported session key
 abbrev pub key : List ℕ
@@ -61,6 +61,10 @@ mic =
 abbrev pub otherChal : List ℕ
 otherChal = set chal 24 0x6D
 
+-- another first byte of the MIC
+abbrev pub otherAuth : List ℕ
+otherAuth = set auth 72 0xB7
+
 pub record MicExample : Type 0 where
   pub info-bytes : InfoBytes chal info
   pub holds : MicHolds 16 nego chal info auth
@@ -70,4 +74,7 @@ pub record MicExample : Type 0 where
   -- "no" for another challenge, of which all the rest still holds
   pub other-holds : MicHolds 16 nego otherChal info auth
   pub no : checkMic key nego otherChal auth ≡ Compared false
+  -- and for a message that differs in its MIC alone
+  pub differ : DifferInMic auth otherAuth
+  pub other-mic : checkMic key nego chal otherAuth ≡ Compared false
   pub short-key : checkMic (take 15 key) nego chal auth ≡ Refused WrongSessionKey
