@@ -9,7 +9,6 @@ use lib.ListN.{getD}
 use lib.Seq.{getD-set-other}
 use borrow.Author.Tests.{eqb-true, eqb-false}
 use Rattle.wire.specs.declared.check.Verdict.the-variants.{Clear}
-use Rattle.wire.specs.declared.refusal.Refusal.the-variants.{WrongSessionKey}
 use Rattle.field.specs.Field.{fieldAt, fieldBytes}
 use Rattle.head.specs.Head.{signatureHolds, readHead}
 use Rattle.negotiate.specs.Negotiate.{fieldsAt as negotiateFieldsAt, checkEnds as negotiateEnds, checkBegins as negotiateBegins, checkFields as negotiateChecks, readNegotiate}
@@ -20,7 +19,7 @@ use Rattle.md5.specs.Words.{sines}
 use Rattle.md5.specs.Block.{step, steppedBy, turns, round, added, blockTaken}
 use Rattle.md5.specs.Digest.{padding, start, wordBytes, md5}
 use Rattle.hmac_md5.specs.Hmac.{filledOut, keyBlock, hmac}
-use Rattle.mic.specs.declared.Checking.the-variants.{Compared, Refused}
+use Rattle.mic.specs.declared.Checking.the-variants.{Compared}
 use Rattle.mic.specs.Mic.{zeroed, micOf, checkMessages, workOut, checkMic}
 use Rattle.demands.specs.TakenExactly.{InfoBytes}
 use Rattle.demands.specs.Mic.{DifferInMic}

@@ -59,7 +59,7 @@ use Rattle.c_respond.specs.Settings.{settingsOf}
 use Rattle.c_respond.specs.Respond.{decidedOutcome}
 use Rattle.target_info.specs.TargetInfo.{firstPair, findPair, timestampIn, serverNamesIn}
 use Rattle.mic.specs.Mic.{keyHolds as sessionKeyHolds, negotiateVerdict, challengeVerdict, authenticateVerdict, checkMessages, whenClear, micOf, workOut}
-use Rattle.c_mic.specs.Numbers.{handedOut, micOutcome}
+use Rattle.c_mic.specs.Numbers.{handedOut}
 use Rattle.demands.specs.Answers.{Writing, write-negotiate, write-authenticate, write-nl-auth-request, write-nl-auth-response, write-response-pairs, writingAnswer}
 use Rattle.demands.specs.FromC.{Call, read-negotiate, read-timestamp, read-server-names, read-nl-auth, count-pairs, find-pair, next-pair, decide, work-out-mic, outcome, TwoArrayCall, read-authenticate, read-challenge, twoArrayOutcome}
 use Rattle.demands.specs.Message.{Format, negotiate, authenticate, challenge, Fails}

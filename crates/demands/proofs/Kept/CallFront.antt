@@ -53,7 +53,7 @@ use Rattle.target_info.specs.TargetInfo.{findPair}
 use Rattle.md5.specs.Digest.{wordBytes, md5}
 use Rattle.hmac_md5.specs.Hmac.{hmac}
 use Rattle.mic.specs.Mic.{micOf, checkMessages, whenClear, workOut}
-use Rattle.c_mic.specs.Numbers.{handedOut, micOutcome}
+use Rattle.c_mic.specs.Numbers.{handedOut}
 use Rattle.demands.specs.FromC.{Call, read-negotiate, read-timestamp, read-server-names, read-nl-auth, count-pairs, find-pair, next-pair, decide, work-out-mic, count, outcome, TwoArrayCall, read-authenticate, read-challenge, numberCount, byteCount, twoArrayOutcome, bytesBeside}
 use Rattle.demands.specs.Kept.{Front, Handed, CallFront, TwoArraysFront}
 use Rattle.demands.proofs.OwnBytes.ChallengeOwn.{taken-as}
