@@ -1,5 +1,4 @@
 -- A night's messages: what each place is answered, and what the answers depend on.
-pub mod First64
 pub mod Example
 use Prim.Native.Nat.{ℕ, zero, suc, _+_, _≤_, _<_}
 use mathlib.Core.Path.{_≡_, refl, sym, ap, _∙_}
@@ -28,7 +27,7 @@ use Rattle.demands.proofs.Alike.{same-part}
 use Rattle.demands.proofs.Explained.{taken-clear, refused-not, Either, either, refused-is}
 use Rattle.demands.proofs.Explained.Reasons.{why}
 use Rattle.demands.proofs.Explained.Same.{ignored-read}
-use Rattle.demands.proofs.Batch.First64.{negotiate-same, authenticate-same}
+use Rattle.demands.proofs.First64.{negotiate-same, authenticate-same}
 
 -- ---- a single call's numbers
 

@@ -36,3 +36,5 @@ pub mod MaxLen
 pub mod Canonical
 pub mod Mic
 pub mod HeaderLine
+pub mod First64
+pub mod MicExample

@@ -3,11 +3,11 @@ use Prim.Native.Nat.{ℕ, _+_, _≤_, _<_}
 use mathlib.Core.Path.{_≡_, refl, sym, ap, _∙_, subst}
 use mathlib.Core.Logic.{_⊎_, inl, inr, ⊎-elim, _↔_}
 use mathlib.Core.Bool.{Bool, true, false}
-use mathlib.Core.List.{List, _++_}
+use mathlib.Core.List.{List}
 use native.Mathlib.Omega.{arith}
-use borrow.Author.Tests.{eqb-true, eqb-false, ne-eqb, leb-true}
+use borrow.Author.Tests.{eqb-true, eqb-false, ne-eqb, leb-true, leb-false, le-leb}
 use lib.Dec.{eqb, leb}
-use lib.ListN.{length, getD, take, drop, replicate, length-take, length-drop}
+use lib.ListN.{length, getD, take, drop, length-take, length-drop}
 use lib.Seq.{ext-getD, getD-take, getD-drop, take-all}
 use Rattle.wire.specs.declared.check.Verdict.{Verdict}
 use Rattle.wire.specs.declared.check.Verdict.the-variants.{Clear, Refused as Not}
@@ -17,11 +17,7 @@ use Rattle.wire.specs.Check.{checked, after, onClear}
 use Rattle.wire.specs.Number.{standsAt}
 use Rattle.wire.specs.Refusal.{numberOf, fieldOf, placeOf}
 use Rattle.wire.proofs.Places.{placeless-number}
-use Rattle.head.specs.Head.{flagsAt, signatureHolds, readHead}
 use Rattle.head.proofs.Stands.{stands, stand}
-use Rattle.field.specs.Field.{fieldAt}
-use Rattle.negotiate_flags.specs.declared.NegotiateFlags.{NegotiateFlags}
-use Rattle.negotiate_flags.specs.Flags.{keyExch}
 use Rattle.negotiate.specs.declared.Reading.{Reading as NegotiateReading}
 use Rattle.negotiate.specs.declared.Reading.the-variants.{Taken as NegotiateTaken, Refused as NegotiateRefused}
 use Rattle.negotiate.specs.Negotiate.{readNegotiate}
@@ -31,28 +27,33 @@ use Rattle.challenge.specs.Challenge.{readChallenge}
 use Rattle.authenticate.specs.declared.Authenticate.{Authenticate}
 use Rattle.authenticate.specs.declared.Reading.{Reading as AuthenticateReading}
 use Rattle.authenticate.specs.declared.Reading.the-variants.{Taken as AuthenticateTaken, Refused as AuthenticateRefused}
-use Rattle.authenticate.specs.Authenticate.{layout, fieldsAt, readingOf, readAuthenticate}
-use Rattle.md5.specs.Digest.{wordBytes, md5}
-use Rattle.hmac_md5.specs.Hmac.{hmac}
+use Rattle.authenticate.specs.Authenticate.{readAuthenticate}
 use Rattle.mic.specs.declared.Checking.{Checking}
 use Rattle.mic.specs.declared.Checking.the-variants.{Compared, Refused}
 use Rattle.mic.specs.Mic.{zeroed, micOf, negotiateVerdict, challengeVerdict, authenticateVerdict, checkMessages, whenClear, workOut, checkMic}
 use Rattle.mic.proofs.Laws.{passed}
 use Rattle.place.specs.Written.{roomHolds}
-use Rattle.c_number.specs.Number.{refusalNumber}
-use Rattle.c_number.specs.Outcome.{callNumber, callOut, outcomeNumber, outcomeOut}
-use Rattle.c_mic.specs.Numbers.{handedOut, micOutcome}
+use Rattle.c_number.specs.Number.{refusalNumber, bit}
+use Rattle.c_number.specs.Outcome.{callNumber, callOut, outcomeNumber}
+use Rattle.c_mic.specs.Numbers.{handedOut, micOutcome, checkingNumber}
+use Rattle.demands.specs.Answers.{isRefused, TellsLength, TellsRefusal, TellsOutcome, TellsVerdict}
+use Rattle.demands.specs.FromC.{work-out-mic}
 use Rattle.demands.specs.Kept.{Front}
-use Rattle.demands.specs.Message.{Format, negotiate, authenticate, Fails, MicThere}
+use Rattle.demands.specs.Message.{Format, negotiate, challenge, authenticate, Fails, MicThere}
 use Rattle.demands.specs.Order.{First}
-use Rattle.demands.specs.TakenExactly.{RefusalIs, IsTakenNegotiate, NegotiateRefusedWith, IsTakenChallenge, ChallengeRefusedWith, AuthenticateRefusedWith, InfoBytes, ChallengeHolds, ChallengeFails}
-use Rattle.demands.specs.Mic.{MicHolds, MicFails, wrong-key, in-negotiate, in-challenge, in-authenticate, no-mic, VerdictAt, MicExactly, MicIs, Agree, MicAgree, DifferInMic, MicBlind, MicSecret, MicKept}
-use Rattle.demands.proofs.Alike.{same-part, same16, same32}
-use Rattle.demands.proofs.Kept.CallFront.{at-front}
+use Rattle.demands.specs.TakenExactly.{RefusalIs, IsTakenNegotiate, NegotiateRefusedWith, IsTakenChallenge, ChallengeRefusedWith, AuthenticateRefusedWith, InfoBytes, ChallengeHolds, ChallengeFails, in-fields, in-list}
+use Rattle.demands.specs.Mic.{MicHolds, MicFails, wrong-key, in-negotiate, in-challenge, in-authenticate, no-mic, VerdictAt, MicExactly, MicIs, micNumber, MicTells, TellsChecking, CheckMicTells, Agree, MicAgree, DifferInMic, MicBlind, MicSecret, MicUnwritten, MicKept}
+use Rattle.demands.proofs.Alike.{same-part}
+use Rattle.demands.proofs.Answers.{call-tells}
+use Rattle.demands.proofs.Answers.SmallFields.{SmallV, mic-small}
+use Rattle.demands.proofs.Answers.Told.{tells-length, tells-refusal}
+use Rattle.demands.proofs.First64.{authenticate-same}
+use Rattle.demands.proofs.Kept.CallFront.{at-front, mic-length}
 use Rattle.demands.proofs.Order.{only-first}
+use Rattle.demands.proofs.PairList.{first-number}
 use Rattle.demands.proofs.OwnBytes.{none-fails, authenticate-own}
 use Rattle.demands.proofs.TakenExactly.{authenticate-refused}
-use Rattle.demands.proofs.TakenExactly.Challenge.{holds-or-fails, one-reason, challenge-taken, challenge-refused}
+use Rattle.demands.proofs.TakenExactly.Challenge.{info-there, holds-or-fails, one-reason, challenge-taken, challenge-refused}
 use Rattle.demands.proofs.TakenExactly.Negotiate.{negotiate-taken, negotiate-refused}
 
 true-not-false : {A : Type 0} → true ≡ false → A
@@ -177,14 +178,6 @@ mic-is key nego chal auth h = simp h
 
 -- ---- sixteen bytes, and whether they stand at 72
 
-digest-length : (m : List ℕ) → length (md5 m) ≡ 16
-unfolding md5 wordBytes
-digest-length m = refl
-
-mic-length : (key nego chal auth : List ℕ) → length (micOf key nego chal auth) ≡ 16
-unfolding micOf hmac
-mic-length key nego chal auth = digest-length _
-
 -- byte k of a MIC that is there
 byte-at : (auth : List ℕ) (k : ℕ) → k < 16 → getD (take 16 (drop 72 auth)) k 0 ≡ getD auth (72 + k) 0
 byte-at auth k l = getD-take 16 (drop 72 auth) k 0 l ∙ getD-drop 72 auth k 0
@@ -201,12 +194,19 @@ same-there auth mic n e =
 
 -- ---- the two calls agree
 
+-- an answer is no refusal
+not-refused : (b : Bool) → isRefused (bit b) ≡ 0
+not-refused true = refl
+not-refused false = refl
+
 pub mic-agree : MicAgree
-unfolding workOut checkMic
+unfolding workOut checkMic callNumber
 mic-agree key nego chal auth =
     record {
       refused = refused-both (checkMessages (length key) nego chal auth) (standsAt auth 72 mic);
       yes = yes-both (checkMessages (length key) nego chal auth) refl;
+      refused-from-c = λ room l. simp (le-leb 16 room l) (top-same (checkMessages (length key) nego chal auth) (standsAt auth 72 mic));
+      same-number = λ room l h. simp (le-leb 16 room l) (number-same (checkMessages (length key) nego chal auth) (standsAt auth 72 mic) h);
     }
   where
     mic : List ℕ
@@ -216,6 +216,15 @@ mic-agree key nego chal auth =
     refused-both Clear b e = (λ h. absurd (let z : _≡_ {A = ℕ} 0 1 = cc in omega arith), λ h. absurd (let z : _≡_ {A = ℕ} 0 1 = cc in omega arith))
     refused-both (Not d) b e = (λ h. cc, λ h. cc)
 
+    top-same : (v : Verdict) (b : Bool) → isRefused (outcomeNumber (handedOut v (whenClear v mic))) ≡ isRefused (checkingNumber (onClear Refused v (Compared b)))
+    top-same Clear b = sym (not-refused b)
+    top-same (Not e) b = refl
+
+    number-same : (v : Verdict) (b : Bool) → isRefused (checkingNumber (onClear Refused v (Compared b))) ≡ 1 →
+        outcomeNumber (handedOut v (whenClear v mic)) ≡ checkingNumber (onClear Refused v (Compared b))
+    number-same Clear b h = absurd (omega (arith, not-refused b, h))
+    number-same (Not e) b h = refl
+
     yes-both : (v : Verdict) → checkMessages (length key) nego chal auth ≡ v →
         (onClear Refused v (Compared (standsAt auth 72 mic)) ≡ Compared true) ↔ ((v ≡ Clear) × (take 16 (drop 72 auth) ≡ whenClear v mic))
     yes-both Clear e = (
@@ -224,32 +233,12 @@ mic-agree key nego chal auth =
     )
     yes-both (Not d) e = (λ h. absurd (let z : _≡_ {A = ℕ} 0 1 = cc in omega arith), λ h. absurd (let q : Not d ≡ Clear = h .0 in let z : _≡_ {A = ℕ} 0 1 = cc in omega arith))
 
--- ---- what the AUTHENTICATE's reading depends on
+-- ---- what the verdict depends on
 
-module _ (s t : List ℕ) (long : length s ≡ length t) (first : (p : ℕ) → p < 64 → getD s p 0 ≡ getD t p 0) where
-  -- MaxLen too stands within the head
-  field-same : (at : ℕ) (c : Bool) → at + 8 ≤ 64 → fieldAt s at c ≡ fieldAt t at c
-  unfolding fieldAt
-  field-same at c l =
-      simp (same16 s t at (λ p a b. first p (omega arith)), same16 s t (at + 2) (λ p a b. first p (omega arith)), same32 s t (at + 4) (λ p a b. first p (omega arith)))
-
-  fields-same : (w : NegotiateFlags) → fieldsAt s w ≡ fieldsAt t w
-  unfolding fieldsAt
-  fields-same w =
-      simp (field-same 12 true (omega arith), field-same 20 true (omega arith), field-same 28 true (omega arith), field-same 36 true (omega arith), field-same 44 true (omega arith), field-same 52 (keyExch w) (omega arith))
-
-  head-same : readHead layout s ≡ readHead layout t
-  unfolding readHead signatureHolds
-  head-same =
-      simp (long, first 0 (omega arith), first 1 (omega arith), first 2 (omega arith), first 3 (omega arith), first 4 (omega arith), first 5 (omega arith), first 6 (omega arith), first 7 (omega arith), first 8 (omega arith), first 9 (omega arith), first 10 (omega arith), first 11 (omega arith), first 60 (omega arith), first 61 (omega arith), first 62 (omega arith), first 63 (omega arith))
-
-  reading-same : readAuthenticate s .reading ≡ readAuthenticate t .reading
-  unfolding readAuthenticate readingOf
-  reading-same = simp (head-same, long, fields-same)
-
-  verdict-same : (n : ℕ) (nego chal : List ℕ) → checkMessages n nego chal s ≡ checkMessages n nego chal t
-  unfolding checkMessages
-  verdict-same n nego chal = simp reading-same
+verdict-same : (s t : List ℕ) → length s ≡ length t → ((p : ℕ) → p < 64 → getD s p 0 ≡ getD t p 0) → (n : ℕ) (nego chal : List ℕ) →
+    checkMessages n nego chal s ≡ checkMessages n nego chal t
+unfolding checkMessages
+verdict-same s t long first n nego chal = simp (authenticate-same s t long first)
 
 -- ---- the MIC's own bytes
 
@@ -272,13 +261,25 @@ number-by : (v : Verdict) (a b : List ℕ) → outcomeNumber (handedOut v a) ≡
 number-by Clear a b = refl
 number-by (Not e) a b = refl
 
+-- the same of a check, where it is refused
+checked-by : (v : Verdict) (a b : Bool) → isRefused (checkingNumber (onClear Refused v (Compared a))) ≡ isRefused (checkingNumber (onClear Refused v (Compared b)))
+checked-by Clear a b = not-refused a ∙ sym (not-refused b)
+checked-by (Not e) a b = refl
+
+refused-by : (v : Verdict) (a b : Bool) → isRefused (checkingNumber (onClear Refused v (Compared a))) ≡ 1 →
+    checkingNumber (onClear Refused v (Compared a)) ≡ checkingNumber (onClear Refused v (Compared b))
+refused-by Clear a b h = absurd (omega (arith, not-refused a, h))
+refused-by (Not e) a b h = refl
+
 pub mic-secret : MicSecret
-unfolding workOut callNumber
+unfolding workOut checkMic callNumber
 mic-secret key key′ nego chal s t k long first =
     let v : checkMessages (length key) nego chal s ≡ checkMessages (length key′) nego chal t =
     verdict-same s t long first (length key) nego chal ∙ ap (λ (n : ℕ). checkMessages n nego chal t) k in
     let p = mic-agree key nego chal s in
     let q = mic-agree key′ nego chal t in
+    let yes = standsAt s 72 (micOf key nego chal s) in
+    let yes′ = standsAt t 72 (micOf key′ nego chal t) in
     record {
       worked = v;
       checked = λ e. (λ h. q .refused e .1 (sym v ∙ p .refused e .0 h), λ h. p .refused e .1 (v ∙ q .refused e .0 h));
@@ -286,20 +287,93 @@ mic-secret key key′ nego chal s t k long first =
           ap (λ (x : ℕ). after (roomHolds 16 room) (refusalNumber NoRoom) x)
           (ap (λ (w : Verdict). outcomeNumber (handedOut w (whenClear (checkMessages (length key) nego chal s) (micOf key nego chal s)))) v
           ∙ number-by (checkMessages (length key′) nego chal t) _ _);
+      check-refused =
+          checked-by (checkMessages (length key) nego chal s) yes yes′
+          ∙ ap (λ (w : Verdict). isRefused (checkingNumber (onClear Refused w (Compared yes′)))) v;
+      check-from-c = λ h.
+          refused-by (checkMessages (length key) nego chal s) yes yes′ h
+          ∙ ap (λ (w : Verdict). checkingNumber (onClear Refused w (Compared yes′))) v;
     }
+
+-- ---- from C
+
+pub mic-tells : MicTells
+unfolding workOut
+mic-tells room key nego chal auth =
+    let w = call-tells (work-out-mic key nego chal auth) room in
+    (w .0, λ l. go (checkMessages (length key) nego chal auth) (w .1 l))
+  where
+    mic : List ℕ
+    mic = micOf key nego chal auth
+
+    go : (v : Verdict) → TellsOutcome (callNumber 16 (handedOut v (whenClear v mic)) room) (handedOut v (whenClear v mic)) →
+        TellsVerdict (callNumber 16 (handedOut v (whenClear v mic)) room) v
+    go Clear w = w
+    go (Not e) w = w
+
+pub check-mic-tells : CheckMicTells
+unfolding checkMic
+check-mic-tells key nego chal auth =
+    go (checkMessages (length key) nego chal auth) (standsAt auth 72 (micOf key nego chal auth)) (mic-small (length key) nego chal auth)
+  where
+    go : (v : Verdict) (b : Bool) → SmallV v → TellsChecking (checkingNumber (onClear Refused v (Compared b))) (onClear Refused v (Compared b))
+    go Clear true w = tells-length 1 (omega arith)
+    go Clear false w = tells-length 0 (omega arith)
+    go (Not e) b w = tells-refusal e w
 
 -- ---- kept
 
+-- no message is refused 33
+not-33 : (n : ℕ) (nego chal auth : List ℕ) (e : Refusal) → checkMessages n nego chal auth ≡ Not e → numberOf e ≡ 33 → ⊥
+not-33 n nego chal auth e h = go (info-there chal) where
+  go : (b : List ℕ) × InfoBytes chal b → numberOf e ≡ 33 → ⊥
+  go i = fails-otherwise (subst (Judged n nego chal (i .0) auth (i .1)) h (judged n nego chal (i .0) auth (i .1))) where
+    fails-otherwise : {m j p : ℕ} → MicFails n nego chal (i .0) auth m j p → m ≡ 33 → ⊥
+    fails-otherwise (wrong-key k a b c) q = omega (arith, a)
+    fails-otherwise {m} {j} {p} (in-negotiate k f z) q = no-fail negotiate nego m j (omega arith) (f .fails)
+    fails-otherwise {m} {j} {p} (in-challenge k none (in-fields z f)) q = no-fail challenge chal m j (omega arith) (f .fails)
+    fails-otherwise {m} {j} {p} (in-challenge k none (in-list free f z)) q = omega (arith, first-number (i .0) (f .2) .1)
+    fails-otherwise {m} {j} {p} (in-authenticate k none c f z) q = no-fail authenticate auth m j (omega arith) (f .fails)
+    fails-otherwise (no-mic k none c f t a b z) q = omega (arith, a)
+
 pub mic-kept : MicKept
-unfolding workOut callNumber callOut
-mic-kept key nego chal auth out = go (leb 16 (length out)) refl (checkMessages (length key) nego chal auth) where
+unfolding workOut callOut
+mic-kept key nego chal auth out = go (leb 16 (length out)) refl (checkMessages (length key) nego chal auth) refl where
   mic : List ℕ
   mic = micOf key nego chal auth
 
-  go : (b : Bool) → leb 16 (length out) ≡ b → (v : Verdict) →
-      ((after (checked b) (refusalNumber NoRoom) (outcomeNumber (handedOut v (whenClear v mic))) ≡ 0) × (v ≡ Clear)
-      × Front (whenClear v mic) out (after (checked b) out (outcomeOut (handedOut v (whenClear v mic)) out)))
-      ⊎ (after (checked b) out (outcomeOut (handedOut v (whenClear v mic)) out) ≡ out)
-  go true e Clear = inl (refl, refl, at-front mic out (omega (arith, leb-true 16 (length out) e, mic-length key nego chal auth)))
-  go true e (Not d) = inr refl
-  go false e v = inr refl
+  told : (length out < 16 → TellsRefusal (micNumber (length out) key nego chal auth) NoRoom)
+      × (16 ≤ length out → TellsVerdict (micNumber (length out) key nego chal auth) (workOut key nego chal auth .verdict))
+  told = mic-tells (length out) key nego chal auth
+
+  unwritten : (d : Refusal) → 16 ≤ length out → checkMessages (length key) nego chal auth ≡ Not d →
+      callOut 16 (micOutcome (workOut key nego chal auth)) out ≡ out → MicUnwritten key nego chal auth out d
+  unwritten d l h same =
+      let t : TellsRefusal (micNumber (length out) key nego chal auth) d = subst (TellsVerdict (micNumber (length out) key nego chal auth)) h (told .1 l) in
+      record {
+        unchanged = same;
+        answer = t;
+        which = inr (l, h);
+        no-room = (λ q. absurd (not-33 (length key) nego chal auth d h (sym (t .number) ∙ q)), λ m. absurd (omega arith));
+      }
+
+  go : (b : Bool) → leb 16 (length out) ≡ b → (v : Verdict) → checkMessages (length key) nego chal auth ≡ v →
+      ((micNumber (length out) key nego chal auth ≡ 0) × (workOut key nego chal auth .verdict ≡ Clear)
+      × Front (workOut key nego chal auth .mic) out (callOut 16 (micOutcome (workOut key nego chal auth)) out))
+      ⊎ ((e : Refusal) × MicUnwritten key nego chal auth out e)
+  go true e Clear h =
+      let l = leb-true 16 (length out) e in
+      let t : TellsLength (micNumber (length out) key nego chal auth) 0 = subst (TellsVerdict (micNumber (length out) key nego chal auth)) h (told .1 l) in
+      inl (t .is-length, h, simp (e, h) (at-front mic out (omega (arith, l, mic-length key nego chal auth))))
+  go true e (Not d) h = inr (d, unwritten d (leb-true 16 (length out) e) h (simp (e, h)))
+  go false e v h =
+      let l = leb-false 16 (length out) e in
+      inr (
+        NoRoom,
+        record {
+          unchanged = simp e;
+          answer = told .0 l;
+          which = inl (l, refl);
+          no-room = (λ q. l, λ m. told .0 l .number);
+        },
+      )

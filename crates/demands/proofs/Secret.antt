@@ -13,14 +13,13 @@ use borrow.Author.Tests.{eqb-true, eqb-false}
 use lib.ListN.{length, getD}
 use Rattle.field.specs.declared.Field.{Field}
 use Rattle.negotiate_flags.specs.declared.NegotiateFlags.{NegotiateFlags}
-use Rattle.field.specs.Field.{isEmpty, fieldAt}
-use Rattle.negotiate_flags.specs.Flags.{keyExch}
-use Rattle.head.specs.Head.{flagsAt, signatureHolds, readHead, kindOf}
+use Rattle.field.specs.Field.{isEmpty}
+use Rattle.head.specs.Head.{flagsAt, kindOf}
 use Rattle.field.proofs.Fields.{own-bytes}
 use Rattle.authenticate.specs.declared.Authenticate.{Authenticate}
 use Rattle.authenticate.specs.declared.Reading.{Reading}
 use Rattle.authenticate.specs.declared.Reading.the-variants.{Taken, Refused}
-use Rattle.authenticate.specs.Authenticate.{layout, fieldsAt, readingOf, readAuthenticate}
+use Rattle.authenticate.specs.Authenticate.{fieldsAt, readAuthenticate}
 use Rattle.line_auth.specs.Auth.{authNames, authText}
 use Rattle.line.specs.Line.{authLine, authenticateLine}
 use Rattle.place.specs.Written.{bytesAnswer, bytesAfter}
@@ -28,37 +27,22 @@ use Rattle.demands.specs.Bench.{p1}
 use Rattle.demands.specs.Ignored.{SameBytes}
 use Rattle.demands.specs.Message.{authenticate, lenOf, offsetOf, Nonempty, Covers, Fails}
 use Rattle.demands.specs.Secret.{Secret, secret-field, mic, DifferInSecrets, SecretRead, p1Other, SecretExample}
-use Rattle.demands.proofs.Alike.{same-part, same16, same32}
+use Rattle.demands.proofs.Alike.{same-part, same32}
+use Rattle.demands.proofs.First64.{auth-fields, authenticate-same}
 use Rattle.demands.proofs.Message.{Stands, empty-bytes}
 use Rattle.demands.proofs.OwnBytes.{taken-answer, none-fails}
 use Rattle.demands.proofs.TakenExactly.{six}
 
 module _ (s t : List ℕ) (d : DifferInSecrets s t) where
   -- what stands in the first 64 bytes is the same
-  field-same : (at : ℕ) (c : Bool) → at + 8 ≤ 64 → fieldAt s at c ≡ fieldAt t at c
-  unfolding fieldAt
-  field-same at c l =
-      simp (same16 s t at (λ p a b. d .first-64 p (omega arith)), same16 s t (at + 2) (λ p a b. d .first-64 p (omega arith)), same32 s t (at + 4) (λ p a b. d .first-64 p (omega arith)))
-
   pub flags-same : flagsAt s 60 ≡ flagsAt t 60
   flags-same = ap (λ (x : ℕ). record { bits = x }) (same32 s t 60 (λ p a b. d .first-64 p (omega arith)))
 
   pub fields-same : (w : NegotiateFlags) → fieldsAt s w ≡ fieldsAt t w
-  unfolding fieldsAt
-  fields-same w =
-      simp (field-same 12 true (omega arith), field-same 20 true (omega arith), field-same 28 true (omega arith), field-same 36 true (omega arith), field-same 44 true (omega arith), field-same 52 (keyExch w) (omega arith))
-
-  head-same : readHead layout s ≡ readHead layout t
-  unfolding readHead signatureHolds
-  head-same =
-      simp (d .length-same, byte 0 (omega arith), byte 1 (omega arith), byte 2 (omega arith), byte 3 (omega arith), byte 4 (omega arith), byte 5 (omega arith), byte 6 (omega arith), byte 7 (omega arith), byte 8 (omega arith), byte 9 (omega arith), byte 10 (omega arith), byte 11 (omega arith), byte 60 (omega arith), byte 61 (omega arith), byte 62 (omega arith), byte 63 (omega arith))
-    where
-      byte : (p : ℕ) → p < 64 → getD s p 0 ≡ getD t p 0
-      byte p l = d .first-64 p l
+  fields-same w = auth-fields s t (d .length-same) (d .first-64) w
 
   reading-same : readAuthenticate s .reading ≡ readAuthenticate t .reading
-  unfolding readAuthenticate readingOf
-  reading-same = simp (head-same, d .length-same, fields-same)
+  reading-same = authenticate-same s t (d .length-same) (d .first-64)
 
   -- a name of a taken message has no secret byte
   name-same : (i : ℕ) (f : Field) → Stands authenticate s i f → ((n j : ℕ) → Fails authenticate s n j → ⊥) → authenticate .Name i → SameBytes s t f

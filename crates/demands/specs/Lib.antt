@@ -34,3 +34,4 @@ pub mod MaxLen
 pub mod Canonical
 pub mod Mic
 pub mod HeaderLine
+pub mod MicExample

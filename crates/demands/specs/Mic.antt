@@ -10,12 +10,14 @@ use lib.ListN.{length, getD, take, drop, replicate}
 use Rattle.wire.specs.declared.check.Verdict.{Verdict}
 use Rattle.wire.specs.declared.check.Verdict.the-variants.{Clear, Refused as Not}
 use Rattle.wire.specs.declared.refusal.Refusal.{Refusal}
+use Rattle.wire.specs.declared.refusal.Refusal.the-variants.{NoRoom}
 use Rattle.hmac_md5.specs.Hmac.{hmac}
 use Rattle.mic.specs.declared.Checking.{Checking}
 use Rattle.mic.specs.declared.Checking.the-variants.{Compared, Refused}
 use Rattle.mic.specs.Mic.{workOut, checkMic}
 use Rattle.c_number.specs.Outcome.{callNumber, callOut}
 use Rattle.c_mic.specs.Numbers.{micOutcome, checkingNumber}
+use Rattle.demands.specs.Answers.{isRefused, numberIn, TellsLength, TellsRefusal, TellsVerdict}
 use Rattle.demands.specs.Kept.{Front}
 use Rattle.demands.specs.Message.{negotiate, authenticate, Fails, MicThere}
 use Rattle.demands.specs.Order.{First}
@@ -59,11 +61,39 @@ MicIs =
     (key nego chal auth : List ℕ) → workOut key nego chal auth .verdict ≡ Clear →
     workOut key nego chal auth .mic ≡ hmac key (nego ++ (chal ++ (take 72 auth ++ (replicate 16 0 ++ drop 88 auth))))
 
+-- ---- the answers of the C interface
+
+-- that of dialtable_mic, with an array of so many bytes, and that of dialtable_check_mic
+abbrev pub micNumber : ℕ → List ℕ → List ℕ → List ℕ → List ℕ → ℕ
+micNumber room key nego chal auth = callNumber 16 (micOutcome (workOut key nego chal auth)) room
+
+abbrev pub checkNumber : List ℕ → List ℕ → List ℕ → List ℕ → ℕ
+checkNumber key nego chal auth = checkingNumber (checkMic key nego chal auth)
+
+-- the header's macros take out of the first 33 where the array is too short, and else the refusal, or it is 0
+abbrev pub MicTells : Type 0
+MicTells =
+    (room : ℕ) (key nego chal auth : List ℕ) →
+    (room < 16 → TellsRefusal (micNumber room key nego chal auth) NoRoom)
+    × (16 ≤ room → TellsVerdict (micNumber room key nego chal auth) (workOut key nego chal auth .verdict))
+
+-- and out of the second the refusal, or it is 1 for yes and 0 for no
+abbrev pub TellsChecking : ℕ → Checking → Type 0
+TellsChecking answer (Compared true) = TellsLength answer 1
+TellsChecking answer (Compared false) = TellsLength answer 0
+TellsChecking answer (Refused e) = TellsRefusal answer e
+
+abbrev pub CheckMicTells : Type 0
+CheckMicTells = (key nego chal auth : List ℕ) → TellsChecking (checkNumber key nego chal auth) (checkMic key nego chal auth)
+
 -- ---- the two calls agree
 
 pub record Agree (key nego chal auth : List ℕ) : Type 0 where
   pub refused : (e : Refusal) → (checkMic key nego chal auth ≡ Refused e) ↔ (workOut key nego chal auth .verdict ≡ Not e)
   pub yes : (checkMic key nego chal auth ≡ Compared true) ↔ ((workOut key nego chal auth .verdict ≡ Clear) × (take 16 (drop 72 auth) ≡ workOut key nego chal auth .mic))
+  -- from C, where the array has its room: both are refused or none, and a refusal is the same number
+  pub refused-from-c : (room : ℕ) → 16 ≤ room → isRefused (micNumber room key nego chal auth) ≡ isRefused (checkNumber key nego chal auth)
+  pub same-number : (room : ℕ) → 16 ≤ room → isRefused (checkNumber key nego chal auth) ≡ 1 → micNumber room key nego chal auth ≡ checkNumber key nego chal auth
 
 abbrev pub MicAgree : Type 0
 MicAgree = (key nego chal auth : List ℕ) → Agree key nego chal auth
@@ -82,19 +112,29 @@ MicBlind = (key nego chal s t : List ℕ) → DifferInMic s t → workOut key ne
 pub record SameMicRefusals (key key′ nego chal s t : List ℕ) : Type 0 where
   pub worked : workOut key nego chal s .verdict ≡ workOut key′ nego chal t .verdict
   pub checked : (e : Refusal) → (checkMic key nego chal s ≡ Refused e) ↔ (checkMic key′ nego chal t ≡ Refused e)
-  pub from-c : (room : ℕ) → callNumber 16 (micOutcome (workOut key nego chal s)) room ≡ callNumber 16 (micOutcome (workOut key′ nego chal t)) room
+  pub from-c : (room : ℕ) → micNumber room key nego chal s ≡ micNumber room key′ nego chal t
+  -- a check from C: both are refused or none, and where one is refused both have its number
+  pub check-refused : isRefused (checkNumber key nego chal s) ≡ isRefused (checkNumber key′ nego chal t)
+  pub check-from-c : isRefused (checkNumber key nego chal s) ≡ 1 → checkNumber key nego chal s ≡ checkNumber key′ nego chal t
 
 abbrev pub MicSecret : Type 0
 MicSecret =
     (key key′ nego chal s t : List ℕ) → length key ≡ length key′ → length s ≡ length t → ((p : ℕ) → p < 64 → getD s p 0 ≡ getD t p 0) →
     SameMicRefusals key key′ nego chal s t
 
--- ---- Kept: the C call is answered 0 and hands out the sixteen bytes, or leaves its array as it was
+-- ---- Kept: the C call is answered 0 and hands out the sixteen bytes, or is refused and leaves its array as it was
+
+-- refused with e: 33 exactly where the array has under 16 bytes, and else what the verdict is
+pub record MicUnwritten (key nego chal auth out : List ℕ) (e : Refusal) : Type 0 where
+  pub unchanged : callOut 16 (micOutcome (workOut key nego chal auth)) out ≡ out
+  pub answer : TellsRefusal (micNumber (length out) key nego chal auth) e
+  pub which : ((length out < 16) × (e ≡ NoRoom)) ⊎ ((16 ≤ length out) × (workOut key nego chal auth .verdict ≡ Not e))
+  pub no-room : (numberIn (micNumber (length out) key nego chal auth) ≡ 33) ↔ (length out < 16)
 
 abbrev pub MicKept : Type 0
 MicKept =
     (key nego chal auth out : List ℕ) →
-    ((callNumber 16 (micOutcome (workOut key nego chal auth)) (length out) ≡ 0)
+    ((micNumber (length out) key nego chal auth ≡ 0)
     × (workOut key nego chal auth .verdict ≡ Clear)
     × Front (workOut key nego chal auth .mic) out (callOut 16 (micOutcome (workOut key nego chal auth)) out))
-    ⊎ (callOut 16 (micOutcome (workOut key nego chal auth)) out ≡ out)
+    ⊎ ((e : Refusal) × MicUnwritten key nego chal auth out e)

@@ -10,8 +10,8 @@ use borrow.Author.Tests.{leb-true, leb-false}
 use Rattle.wire.specs.declared.check.Verdict.{Verdict}
 use Rattle.wire.specs.declared.check.Verdict.the-variants.{Clear, Refused as Not}
 use Rattle.wire.specs.declared.refusal.Refusal.{Refusal}
-use Rattle.wire.specs.declared.refusal.Refusal.the-variants.{PairMissing, No128Bit, NoServerNames, OddNameToWrite, NoRoom, ZeroInString, WrongLabel, NameTooLong}
-use Rattle.wire.specs.Check.{after, onClear}
+use Rattle.wire.specs.declared.refusal.Refusal.the-variants.{PairMissing, No128Bit, NoServerNames, OddNameToWrite, NoRoom, WrongSessionKey, NoMic, ZeroInString, WrongLabel, NameTooLong}
+use Rattle.wire.specs.Check.{checked, after, onClear}
 use Rattle.wire.specs.Number.{u16At}
 use Rattle.wire.proofs.Places.{moved-number, of-after}
 use Rattle.challenge.specs.declared.Challenge.{Challenge}
@@ -58,8 +58,10 @@ use Rattle.c_pairs.specs.Pairs.{countOutcome, searchOutcome, stepOutcome}
 use Rattle.c_respond.specs.Settings.{settingsOf}
 use Rattle.c_respond.specs.Respond.{decidedOutcome}
 use Rattle.target_info.specs.TargetInfo.{firstPair, findPair, timestampIn, serverNamesIn}
+use Rattle.mic.specs.Mic.{keyHolds as sessionKeyHolds, negotiateVerdict, challengeVerdict, authenticateVerdict, checkMessages, whenClear, micOf, workOut}
+use Rattle.c_mic.specs.Numbers.{handedOut}
 use Rattle.demands.specs.Answers.{Writing, write-negotiate, write-authenticate, write-nl-auth-request, write-nl-auth-response, write-response-pairs, writingAnswer}
-use Rattle.demands.specs.FromC.{Call, read-negotiate, read-timestamp, read-server-names, read-nl-auth, count-pairs, find-pair, next-pair, decide, outcome, TwoArrayCall, read-authenticate, read-challenge, twoArrayOutcome}
+use Rattle.demands.specs.FromC.{Call, read-negotiate, read-timestamp, read-server-names, read-nl-auth, count-pairs, find-pair, next-pair, decide, work-out-mic, outcome, TwoArrayCall, read-authenticate, read-challenge, twoArrayOutcome}
 use Rattle.demands.specs.Message.{Format, negotiate, authenticate, challenge, Fails}
 use Rattle.demands.specs.NlAuth.{NlFails}
 use Rattle.demands.specs.TakenExactly.{AuthenticateRefusedWith, NegotiateRefusedWith, NlRefusedWith}
@@ -299,6 +301,28 @@ unfolding bytesAnswer
 bytes-small bytes out =
     answered-small (bytesHold bytes out) bytes (of-after SmallV (roomHolds (length bytes) (length out)) (Not NoRoom) Clear (omega arith) tt)
 
+-- ---- the MIC
+
+pub mic-small : (n : ℕ) (nego chal auth : List ℕ) → SmallV (checkMessages n nego chal auth)
+unfolding checkMessages readChallenge
+mic-small n nego chal auth =
+    of-after SmallV (sessionKeyHolds n) (Not WrongSessionKey) _ (omega arith)
+    (small-clear (negotiateVerdict (readNegotiate nego)) _ (of-negotiate (readNegotiate nego) refl)
+    (small-clear (challengeVerdict (readingOf chal)) _ (of-challenge (readingOf chal) (challenge-small chal))
+    (of-authenticate (readAuthenticate auth .reading) refl)))
+  where
+    of-negotiate : (r : NegotiateReading) → readNegotiate nego ≡ r → SmallV (negotiateVerdict r)
+    of-negotiate (NegotiateTaken m) p = tt
+    of-negotiate (NegotiateRefused e) p = negotiate-small nego e p
+
+    of-challenge : (r : ChallengeReading) → SmallC r → SmallV (challengeVerdict r)
+    of-challenge (ChallengeTaken c) w = tt
+    of-challenge (ChallengeRefused e) w = w
+
+    of-authenticate : (r : Reading) → readAuthenticate auth .reading ≡ r → SmallV (authenticateVerdict r)
+    of-authenticate (Taken a) p = of-after SmallV (checked (a .«mic_present»)) (Not NoMic) Clear (omega arith) tt
+    of-authenticate (Refused e) p = authenticate-small auth e p
+
 -- ---- the calls from C that hand out numbers
 
 abbrev pub SmallO : Outcome → Type 0
@@ -306,7 +330,7 @@ SmallO (numbers xs) = Unit
 SmallO (refused e) = Small e
 
 pub outcome-small : (c : Call) → SmallO (outcome c)
-unfolding timestampOf serverNamesOf countPairs findPair askAt
+unfolding timestampOf serverNamesOf countPairs findPair askAt workOut
 outcome-small (read-negotiate s) = go (readNegotiate s) refl where
   go : (r : NegotiateReading) → readNegotiate s ≡ r → SmallO (negotiateOutcome r)
   go (NegotiateTaken m) p = tt
@@ -340,6 +364,10 @@ outcome-small (decide settings s) = go (decisionOn (settingsOf settings) s) (dec
   go : (r : Decided) → SmallD r → SmallO (decidedOutcome r)
   go (Decides d) w = tt
   go (Declines e) w = w
+outcome-small (work-out-mic key nego chal auth) = go (checkMessages (length key) nego chal auth) (mic-small (length key) nego chal auth) where
+  go : (v : Verdict) → SmallV v → SmallO (handedOut v (whenClear v (micOf key nego chal auth)))
+  go Clear w = tt
+  go (Not e) w = w
 
 pub two-array-outcome-small : (c : TwoArrayCall) → SmallO (twoArrayOutcome c)
 unfolding readChallenge

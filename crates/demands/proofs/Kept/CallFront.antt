@@ -8,6 +8,8 @@ use lib.Dec.{leb}
 use lib.ListN.{length, take, drop, replicate, length-take, length-drop}
 use lib.Seq.{take-append-seam}
 use borrow.Author.Tests.{leb-true}
+use Rattle.wire.specs.declared.check.Verdict.{Verdict}
+use Rattle.wire.specs.declared.check.Verdict.the-variants.{Clear, Refused as Not}
 use Rattle.wire.specs.declared.refusal.Refusal.the-variants.{NoRoom}
 use Rattle.wire.specs.Check.{checked, after}
 use Rattle.wire.proofs.Bools.{and-left, and-right}
@@ -48,7 +50,11 @@ use Rattle.c_pairs.specs.Pairs.{foundNumbers, pairNumbers, countOutcome, search
 use Rattle.c_respond.specs.Settings.{settingsOf}
 use Rattle.c_respond.specs.Respond.{decisionNumbers, decidedOutcome}
 use Rattle.target_info.specs.TargetInfo.{findPair}
-use Rattle.demands.specs.FromC.{Call, read-negotiate, read-timestamp, read-server-names, read-nl-auth, count-pairs, find-pair, next-pair, decide, count, outcome, TwoArrayCall, read-authenticate, read-challenge, numberCount, byteCount, twoArrayOutcome, bytesBeside}
+use Rattle.md5.specs.Digest.{wordBytes, md5}
+use Rattle.hmac_md5.specs.Hmac.{hmac}
+use Rattle.mic.specs.Mic.{micOf, checkMessages, whenClear, workOut}
+use Rattle.c_mic.specs.Numbers.{handedOut}
+use Rattle.demands.specs.FromC.{Call, read-negotiate, read-timestamp, read-server-names, read-nl-auth, count-pairs, find-pair, next-pair, decide, work-out-mic, count, outcome, TwoArrayCall, read-authenticate, read-challenge, numberCount, byteCount, twoArrayOutcome, bytesBeside}
 use Rattle.demands.specs.Kept.{Front, Handed, CallFront, TwoArraysFront}
 use Rattle.demands.proofs.OwnBytes.ChallengeOwn.{taken-as}
 use Rattle.demands.proofs.Kept.{front-length, front-rest}
@@ -61,6 +67,16 @@ at-front xs out room =
       rest = front-rest xs out room;
     }
 
+-- ---- a MIC has sixteen bytes
+
+digest-length : (m : List ℕ) → length (md5 m) ≡ 16
+unfolding md5 wordBytes
+digest-length m = refl
+
+pub mic-length : (key nego chal auth : List ℕ) → length (micOf key nego chal auth) ≡ 16
+unfolding micOf hmac
+mic-length key nego chal auth = digest-length _
+
 -- ---- each outcome has as many numbers as its call asks room for
 
 abbrev Counted : ℕ → Outcome → Type 0
@@ -68,7 +84,7 @@ Counted n (numbers xs) = length xs ≡ n
 Counted n (refused e) = Unit
 
 counted : (c : Call) → Counted (count c) (outcome c)
-unfolding negotiateNumbers timestampNumbers serverNamesNumbers nlAuthNumbers foundNumbers pairNumbers decisionNumbers
+unfolding negotiateNumbers timestampNumbers serverNamesNumbers nlAuthNumbers foundNumbers pairNumbers decisionNumbers workOut
 counted (read-negotiate s) = go (readNegotiate s) where
   go : (r : NegotiateReading) → Counted 7 (negotiateOutcome r)
   go (NegotiateTaken m) = refl
@@ -107,6 +123,10 @@ counted (decide settings s) = go (decisionOn (settingsOf settings) s) where
     by (Time t) = refl
     by NoTime = refl
   go (Declines e) = tt
+counted (work-out-mic key nego chal auth) = go (checkMessages (length key) nego chal auth) where
+  go : (v : Verdict) → Counted 16 (handedOut v (whenClear v (micOf key nego chal auth)))
+  go Clear = mic-length key nego chal auth
+  go (Not e) = tt
 
 two-counted : (c : TwoArrayCall) → Counted (numberCount c) (twoArrayOutcome c)
 unfolding authenticateNumbers challengeNumbers

@@ -42,7 +42,7 @@ module _ (s t : List ℕ) (long : length s ≡ length t) (same : (p : ℕ) → p
   unfolding N.fieldsAt
   nego-fields w = simp (field-same 16 (oemDomainSupplied w) (omega arith), field-same 24 (oemWorkstationSupplied w) (omega arith))
 
-  auth-fields : (w : NegotiateFlags) → A.fieldsAt s w ≡ A.fieldsAt t w
+  pub auth-fields : (w : NegotiateFlags) → A.fieldsAt s w ≡ A.fieldsAt t w
   unfolding A.fieldsAt
   auth-fields w =
       simp (field-same 12 true (omega arith), field-same 20 true (omega arith), field-same 28 true (omega arith), field-same 36 true (omega arith), field-same 44 true (omega arith), field-same 52 (keyExch w) (omega arith))
