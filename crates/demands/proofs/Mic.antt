@@ -30,7 +30,8 @@ use Rattle.authenticate.specs.declared.Reading.the-variants.{Taken as Authentic
 use Rattle.authenticate.specs.Authenticate.{readAuthenticate}
 use Rattle.mic.specs.declared.Checking.{Checking}
 use Rattle.mic.specs.declared.Checking.the-variants.{Compared, Refused}
-use Rattle.mic.specs.Mic.{zeroed, micOf, negotiateVerdict, challengeVerdict, authenticateVerdict, checkMessages, whenClear, workOut, checkMic}
+use Rattle.verdict.specs.Verdict.{negoVerdict, chalVerdict}
+use Rattle.mic.specs.Mic.{zeroed, micOf, authenticateVerdict, checkMessages, whenClear, workOut, checkMic}
 use Rattle.mic.proofs.Laws.{passed}
 use Rattle.place.specs.Written.{roomHolds}
 use Rattle.c_number.specs.Number.{refusalNumber, bit}
@@ -99,7 +100,7 @@ module _ (size : ℕ) (nego chal info auth : List ℕ) (known : InfoBytes chal i
   unfolding checkMessages
   judged = by-key (eqb size 16) refl where
     by-chal : size ≡ 16 → ((m j : ℕ) → Fails negotiate nego m j → ⊥) → (r : ChallengeReading) → readChallenge chal .reading ≡ r →
-        Judged (onClear Not (challengeVerdict r) (authenticateVerdict (readAuthenticate auth .reading)))
+        Judged (onClear Not (chalVerdict r) (authenticateVerdict (readAuthenticate auth .reading)))
     by-chal k none (ChallengeTaken c) e =
         by-auth k none (challenge-taken chal info known .0 (subst IsTakenChallenge (sym e) tt)) (readAuthenticate auth .reading) refl
     by-chal k none (ChallengeRefused d) e =
@@ -108,7 +109,7 @@ module _ (size : ℕ) (nego chal info auth : List ℕ) (known : InfoBytes chal i
         (subst (λ (r : ChallengeReading). ChallengeRefusedWith r (numberOf d) (fieldOf d) (placeOf d)) (sym e) (refl, refl, refl)))
 
     by-nego : size ≡ 16 → (r : NegotiateReading) → readNegotiate nego ≡ r →
-        Judged (onClear Not (negotiateVerdict r) (onClear Not (challengeVerdict (readChallenge chal .reading)) (authenticateVerdict (readAuthenticate auth .reading))))
+        Judged (onClear Not (negoVerdict r) (onClear Not (chalVerdict (readChallenge chal .reading)) (authenticateVerdict (readAuthenticate auth .reading))))
     by-nego k (NegotiateTaken m) e = by-chal k (negotiate-taken nego .0 (subst IsTakenNegotiate (sym e) tt)) (readChallenge chal .reading) refl
     by-nego k (NegotiateRefused d) e =
         let f : First (Fails negotiate nego) (numberOf d) (fieldOf d) =
@@ -116,7 +117,7 @@ module _ (size : ℕ) (nego chal info auth : List ℕ) (known : InfoBytes chal i
         in-negotiate k f (no-place negotiate nego d (f .fails))
 
     by-key : (b : Bool) → eqb size 16 ≡ b →
-        Judged (after (checked b) (Not WrongSessionKey) (onClear Not (negotiateVerdict (readNegotiate nego)) (onClear Not (challengeVerdict (readChallenge chal .reading)) (authenticateVerdict (readAuthenticate auth .reading)))))
+        Judged (after (checked b) (Not WrongSessionKey) (onClear Not (negoVerdict (readNegotiate nego)) (onClear Not (chalVerdict (readChallenge chal .reading)) (authenticateVerdict (readAuthenticate auth .reading)))))
     by-key true e = by-nego (eqb-true size 16 e) (readNegotiate nego) refl
     by-key false e = wrong-key (eqb-false size 16 e) refl refl refl
 

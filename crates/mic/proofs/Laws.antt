@@ -44,20 +44,21 @@ use Rattle.hmac_md5.specs.Hmac.{begun, ended}
 use Rattle.hmac_md5.proofs.Laws.{of-pieces}
 use Rattle.mic.specs.declared.Worked.{Worked}
 use Rattle.mic.specs.declared.Checking.the-variants.{Compared}
-use Rattle.mic.specs.Mic.{zeroed, micOf, negotiateVerdict, challengeVerdict, authenticateVerdict, checkMessages, workOut, checkMic}
+use Rattle.verdict.specs.Verdict.{negoVerdict, chalVerdict}
+use Rattle.mic.specs.Mic.{zeroed, micOf, authenticateVerdict, checkMessages, workOut, checkMic}
 
 -- ---- each message's verdict, by what its reading is known to be
 
-pub negotiate-clear : (q r : NegotiateReading) (m : Negotiate) → r ≡ q → r ≡ NegotiateTaken m → Clear ≡ negotiateVerdict q
+pub negotiate-clear : (q r : NegotiateReading) (m : Negotiate) → r ≡ q → r ≡ NegotiateTaken m → Clear ≡ negoVerdict q
 negotiate-clear q r m e f = rw (← e, f)
 
-pub negotiate-not : (q r : NegotiateReading) (e : Refusal) → r ≡ q → r ≡ NegotiateRefused e → Not e ≡ negotiateVerdict q
+pub negotiate-not : (q r : NegotiateReading) (e : Refusal) → r ≡ q → r ≡ NegotiateRefused e → Not e ≡ negoVerdict q
 negotiate-not q r e p f = rw (← p, f)
 
-pub challenge-clear : (q r : ChallengeAnswer) (c : Challenge) → r ≡ q → r .reading ≡ ChallengeTaken c → Clear ≡ challengeVerdict (q .reading)
+pub challenge-clear : (q r : ChallengeAnswer) (c : Challenge) → r ≡ q → r .reading ≡ ChallengeTaken c → Clear ≡ chalVerdict (q .reading)
 challenge-clear q r c e f = rw (← e, f)
 
-pub challenge-not : (q r : ChallengeAnswer) (e : Refusal) → r ≡ q → r .reading ≡ ChallengeRefused e → Not e ≡ challengeVerdict (q .reading)
+pub challenge-not : (q r : ChallengeAnswer) (e : Refusal) → r ≡ q → r .reading ≡ ChallengeRefused e → Not e ≡ chalVerdict (q .reading)
 challenge-not q r e p f = rw (← p, f)
 
 pub authenticate-taken : (q r : AuthenticateAnswer) (a : Authenticate) (v : Verdict) → r ≡ q → r .reading ≡ AuthenticateTaken a →
@@ -72,18 +73,18 @@ authenticate-not q r e p f = rw (← p, f)
 zero-not-one : _≡_ {A = ℕ} 0 1 → ⊥
 zero-not-one h = omega arith
 
-negotiate-short : (s : List ℕ) → negotiateVerdict (readNegotiate s) ≡ Clear → length s ≤ 65535
+negotiate-short : (s : List ℕ) → negoVerdict (readNegotiate s) ≡ Clear → length s ≤ 65535
 unfolding readNegotiate
 negotiate-short s h = go (readHead negotiateLayout s) _ refl h where
-  go : (k : Head) (x : NegotiateFlags → NegotiateReading) → readHead negotiateLayout s ≡ k → negotiateVerdict (onFlags NegotiateRefused k x) ≡ Clear →
+  go : (k : Head) (x : NegotiateFlags → NegotiateReading) → readHead negotiateLayout s ≡ k → negoVerdict (onFlags NegotiateRefused k x) ≡ Clear →
       length s ≤ 65535
   go (Flags w) x e h = head-short negotiateLayout s (readHead negotiateLayout s) w refl e
   go (Stopped d) x e h = absurd (zero-not-one cc)
 
-challenge-short : (s : List ℕ) → challengeVerdict (readChallenge s .reading) ≡ Clear → length s ≤ 65535
+challenge-short : (s : List ℕ) → chalVerdict (readChallenge s .reading) ≡ Clear → length s ≤ 65535
 unfolding readChallenge readingOf
 challenge-short s h = go (fieldsOf s) _ refl h where
-  go : (k : ChallengeReading) (x : Challenge → ChallengeReading) → fieldsOf s ≡ k → challengeVerdict (onTaken ChallengeRefused k x) ≡ Clear → length s ≤ 65535
+  go : (k : ChallengeReading) (x : Challenge → ChallengeReading) → fieldsOf s ≡ k → chalVerdict (onTaken ChallengeRefused k x) ≡ Clear → length s ≤ 65535
   go (ChallengeTaken c) x e h = fields-short s c e
   go (ChallengeRefused d) x e h = absurd (zero-not-one cc)
 
@@ -114,8 +115,8 @@ pub passed : (n : ℕ) (nego chal auth : List ℕ) → checkMessages n nego chal
 unfolding checkMessages
 passed n nego chal auth h =
     let k = after-clear (eqb n 16) WrongSessionKey _ h in
-    let a = on-clear-clear (negotiateVerdict (readNegotiate nego)) _ (k .1) in
-    let b = on-clear-clear (challengeVerdict (readChallenge chal .reading)) _ (a .1) in
+    let a = on-clear-clear (negoVerdict (readNegotiate nego)) _ (k .1) in
+    let b = on-clear-clear (chalVerdict (readChallenge chal .reading)) _ (a .1) in
     let c = authenticate-room auth (b .1) in
     record {
       key = eqb-true n 16 (k .0);

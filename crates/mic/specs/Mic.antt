@@ -10,12 +10,9 @@ use Rattle.wire.specs.declared.check.Verdict.the-variants.{Clear, Refused as No
 use Rattle.wire.specs.declared.refusal.Refusal.the-variants.{WrongSessionKey, NoMic}
 use Rattle.wire.specs.Check.{checked, after, onClear}
 use Rattle.wire.specs.Number.{standsAt}
+use Rattle.verdict.specs.Verdict.{negoVerdict, chalVerdict}
 use Rattle.hmac_md5.specs.Hmac.{hmac}
-use Rattle.negotiate.specs.declared.Reading.{Reading as NegotiateReading}
-use Rattle.negotiate.specs.declared.Reading.the-variants.{Taken as NegotiateTaken, Refused as NegotiateRefused}
 use Rattle.negotiate.specs.Negotiate.{readNegotiate}
-use Rattle.challenge.specs.declared.Reading.{Reading as ChallengeReading}
-use Rattle.challenge.specs.declared.Reading.the-variants.{Taken as ChallengeTaken, Refused as ChallengeRefused}
 use Rattle.challenge.specs.Challenge.{readChallenge}
 use Rattle.authenticate.specs.declared.Reading.{Reading as AuthenticateReading}
 use Rattle.authenticate.specs.declared.Reading.the-variants.{Taken as AuthenticateTaken, Refused as AuthenticateRefused}
@@ -36,16 +33,7 @@ micOf key nego chal auth = hmac key (nego ++ (chal ++ zeroed auth))
 abbrev pub keyHolds : ℕ → Checked
 keyHolds n = checked (eqb n 16)
 
--- each message's reading refusals
-abbrev pub negotiateVerdict : NegotiateReading → Verdict
-negotiateVerdict (NegotiateTaken m) = Clear
-negotiateVerdict (NegotiateRefused e) = Not e
-
-abbrev pub challengeVerdict : ChallengeReading → Verdict
-challengeVerdict (ChallengeTaken c) = Clear
-challengeVerdict (ChallengeRefused e) = Not e
-
--- and after the AUTHENTICATE's, check 56: it has a MIC
+-- the AUTHENTICATE's reading refusals, and after them check 56: it has a MIC
 abbrev pub authenticateVerdict : AuthenticateReading → Verdict
 authenticateVerdict (AuthenticateTaken a) = after (checked (a .«mic_present»)) (Not NoMic) Clear
 authenticateVerdict (AuthenticateRefused e) = Not e
@@ -54,8 +42,8 @@ authenticateVerdict (AuthenticateRefused e) = Not e
 unfoldable pub checkMessages : ℕ → List ℕ → List ℕ → List ℕ → Verdict
 checkMessages n nego chal auth =
     after (keyHolds n) (Not WrongSessionKey) (
-    onClear Not (negotiateVerdict (readNegotiate nego)) (
-    onClear Not (challengeVerdict (readChallenge chal .reading))
+    onClear Not (negoVerdict (readNegotiate nego)) (
+    onClear Not (chalVerdict (readChallenge chal .reading))
     (authenticateVerdict (readAuthenticate auth .reading))))
 
 -- sixteen bytes, which are zeros where there is a refusal

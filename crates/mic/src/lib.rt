@@ -11,7 +11,8 @@ ghost use Rattle.challenge.specs.Challenge.{readChallenge};
 ghost use Rattle.authenticate.specs.Authenticate.{readAuthenticate};
 ghost use Rattle.md5.specs.State.{taken};
 ghost use Rattle.hmac_md5.specs.Hmac.{begun};
-ghost use Rattle.mic.specs.Mic.{zeroed, micOf, negotiateVerdict, challengeVerdict, authenticateVerdict, checkMessages, workOut, checkMic};
+ghost use Rattle.verdict.specs.Verdict.{negoVerdict, chalVerdict};
+ghost use Rattle.mic.specs.Mic.{zeroed, micOf, authenticateVerdict, checkMessages, workOut, checkMic};
 use md5::state::State;
 use wire::check::Checked;
 use wire::check::Verdict;
@@ -31,7 +32,7 @@ pub enum Checking {
 }
 
 fn negotiate_verdict(nego: &[u8]) -> Verdict
-    ensures { λ r. ⌜ r ≡ negotiateVerdict (readNegotiate (now (nego .entry))) ⌝ }
+    ensures { λ r. ⌜ r ≡ negoVerdict (readNegotiate (now (nego .entry))) ⌝ }
 {
     let reading = negotiate::read(nego);
     match reading {
@@ -41,7 +42,7 @@ fn negotiate_verdict(nego: &[u8]) -> Verdict
 }
 
 fn challenge_verdict(chal: &[u8]) -> Verdict
-    ensures { λ r. ⌜ r ≡ challengeVerdict (readChallenge (now (chal .entry)) .reading) ⌝ }
+    ensures { λ r. ⌜ r ≡ chalVerdict (readChallenge (now (chal .entry)) .reading) ⌝ }
 {
     let reading = challenge::read(chal).reading;
     match reading {

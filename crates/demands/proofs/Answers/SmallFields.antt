@@ -58,7 +58,8 @@ use Rattle.c_pairs.specs.Pairs.{countOutcome, searchOutcome, stepOutcome}
 use Rattle.c_respond.specs.Settings.{settingsOf}
 use Rattle.c_respond.specs.Respond.{decidedOutcome}
 use Rattle.target_info.specs.TargetInfo.{firstPair, findPair, timestampIn, serverNamesIn}
-use Rattle.mic.specs.Mic.{keyHolds as sessionKeyHolds, negotiateVerdict, challengeVerdict, authenticateVerdict, checkMessages, whenClear, micOf, workOut}
+use Rattle.verdict.specs.Verdict.{negoVerdict, chalVerdict}
+use Rattle.mic.specs.Mic.{keyHolds as sessionKeyHolds, authenticateVerdict, checkMessages, whenClear, micOf, workOut}
 use Rattle.c_mic.specs.Numbers.{handedOut}
 use Rattle.demands.specs.Answers.{Writing, write-negotiate, write-authenticate, write-nl-auth-request, write-nl-auth-response, write-response-pairs, writingAnswer}
 use Rattle.demands.specs.FromC.{Call, read-negotiate, read-timestamp, read-server-names, read-nl-auth, count-pairs, find-pair, next-pair, decide, work-out-mic, outcome, TwoArrayCall, read-authenticate, read-challenge, twoArrayOutcome}
@@ -307,15 +308,15 @@ pub mic-small : (n : ℕ) (nego chal auth : List ℕ) → SmallV (checkMessages 
 unfolding checkMessages readChallenge
 mic-small n nego chal auth =
     of-after SmallV (sessionKeyHolds n) (Not WrongSessionKey) _ (omega arith)
-    (small-clear (negotiateVerdict (readNegotiate nego)) _ (of-negotiate (readNegotiate nego) refl)
-    (small-clear (challengeVerdict (readingOf chal)) _ (of-challenge (readingOf chal) (challenge-small chal))
+    (small-clear (negoVerdict (readNegotiate nego)) _ (of-negotiate (readNegotiate nego) refl)
+    (small-clear (chalVerdict (readingOf chal)) _ (of-challenge (readingOf chal) (challenge-small chal))
     (of-authenticate (readAuthenticate auth .reading) refl)))
   where
-    of-negotiate : (r : NegotiateReading) → readNegotiate nego ≡ r → SmallV (negotiateVerdict r)
+    of-negotiate : (r : NegotiateReading) → readNegotiate nego ≡ r → SmallV (negoVerdict r)
     of-negotiate (NegotiateTaken m) p = tt
     of-negotiate (NegotiateRefused e) p = negotiate-small nego e p
 
-    of-challenge : (r : ChallengeReading) → SmallC r → SmallV (challengeVerdict r)
+    of-challenge : (r : ChallengeReading) → SmallC r → SmallV (chalVerdict r)
     of-challenge (ChallengeTaken c) w = tt
     of-challenge (ChallengeRefused e) w = w
 
