@@ -37,9 +37,11 @@
  *     log_it(line, dialtable_authenticate_line(out, answer, line, sizeof line));
  *     return exchange(out, answer, NULL, 0);
  *
- * encode writes every name whole or answers 0. box->settings are DIALTABLE_DEFAULTS, or less for an old server. The key
- * that is sent (radio->key) is the exported session key (radio->session_key) as the radio module has encrypted it; the
- * MIC is worked out with the exported one itself.
+ * exchange answers how long the server's message is, 0 where none came; for the last message, which has no room for
+ * another, 0 where it was sent whole, else a number of the box's own. encode writes every name whole or answers 0.
+ * box->settings are DIALTABLE_DEFAULTS, or less for an old server. The key that is sent (radio->key) is the exported
+ * session key (radio->session_key) as the radio module has encrypted it; the MIC is worked out with the exported one
+ * itself.
  *
  * Names go out as they are given: the challenge's UNICODE decides, before the call, whether user, workstation and own
  * domain must be UTF-16LE or bytes; a target name is always UTF-16LE. Where the own domain is empty the server's may be

@@ -50,7 +50,7 @@ static int check(const struct seen *seen)
                                           seen->authenticate_len);
 
     if (!refused(answer)) puts(answer == 1 ? "yes" : "no");
-    return 0;
+    return fflush(stdout) != 0 || ferror(stdout);
 }
 
 /* A field of the AUTHENTICATE that was seen, as the two words that the writer takes. */
@@ -72,8 +72,7 @@ static int clip(const struct seen *seen, dialtable_len bytes)
     if (refused(dialtable_mic(seen->key, seen->key_len, seen->negotiate, seen->negotiate_len, seen->challenge,
                               seen->challenge_len, out, len, mic, sizeof mic))) return 1;
     memcpy(out + DIALTABLE_MIC_AT, mic, sizeof mic);
-    hex_write("authenticate", out, (size_t)len);
-    return 0;
+    return !hex_write("authenticate", out, (size_t)len);
 }
 
 int main(int argc, char **argv)

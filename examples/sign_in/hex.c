@@ -2,14 +2,13 @@
 
 #include <stdio.h>
 
-void hex_write(const char *word, const uint8_t *bytes, size_t len)
+int hex_write(const char *word, const uint8_t *bytes, size_t len)
 {
+    int written = printf("%s ", word) > 0;
     size_t i;
 
-    printf("%s ", word);
-    for (i = 0; i < len; i++) printf("%02x", bytes[i]);
-    putchar('\n');
-    fflush(stdout);
+    for (i = 0; i < len && written; i++) written = printf("%02x", bytes[i]) > 0;
+    return written && putchar('\n') != EOF && fflush(stdout) == 0;
 }
 
 static int digit(int c)

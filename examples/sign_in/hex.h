@@ -5,8 +5,8 @@
 #include <stddef.h>
 #include <stdint.h>
 
-/* Writes 'WORD HEX' as a line. */
-void hex_write(const char *word, const uint8_t *bytes, size_t len);
+/* Writes 'WORD HEX' as a line. Answers 1, or 0 where not all of it was written. */
+int hex_write(const char *word, const uint8_t *bytes, size_t len);
 
 /* Reads a line. Answers its length, or -1 where there is none, it isn't hex, or it doesn't fit: it is never cut. */
 long hex_read(uint8_t *out, size_t room);

@@ -45,9 +45,10 @@ static const uint8_t version[8] = {10, 0, 0x61, 0x4A, 0, 0, 0, 15}, zeros[16] = 
                 DIALTABLE_FLAG_VERSION | DIALTABLE_FLAG_128 | DIALTABLE_FLAG_KEY_EXCH)
 static const struct settings settings = {WANTED, DIALTABLE_DEFAULTS, CLOCK};
 static const struct settings no_ntlmv2 = {WANTED, DIALTABLE_DEFAULTS & ~DIALTABLE_NTLMV2, CLOCK};
-enum { NAME_UNSENT = 1 };
+enum { NAME_UNSENT = 1, NOT_SENT = 3 };
 
-static const char *server;        /* the file that the server sends */
+static const char *server; /* the file that the server sends */
+static int line_is_cut;    /* the last message doesn't go out */
 static uint8_t first_sent[64], sent[1024];
 static dialtable_len first_sent_len, sent_len;
 static struct module worked;
@@ -62,6 +63,7 @@ static dialtable_len exchange(const uint8_t *msg, dialtable_len msg_len, uint8_t
     dialtable_len got;
 
     if (in_len == 0) {
+        if (line_is_cut) return NOT_SENT;
         memcpy(sent, msg, (size_t)msg_len);
         sent_len = msg_len;
         return 0;
@@ -167,6 +169,12 @@ int main(int argc, char **argv)
     CHECK(worked.time == CLOCK && worked.flags == 0);
     CHECK(memcmp(sent + DIALTABLE_MIC_AT, zeros, 16) == 0);
     CHECK(strstr(logged, " mic=1 ") != NULL && strstr(logged, " user=box7 ") != NULL);
+
+    /* A sign-in whose last message doesn't go out is none. */
+    line_is_cut = 1;
+    CHECK(sign_in(&settings) == NOT_SENT);
+    CHECK(sent_len == 0);
+    line_is_cut = 0;
 
     /* Names in bytes. */
     server = argv[3];
