@@ -69,10 +69,12 @@ static uint64_t work_out(struct radio *radio, const uint8_t *challenge, dialtabl
 
 uint64_t sign_in(const struct settings *box, struct radio *radio)
 {
-    uint8_t first[64], challenge[CHALLENGE_ROOM], pairs[PAIRS_ROOM], out[ANSWER_ROOM], mic[16], line[LINE_ROOM];
+    /* More than a box has of stack; it signs in once at a time. */
+    static uint8_t first[64], challenge[CHALLENGE_ROOM], pairs[PAIRS_ROOM], out[ANSWER_ROOM], line[LINE_ROOM];
+    static struct names own;
+    uint8_t mic[16];
     uint64_t answer, worked_out, time, decision[DIALTABLE_DECISION_NUMBERS], done[DIALTABLE_RESPONSE_NUMBERS];
     dialtable_len first_len, challenge_len, pairs_len;
-    struct names own;
 
     /* The recipe of dialtable.h, line by line. */
     first_len = dialtable_write_negotiate(first, sizeof first, box->wanted, version, NULL, 0, NULL, 0);
