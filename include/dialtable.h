@@ -356,7 +356,8 @@ struct dialtable_entry {
  * a single call on these bytes gives, or three zeros if it is taken. The place is counted from the start of the entry's
  * message. An entry whose start plus length is more than buffer_len, added without wrapping, has 54; one with another
  * mark, inside the buffer, has 4. Nothing else of an entry changes, and no answer hangs on another entry: places may
- * overlap or repeat. Answers 0, or the refusal of 1 for a buffer over 65,535 bytes, and then no entry changes. */
+ * overlap or repeat. entries_len counts entries, not bytes. Answers 0, or the refusal of 1 for a buffer over 65,535
+ * bytes, and then no entry changes. */
 uint64_t dialtable_check_messages(const uint8_t *buffer, dialtable_len buffer_len, struct dialtable_entry *entries,
                                   dialtable_len entries_len);
 
