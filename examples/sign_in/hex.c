@@ -25,7 +25,8 @@ long hex_read(uint8_t *out, size_t room)
     while ((c = getchar()) != '\n') {
         high = digit(c);
         low = high < 0 ? -1 : digit(getchar());
-        if (low < 0 || len == room) return -1;
+        if (low < 0) return HEX_NONE;
+        if (len == room) return HEX_NO_ROOM;
         out[len++] = (uint8_t)(high << 4 | low);
     }
     return (long)len;
