@@ -100,7 +100,7 @@ impl fmt::Display for Failure {
             Self::NoFolder(why) => why.fmt(f),
             Self::NoFile(path, NotRead::Missing) => write!(
                 f,
-                "there is no file {}: name a message, as make explain FILE=message",
+                "there is no file {}: name a message, as FILE=message",
                 path.display()
             ),
             Self::NoFile(path, why) => write!(f, "{} is not read: {why}", path.display()),

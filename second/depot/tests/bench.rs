@@ -271,6 +271,8 @@ fn a_file_that_gives_no_message_is_one_plain_line() {
             assert_eq!((status, out.as_str()), (Some(1), ""));
             assert_eq!(err.lines().count(), 1, "{err}");
             assert!(err.starts_with(start), "{err}");
+            // More than one make target reads a file so.
+            assert!(!err.contains("make explain"), "{err}");
         }
     }
 }
