@@ -280,7 +280,7 @@ impl Bench {
                     self.run_message(&message, &mut counts, &mut out)?;
                 }
                 Ok(Content::HeaderTexts(texts)) => {
-                    for (text, line) in texts.iter().zip(1..) {
+                    for (line, text) in &texts {
                         counts.messages += 1;
                         write!(out, "{}, {line}: header line, ", file.name)?;
                         self.run_header(text, &mut counts, &mut out)?;

@@ -577,6 +577,21 @@ fn each_header_line_is_a_message() {
 }
 
 #[test]
+fn a_header_line_is_told_by_its_line_in_the_file() {
+    let folder = folder_of("headers-apart", &[("a.txt", b"\n\nNTLM a\n\nNTLM b\n")]);
+    let programs = ["refuses", "takes", "explains", "refuses"];
+    let (_, out, _) = run_linked(&folder, programs, "imports");
+    let told: Vec<&str> = out.lines().filter(|line| line.contains("header")).collect();
+    assert_eq!(
+        told,
+        [
+            "a.txt, 3: header line, 8 bytes, NTLM",
+            "a.txt, 5: header line, 8 bytes, NTLM"
+        ]
+    );
+}
+
+#[test]
 fn an_import_that_differs_shows_no_message() {
     let folder = folder_of("headers-differ", &[("trace.txt", HEADERS)]);
     let programs = ["refuses", "takes", "explains", "refuses"];

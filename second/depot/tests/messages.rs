@@ -59,7 +59,7 @@ fn each_file_stands_in_the_table_with_its_line() {
         let printed = match file.read_all().expect("a message") {
             Content::Message(_, message) => printed(&message),
             Content::HeaderTexts(texts) => {
-                let lines = texts.iter().map(|text| match carried(text) {
+                let lines = texts.iter().map(|(_, text)| match carried(text) {
                     Ok(message) => printed(&message),
                     Err(refusal) => format!("`{refusal}`"),
                 });
