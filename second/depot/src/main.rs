@@ -168,10 +168,10 @@ struct Night {
 impl Night {
     /// The night whose buffer is in a file, with its index beside it.
     fn read(file: &Path) -> Result<Self, Failure> {
+        let index = index_of(file)?;
         let buffer = MessageFile::at(file)
             .content()
             .map_err(|why| Failure::NoBuffer(file.to_owned(), why))?;
-        let index = index_of(file);
         let entries = read_index(&index)?.len();
         Ok(Self {
             index,

@@ -344,6 +344,13 @@ fn a_night_that_cannot_be_run_is_one_plain_line() {
         }
     }
     let files: [(&str, &[u8]); 2] = [("a.night", b""), ("a.index", b"")];
+    let folder = folder_of("night_by_its_index", &files);
+    let (index, answers) = (folder.join("a.index"), program("answers"));
+    let (status, out, err) = told(&depot(&[Path::new("night"), &index, &answers, &answers]));
+    assert_eq!((status, out.as_str()), (Some(1), ""));
+    let start = format!("{} is an index: name the night's buffer, ", index.display());
+    assert!(err.starts_with(&start), "{err}");
+    assert_eq!(err.lines().count(), 1, "{err}");
     let folder = folder_of("night_without_program", &files);
     let (status, out, err) = night(&folder, "not_there", "answers");
     assert_eq!((status, out.as_str()), (Some(1), ""));
