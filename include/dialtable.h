@@ -16,7 +16,8 @@
  *     answer = dialtable_decide(box->settings, challenge, challenge_len, decision, DIALTABLE_DECISION_NUMBERS);
  *     if (DIALTABLE_IS_REFUSED(answer)) return answer;
  *     if (!encode(box, (decision[DIALTABLE_DECISION_FLAGS] & DIALTABLE_FLAG_UNICODE) != 0, &own)) return NAME_UNSENT;
- *     time = decision[DIALTABLE_DECISION_TIMESTAMP_THERE] ? decision[DIALTABLE_DECISION_TIMESTAMP] : box->clock;
+ *     time = decision[DIALTABLE_DECISION_TIMESTAMP_THERE] && (box->settings & DIALTABLE_NTLMV2) != 0
+ *                ? decision[DIALTABLE_DECISION_TIMESTAMP] : box->clock;
  *     pairs_len = dialtable_write_response_pairs(pairs, sizeof pairs, challenge, challenge_len, own.target,
  *                                                own.target_len, 0, zeros);
  *     if (DIALTABLE_IS_REFUSED(pairs_len)) return pairs_len;
@@ -36,9 +37,11 @@
  *     log_it(line, dialtable_authenticate_line(out, answer, line, sizeof line));
  *     return exchange(out, answer, NULL, 0);
  *
- * encode writes every name whole or answers 0. box->settings are DIALTABLE_DEFAULTS, or less for an old server. The key
- * that is sent (radio->key) is the exported session key (radio->session_key) as the radio module has encrypted it; the
- * MIC is worked out with the exported one itself.
+ * exchange answers how long the server's message is, 0 where none came; for the last message, which has no room for
+ * another, 0 where it was sent whole, else a number of the box's own. encode writes every name whole or answers 0.
+ * box->settings are DIALTABLE_DEFAULTS, or less for an old server. The key that is sent (radio->key) is the exported
+ * session key (radio->session_key) as the radio module has encrypted it; the MIC is worked out with the exported one
+ * itself.
  *
  * Names go out as they are given: the challenge's UNICODE decides, before the call, whether user, workstation and own
  * domain must be UTF-16LE or bytes; a target name is always UTF-16LE. Where the own domain is empty the server's may be
@@ -353,7 +356,8 @@ struct dialtable_entry {
  * a single call on these bytes gives, or three zeros if it is taken. The place is counted from the start of the entry's
  * message. An entry whose start plus length is more than buffer_len, added without wrapping, has 54; one with another
  * mark, inside the buffer, has 4. Nothing else of an entry changes, and no answer hangs on another entry: places may
- * overlap or repeat. Answers 0, or the refusal of 1 for a buffer over 65,535 bytes, and then no entry changes. */
+ * overlap or repeat. entries_len counts entries, not bytes. Answers 0, or the refusal of 1 for a buffer over 65,535
+ * bytes, and then no entry changes. */
 uint64_t dialtable_check_messages(const uint8_t *buffer, dialtable_len buffer_len, struct dialtable_entry *entries,
                                   dialtable_len entries_len);
 

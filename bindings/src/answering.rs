@@ -44,7 +44,8 @@ impl Settings {
 pub struct Decision {
     /// The challenge's flags.
     pub flags: u32,
-    /// The challenge's timestamp, where it has one.
+    /// The challenge's timestamp, where it has one. It is the response's Time only
+    /// where the settings have NTLMv2; else that is the clock.
     pub timestamp: Option<u64>,
 }
 

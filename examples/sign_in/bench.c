@@ -19,20 +19,23 @@ struct seen {
     dialtable_len key_len, negotiate_len, challenge_len, authenticate_len;
 };
 
-static int read_one(uint8_t *out, size_t room, dialtable_len *len)
+/* Tells a line that can't be read; its status is then that of a wrong command. */
+static int read_one(const char *what, uint8_t *out, size_t room, dialtable_len *len)
 {
     long n = hex_read(out, room);
 
     *len = n < 0 ? 0 : (dialtable_len)n;
+    if (n == HEX_NO_ROOM) fprintf(stderr, "%s doesn't fit: it may have %lu bytes\n", what, (unsigned long)room);
+    if (n == HEX_NONE) fprintf(stderr, "%s isn't there as a line of hex: write pairs of 0-9 and a-f\n", what);
     return n >= 0;
 }
 
 static int read_seen(struct seen *seen)
 {
-    return read_one(seen->key, sizeof seen->key, &seen->key_len) &&
-           read_one(seen->negotiate, ROOM, &seen->negotiate_len) &&
-           read_one(seen->challenge, ROOM, &seen->challenge_len) &&
-           read_one(seen->authenticate, ROOM, &seen->authenticate_len);
+    return read_one("line 1, the session key,", seen->key, sizeof seen->key, &seen->key_len) &&
+           read_one("line 2, the NEGOTIATE,", seen->negotiate, ROOM, &seen->negotiate_len) &&
+           read_one("line 3, the CHALLENGE,", seen->challenge, ROOM, &seen->challenge_len) &&
+           read_one("line 4, the AUTHENTICATE,", seen->authenticate, ROOM, &seen->authenticate_len);
 }
 
 static int refused(uint64_t answer)
@@ -50,7 +53,7 @@ static int check(const struct seen *seen)
                                           seen->authenticate_len);
 
     if (!refused(answer)) puts(answer == 1 ? "yes" : "no");
-    return 0;
+    return fflush(stdout) != 0 || ferror(stdout);
 }
 
 /* A field of the AUTHENTICATE that was seen, as the two words that the writer takes. */
@@ -72,16 +75,15 @@ static int clip(const struct seen *seen, dialtable_len bytes)
     if (refused(dialtable_mic(seen->key, seen->key_len, seen->negotiate, seen->negotiate_len, seen->challenge,
                               seen->challenge_len, out, len, mic, sizeof mic))) return 1;
     memcpy(out + DIALTABLE_MIC_AT, mic, sizeof mic);
-    hex_write("authenticate", out, (size_t)len);
-    return 0;
+    return !hex_write("authenticate", out, (size_t)len);
 }
 
 int main(int argc, char **argv)
 {
     static struct seen seen;
 
-    if (argc == 2 && strcmp(argv[1], "check") == 0 && read_seen(&seen)) return check(&seen);
-    if (argc == 3 && strcmp(argv[1], "clip") == 0 && read_seen(&seen)) return clip(&seen, strtoul(argv[2], NULL, 0));
+    if (argc == 2 && strcmp(argv[1], "check") == 0) return read_seen(&seen) ? check(&seen) : 2;
+    if (argc == 3 && strcmp(argv[1], "clip") == 0) return read_seen(&seen) ? clip(&seen, strtoul(argv[2], NULL, 0)) : 2;
     fputs("usage: bench check or bench clip BYTES, with key, NEGOTIATE, CHALLENGE and AUTHENTICATE in hex\n", stderr);
     return 2;
 }

@@ -2,14 +2,13 @@
 
 #include <stdio.h>
 
-void hex_write(const char *word, const uint8_t *bytes, size_t len)
+int hex_write(const char *word, const uint8_t *bytes, size_t len)
 {
+    int written = printf("%s ", word) > 0;
     size_t i;
 
-    printf("%s ", word);
-    for (i = 0; i < len; i++) printf("%02x", bytes[i]);
-    putchar('\n');
-    fflush(stdout);
+    for (i = 0; i < len && written; i++) written = printf("%02x", bytes[i]) > 0;
+    return written && putchar('\n') != EOF && fflush(stdout) == 0;
 }
 
 static int digit(int c)
@@ -26,7 +25,8 @@ long hex_read(uint8_t *out, size_t room)
     while ((c = getchar()) != '\n') {
         high = digit(c);
         low = high < 0 ? -1 : digit(getchar());
-        if (low < 0 || len == room) return -1;
+        if (low < 0) return HEX_NONE;
+        if (len == room) return HEX_NO_ROOM;
         out[len++] = (uint8_t)(high << 4 | low);
     }
     return (long)len;

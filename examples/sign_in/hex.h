@@ -5,10 +5,14 @@
 #include <stddef.h>
 #include <stdint.h>
 
-/* Writes 'WORD HEX' as a line. */
-void hex_write(const char *word, const uint8_t *bytes, size_t len);
+/* Writes 'WORD HEX' as a line. Answers 1, or 0 where not all of it was written. */
+int hex_write(const char *word, const uint8_t *bytes, size_t len);
 
-/* Reads a line. Answers its length, or -1 where there is none, it isn't hex, or it doesn't fit: it is never cut. */
+/* Reads a line. Answers how many bytes it has, or one of these: it is never cut. */
+enum {
+    HEX_NONE = -1,    /* there is no whole line of hex */
+    HEX_NO_ROOM = -2  /* it doesn't fit */
+};
 long hex_read(uint8_t *out, size_t room);
 
 #endif

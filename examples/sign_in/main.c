@@ -19,10 +19,14 @@
 
 dialtable_len exchange(const uint8_t *msg, dialtable_len msg_len, uint8_t *in, dialtable_len in_len)
 {
+    int is_sent = hex_write(in_len > 0 ? "negotiate" : "authenticate", msg, (size_t)msg_len);
     long len;
 
-    hex_write(in_len > 0 ? "negotiate" : "authenticate", msg, (size_t)msg_len);
-    if (in_len == 0) return 0;
+    if (in_len == 0) return is_sent ? 0 : NOT_SENT;
+    if (!is_sent) {
+        fputs("the NEGOTIATE can't be sent: standard output takes no more\n", stderr);
+        exit(1);
+    }
     len = hex_read(in, (size_t)in_len);
     if (len >= 0) return (dialtable_len)len;
     puts("no challenge: there is no line of hex that fits");
@@ -61,10 +65,14 @@ static int tell(uint64_t answer, const struct radio *radio)
         puts("a name can't be sent whole");
     } else if (answer == NO_RESPONSE) {
         puts("the radio module has no response");
+    } else if (answer == NOT_SENT) {
+        fputs("the AUTHENTICATE can't be sent: standard output takes no more\n", stderr);
+    } else if (!hex_write("key", radio->session_key, sizeof radio->session_key)) {
+        fputs("the key can't be told: standard output takes no more\n", stderr);
     } else {
-        hex_write("key", radio->session_key, sizeof radio->session_key);
+        return 0;
     }
-    return answer != 0;
+    return 1;
 }
 
 int main(int argc, char **argv)

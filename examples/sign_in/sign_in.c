@@ -69,10 +69,12 @@ static uint64_t work_out(struct radio *radio, const uint8_t *challenge, dialtabl
 
 uint64_t sign_in(const struct settings *box, struct radio *radio)
 {
-    uint8_t first[64], challenge[CHALLENGE_ROOM], pairs[PAIRS_ROOM], out[ANSWER_ROOM], mic[16], line[LINE_ROOM];
+    /* More than a box has of stack; it signs in once at a time. */
+    static uint8_t first[64], challenge[CHALLENGE_ROOM], pairs[PAIRS_ROOM], out[ANSWER_ROOM], line[LINE_ROOM];
+    static struct names own;
+    uint8_t mic[16];
     uint64_t answer, worked_out, time, decision[DIALTABLE_DECISION_NUMBERS], done[DIALTABLE_RESPONSE_NUMBERS];
     dialtable_len first_len, challenge_len, pairs_len;
-    struct names own;
 
     /* The recipe of dialtable.h, line by line. */
     first_len = dialtable_write_negotiate(first, sizeof first, box->wanted, version, NULL, 0, NULL, 0);
@@ -83,7 +85,8 @@ uint64_t sign_in(const struct settings *box, struct radio *radio)
     answer = dialtable_decide(box->settings, challenge, challenge_len, decision, DIALTABLE_DECISION_NUMBERS);
     if (DIALTABLE_IS_REFUSED(answer)) return answer;
     if (!encode(box, (decision[DIALTABLE_DECISION_FLAGS] & DIALTABLE_FLAG_UNICODE) != 0, &own)) return NAME_UNSENT;
-    time = decision[DIALTABLE_DECISION_TIMESTAMP_THERE] ? decision[DIALTABLE_DECISION_TIMESTAMP] : box->clock;
+    time = decision[DIALTABLE_DECISION_TIMESTAMP_THERE] && (box->settings & DIALTABLE_NTLMV2) != 0
+               ? decision[DIALTABLE_DECISION_TIMESTAMP] : box->clock;
     pairs_len = dialtable_write_response_pairs(pairs, sizeof pairs, challenge, challenge_len, own.target,
                                                own.target_len, 0, zeros);
     if (DIALTABLE_IS_REFUSED(pairs_len)) return pairs_len;

@@ -41,16 +41,18 @@ struct module {
 };
 
 static const uint8_t version[8] = {10, 0, 0x61, 0x4A, 0, 0, 0, 15}, zeros[16] = {0};
-static const struct settings settings = {DIALTABLE_FLAG_UNICODE | DIALTABLE_FLAG_OEM | DIALTABLE_FLAG_REQUEST_TARGET |
-                                             DIALTABLE_FLAG_SIGN | DIALTABLE_FLAG_VERSION | DIALTABLE_FLAG_128 |
-                                             DIALTABLE_FLAG_KEY_EXCH,
-                                         DIALTABLE_DEFAULTS, CLOCK};
-enum { NAME_UNSENT = 1 };
+#define WANTED (DIALTABLE_FLAG_UNICODE | DIALTABLE_FLAG_OEM | DIALTABLE_FLAG_REQUEST_TARGET | DIALTABLE_FLAG_SIGN | \
+                DIALTABLE_FLAG_VERSION | DIALTABLE_FLAG_128 | DIALTABLE_FLAG_KEY_EXCH)
+static const struct settings settings = {WANTED, DIALTABLE_DEFAULTS, CLOCK};
+static const struct settings no_ntlmv2 = {WANTED, DIALTABLE_DEFAULTS & ~DIALTABLE_NTLMV2, CLOCK};
+enum { NAME_UNSENT = 1, NOT_SENT = 3 };
 
-static const char *server;        /* the file that the server sends */
+static const char *server; /* the file that the server sends */
+static int line_is_cut;    /* the last message doesn't go out */
 static uint8_t first_sent[64], sent[1024];
 static dialtable_len first_sent_len, sent_len;
 static struct module worked;
+static uint64_t done[DIALTABLE_RESPONSE_NUMBERS]; /* what the library answered besides */
 static int lines;
 static char logged[512]; /* the last line */
 
@@ -61,6 +63,7 @@ static dialtable_len exchange(const uint8_t *msg, dialtable_len msg_len, uint8_t
     dialtable_len got;
 
     if (in_len == 0) {
+        if (line_is_cut) return NOT_SENT;
         memcpy(sent, msg, (size_t)msg_len);
         sent_len = msg_len;
         return 0;
@@ -88,7 +91,7 @@ static int encode(const struct settings *box, int unicode, struct names *own)
     own->user_len = unicode ? sizeof wide : sizeof narrow;
     own->target = target;
     own->target_len = sizeof target;
-    return box == &settings;
+    return box->clock == CLOCK;
 }
 
 /* In the place of the real work: bytes that can be seen again. */
@@ -120,12 +123,11 @@ static void log_it(const uint8_t *line, uint64_t len)
     lines++;
 }
 
-static uint64_t sign_in(void)
+static uint64_t sign_in(const struct settings *box)
 {
     uint8_t first[64], challenge[1024], pairs[1100], out[1024], mic[16], line[500];
     dialtable_len first_len, challenge_len, pairs_len;
-    uint64_t answer, worked_out, time, decision[DIALTABLE_DECISION_NUMBERS], done[DIALTABLE_RESPONSE_NUMBERS];
-    const struct settings *box = &settings;
+    uint64_t answer, worked_out, time, decision[DIALTABLE_DECISION_NUMBERS];
     struct module *radio = &worked;
     struct names own;
 
@@ -148,7 +150,7 @@ int main(int argc, char **argv)
 
     /* The server's time, its domain, a MIC, and no LM response of the box's own. */
     server = argv[1];
-    CHECK(sign_in() == 0);
+    CHECK(sign_in(&settings) == 0);
     CHECK(first_sent_len == 40 && memcmp(first_sent, "NTLMSSP\0" "\1", 9) == 0);
     CHECK(worked.time == SERVER_TIME && worked.flags == DIALTABLE_PAIR_FLAG_MIC);
     CHECK(sent_len == 88 + 14 + 8 + 24 + 60 + 16 && memcmp(sent + DIALTABLE_MIC_AT, mic, 16) == 0);
@@ -157,21 +159,31 @@ int main(int argc, char **argv)
           == 0);
     CHECK(lines == 3);
 
+    /* Without NTLMV2 the Time is the box's own, though the server sent one; so the answer has it too. */
+    CHECK(sign_in(&no_ntlmv2) == 0);
+    CHECK(worked.time == CLOCK && done[DIALTABLE_RESPONSE_TIME] == CLOCK);
+
     /* The box's own clock, and zeros for the MIC; its line says mic=1 all the same. */
     server = argv[2];
-    CHECK(sign_in() == 0);
+    CHECK(sign_in(&settings) == 0);
     CHECK(worked.time == CLOCK && worked.flags == 0);
     CHECK(memcmp(sent + DIALTABLE_MIC_AT, zeros, 16) == 0);
     CHECK(strstr(logged, " mic=1 ") != NULL && strstr(logged, " user=box7 ") != NULL);
 
+    /* A sign-in whose last message doesn't go out is none. */
+    line_is_cut = 1;
+    CHECK(sign_in(&settings) == NOT_SENT);
+    CHECK(sent_len == 0);
+    line_is_cut = 0;
+
     /* Names in bytes. */
     server = argv[3];
-    CHECK(sign_in() == 0);
+    CHECK(sign_in(&settings) == 0);
     CHECK(strstr(logged, " set=O ") != NULL && strstr(logged, " user=box7 ") != NULL);
 
     /* No challenge: nothing is sent but the NEGOTIATE, and the log says why. */
     server = argv[4];
-    answer = sign_in();
+    answer = sign_in(&settings);
     CHECK(DIALTABLE_IS_REFUSED(answer) && DIALTABLE_NUMBER(answer) == DIALTABLE_REFUSED_WRONG_TYPE);
     CHECK(sent_len == 0 && lines == 2 && strcmp(logged, "refused 4 field=0 at=0\n") == 0);
 

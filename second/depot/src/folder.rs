@@ -34,8 +34,9 @@ pub struct MessageFile {
 pub enum Content {
     /// A message, and the form that it has in the file.
     Message(Form, Vec<u8>),
-    /// The texts of header lines, each of which is to carry a message.
-    HeaderTexts(Vec<Vec<u8>>),
+    /// The texts of header lines, each of which is to carry a message, each behind
+    /// the number that its line has in the file.
+    HeaderTexts(Vec<(usize, Vec<u8>)>),
 }
 
 /// Why a folder gives no messages. Each says what to do.
@@ -130,7 +131,7 @@ impl MessageFile {
     pub fn read_all(&self) -> Result<Content, NotRead> {
         let content = self.content()?;
         if let Some(texts) = form::header_texts(&content) {
-            let texts = texts.into_iter().map(<[u8]>::to_vec);
+            let texts = texts.into_iter().map(|(line, text)| (line, text.to_vec()));
             return Ok(Content::HeaderTexts(texts.collect()));
         }
         let (form, message) = form::read(content).map_err(NotRead::NoMessage)?;

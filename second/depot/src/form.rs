@@ -91,13 +91,15 @@ const HEADERS: [&[u8]; 4] = [
 ];
 
 /// The texts that the header lines of a file carry, as they are copied from a trace,
-/// one to a line; none where any line is something else. No file of another form is
-/// one of header lines.
-pub fn header_texts(content: &[u8]) -> Option<Vec<&[u8]>> {
+/// one to a line, each behind its line's number; none where any line is something
+/// else. An empty line carries nothing, but counts. No file of another form is one of
+/// header lines.
+pub fn header_texts(content: &[u8]) -> Option<Vec<(usize, &[u8])>> {
     let lines = content.split(|&byte| byte == b'\n').map(<[u8]>::trim_ascii);
-    let texts: Option<Vec<&[u8]>> = lines
-        .filter(|line| !line.is_empty())
-        .map(header_text)
+    let texts: Option<Vec<(usize, &[u8])>> = (1..)
+        .zip(lines)
+        .filter(|(_, line)| !line.is_empty())
+        .map(|(number, line)| Some((number, header_text(line)?)))
         .collect();
     texts.filter(|texts| !texts.is_empty() && content.iter().all(|&byte| is_text(byte)))
 }
@@ -394,7 +396,10 @@ mod tests {
 
     #[test]
     fn header_lines_are_read_as_they_are_copied() {
-        let texts = |content: &'static str| header_texts(content.as_bytes());
+        let texts = |content: &'static str| {
+            let numbered = header_texts(content.as_bytes())?;
+            Some(numbered.into_iter().map(|(_, text)| text).collect())
+        };
         let ntlm: Option<Vec<&[u8]>> = Some(vec![b"NTLM Zg=="]);
         for content in [
             "Authorization: NTLM Zg==",
@@ -411,6 +416,13 @@ mod tests {
         let three = "Authorization: ntlm  a\nWWW-Authenticate: NTLM\nAuthorization: Basic b:c\n";
         let expected: Vec<&[u8]> = vec![b"ntlm  a", b"NTLM", b"Basic b:c"];
         assert_eq!(texts(three), Some(expected));
+    }
+
+    #[test]
+    fn a_header_line_has_its_number_in_the_file() {
+        let content = b"\r\nNTLM a\n\n \nNTLM b\nNTLM c";
+        let expected: Vec<(usize, &[u8])> = vec![(2, b"NTLM a"), (5, b"NTLM b"), (6, b"NTLM c")];
+        assert_eq!(header_texts(content), Some(expected));
     }
 
     #[test]

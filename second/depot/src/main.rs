@@ -100,7 +100,7 @@ impl fmt::Display for Failure {
             Self::NoFolder(why) => why.fmt(f),
             Self::NoFile(path, NotRead::Missing) => write!(
                 f,
-                "there is no file {}: name a message, as make explain FILE=message",
+                "there is no file {}: name a message, as FILE=message",
                 path.display()
             ),
             Self::NoFile(path, why) => write!(f, "{} is not read: {why}", path.display()),
@@ -168,10 +168,10 @@ struct Night {
 impl Night {
     /// The night whose buffer is in a file, with its index beside it.
     fn read(file: &Path) -> Result<Self, Failure> {
+        let index = index_of(file)?;
         let buffer = MessageFile::at(file)
             .content()
             .map_err(|why| Failure::NoBuffer(file.to_owned(), why))?;
-        let index = index_of(file);
         let entries = read_index(&index)?.len();
         Ok(Self {
             index,
@@ -280,7 +280,7 @@ impl Bench {
                     self.run_message(&message, &mut counts, &mut out)?;
                 }
                 Ok(Content::HeaderTexts(texts)) => {
-                    for (text, line) in texts.iter().zip(1..) {
+                    for (line, text) in &texts {
                         counts.messages += 1;
                         write!(out, "{}, {line}: header line, ", file.name)?;
                         self.run_header(text, &mut counts, &mut out)?;

@@ -271,6 +271,8 @@ fn a_file_that_gives_no_message_is_one_plain_line() {
             assert_eq!((status, out.as_str()), (Some(1), ""));
             assert_eq!(err.lines().count(), 1, "{err}");
             assert!(err.starts_with(start), "{err}");
+            // More than one make target reads a file so.
+            assert!(!err.contains("make explain"), "{err}");
         }
     }
 }
@@ -342,6 +344,13 @@ fn a_night_that_cannot_be_run_is_one_plain_line() {
         }
     }
     let files: [(&str, &[u8]); 2] = [("a.night", b""), ("a.index", b"")];
+    let folder = folder_of("night_by_its_index", &files);
+    let (index, answers) = (folder.join("a.index"), program("answers"));
+    let (status, out, err) = told(&depot(&[Path::new("night"), &index, &answers, &answers]));
+    assert_eq!((status, out.as_str()), (Some(1), ""));
+    let start = format!("{} is an index: name the night's buffer, ", index.display());
+    assert!(err.starts_with(&start), "{err}");
+    assert_eq!(err.lines().count(), 1, "{err}");
     let folder = folder_of("night_without_program", &files);
     let (status, out, err) = night(&folder, "not_there", "answers");
     assert_eq!((status, out.as_str()), (Some(1), ""));
@@ -572,6 +581,21 @@ fn each_header_line_is_a_message() {
         )
     );
     assert_eq!((status, err.as_str()), (Some(0), ""));
+}
+
+#[test]
+fn a_header_line_is_told_by_its_line_in_the_file() {
+    let folder = folder_of("headers-apart", &[("a.txt", b"\n\nNTLM a\n\nNTLM b\n")]);
+    let programs = ["refuses", "takes", "explains", "refuses"];
+    let (_, out, _) = run_linked(&folder, programs, "imports");
+    let told: Vec<&str> = out.lines().filter(|line| line.contains("header")).collect();
+    assert_eq!(
+        told,
+        [
+            "a.txt, 3: header line, 8 bytes, NTLM",
+            "a.txt, 5: header line, 8 bytes, NTLM"
+        ]
+    );
 }
 
 #[test]

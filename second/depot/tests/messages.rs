@@ -59,7 +59,7 @@ fn each_file_stands_in_the_table_with_its_line() {
         let printed = match file.read_all().expect("a message") {
             Content::Message(_, message) => printed(&message),
             Content::HeaderTexts(texts) => {
-                let lines = texts.iter().map(|text| match carried(text) {
+                let lines = texts.iter().map(|(_, text)| match carried(text) {
                     Ok(message) => printed(&message),
                     Err(refusal) => format!("`{refusal}`"),
                 });
@@ -93,7 +93,7 @@ fn the_night_stands_there_with_its_answers() {
         };
         Ok(entries.iter().map(answer).collect())
     };
-    let index = night::index_of(&file);
+    let index = night::index_of(&file).expect("an index");
     night::run(&index, &mut buffer.as_slice(), &mut out, check).expect("a night");
     let answers = String::from_utf8(out).expect("text");
     let readme = fs::read_to_string(Path::new(MESSAGES).join("README.md")).expect("a README");

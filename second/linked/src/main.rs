@@ -10,6 +10,7 @@ use std::path::Path;
 use std::process::ExitCode;
 
 use depot::folder::{MessageFile, NotRead};
+use depot::form::Kind;
 use depot::secret_file;
 
 const USAGE: &str = "usage: linked canonical FILE OUT | linked import < TEXT";
@@ -86,11 +87,28 @@ fn canonical(file: &Path, out: &Path) -> Result<(), String> {
             file.display()
         ));
     }
-    let written = proved.map_err(|refusal| {
-        format!(
-            "{} has no canonical form, {refusal}; make explain FILE={0} shows its checks as an NTLM message",
-            file.display()
-        )
-    })?;
+    let written = proved.map_err(|refusal| no_form(file, &message, refusal))?;
     secret_file::write(out, file, written).map_err(|why| why.to_string())
+}
+
+/// Why a file's message has no canonical form, and what to do. make explain has the
+/// checks of reading alone, and those of an AUTHENTICATE only for a message of type 3.
+fn no_form(file: &Path, message: &[u8], refusal: dialtable::Refusal) -> String {
+    let file = file.display();
+    let authenticate = [3, 0, 0, 0];
+    let is_one = Kind::of(message) != Kind::NlAuth && message.get(8..12) == Some(&authenticate[..]);
+    if !is_one {
+        return format!(
+            "{file} is no AUTHENTICATE, and nothing else has a canonical form: name one, as \
+             FILE=messages/authenticate-smbclient.bin"
+        );
+    }
+    let what_to_do = match refusal.number() {
+        1..=9 => format!("make explain FILE={file} shows its checks"),
+        30 => "with a Version, a MIC and each field by itself it is too long: keep it as it is"
+            .to_owned(),
+        32 => "no message is written with such a key: keep it as it is".to_owned(),
+        _ => "that should never come: keep the file and tell us".to_owned(),
+    };
+    format!("{file} has no canonical form, {refusal}; {what_to_do}")
 }

@@ -104,6 +104,8 @@ pub type Answers = Result<Vec<Option<Refused>>, Refused>;
 /// Why a night can't be run. Each says what to do.
 #[derive(Debug)]
 pub enum NoNight {
+    /// The file that is named as a buffer is an index.
+    NoBuffer(PathBuf),
     /// The index isn't there, or can't be opened.
     Unreadable(PathBuf, io::Error),
     /// The index is larger than any is.
@@ -123,6 +125,12 @@ impl From<io::Error> for NoNight {
 impl fmt::Display for NoNight {
     fn fmt(&self, f: &mut fmt::Formatter<'_>) -> fmt::Result {
         match self {
+            Self::NoBuffer(path) => write!(
+                f,
+                "{} is an index: name the night's buffer, which stands beside it, as \
+                 FILE=messages/two-boxes.night",
+                path.display()
+            ),
             Self::Unreadable(path, error) => write!(
                 f,
                 "the index {} can't be read ({error}): put it beside the night's buffer",
@@ -144,9 +152,14 @@ impl fmt::Display for NoNight {
     }
 }
 
-/// The index that belongs to a buffer: the same name, ending in `.index`.
-pub fn index_of(buffer: &Path) -> PathBuf {
-    buffer.with_extension("index")
+/// The index that belongs to a buffer: the same name, ending in `.index`. A buffer
+/// whose own name ends so has none.
+pub fn index_of(buffer: &Path) -> Result<PathBuf, NoNight> {
+    let index = buffer.with_extension("index");
+    if index == buffer {
+        return Err(NoNight::NoBuffer(index));
+    }
+    Ok(index)
 }
 
 /// The places of an index, a line for each; a last line may lack its end.
@@ -301,8 +314,14 @@ mod tests {
 
     #[test]
     fn an_index_has_its_buffers_name() {
-        let index = index_of(Path::new("a/b.c.night"));
+        let index = index_of(Path::new("a/b.c.night")).expect("an index");
         assert_eq!(index, Path::new("a/b.c.index"));
+        let own = index_of(Path::new("a/b.index")).expect_err("its own index");
+        assert_eq!(
+            own.to_string(),
+            "a/b.index is an index: name the night's buffer, which stands beside it, as \
+             FILE=messages/two-boxes.night"
+        );
         let missing = read_index(Path::new("/no/such.index")).expect_err("no index");
         let text = missing.to_string();
         assert!(text.starts_with("the index /no/such.index can't be read ("));

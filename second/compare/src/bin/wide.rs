@@ -38,7 +38,9 @@ fn messages(folder: &Path) -> Result<Vec<Vec<u8>>, String> {
     for file in &folder.messages {
         match file.read_all() {
             Ok(Content::Message(_, message)) => messages.push(message),
-            Ok(Content::HeaderTexts(texts)) => messages.extend(texts.iter().filter_map(carried)),
+            Ok(Content::HeaderTexts(texts)) => {
+                messages.extend(texts.iter().filter_map(|(_, text)| carried(text)));
+            }
             Err(error) => return Err(format!("{}: {error}", file.name)),
         }
     }
@@ -46,7 +48,7 @@ fn messages(folder: &Path) -> Result<Vec<Vec<u8>>, String> {
 }
 
 /// The message of a header line's text.
-fn carried(text: &Vec<u8>) -> Option<Vec<u8>> {
+fn carried(text: &[u8]) -> Option<Vec<u8>> {
     let mut message = vec![0; text.len()];
     let len = reader::import_header(text, &mut message).ok()?;
     message.truncate(len);
