@@ -85,8 +85,8 @@ all-xored pad key x i d n h =
     ∙ sym (getD-xored block x k (omega (arith, d .long, m))))
     ∙ ap (xored x) (sym (short-block key n))
 
-pub is-padded : (key l : List ℕ) (x : ℕ) (s t : State) → l ≡ xored x (keyBlock key) → s ≡ fresh → t ≡ taken s l → t ≡ taken fresh (xored x (keyBlock key))
-is-padded key l x s t f g h = simp (h, g, f)
+pub is-padded : (key l : List ℕ) (x : ℕ) (t : State) → l ≡ xored x (keyBlock key) → t ≡ taken fresh l → t ≡ taken fresh (xored x (keyBlock key))
+is-padded key l x t f h = simp (h, f)
 
 pub is-begun : (key : List ℕ) (t : State) → t ≡ taken fresh (xored 0x36 (keyBlock key)) → t ≡ begun key
 unfolding begun

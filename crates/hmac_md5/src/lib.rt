@@ -36,8 +36,7 @@ fn padded(key: &[u8], x: u8) -> State
     ensures { λ r. ⌜ (r .count ≡ 64) × (r ≡ taken fresh (xored x (keyBlock (now (key .entry))))) ⌝ }
 {
     let pad = key_pad(key, x);
-    let s = State::new();
-    s.update(&pad)
+    State::of_block(&pad)
 }
 
 // The state of the inner digest, before the first piece of the text. A key that is longer than a block is digested before: `mac` does it.

@@ -7,4 +7,4 @@ pub padded-spec : {M : Type 1} → statement M
 padded-spec =
     tie.close
     (tie.spec
-    (λ c κs. search needs) (λ c κs. search needs) (λ c. search needs) (λ c κs. search needs) (λ c. (search needs, search is-padded)))
+    (λ c κs. search needs) (λ c. search needs) (λ c κs. search needs) (λ c. (search needs, search is-padded)))
