@@ -75,7 +75,7 @@ length-xored : (block : List ℕ) (x : ℕ) → length (xored x block) ≡ lengt
 length-xored [] x = refl
 length-xored (b ∷ block) x = ap suc (length-xored block x)
 
-pub all-xored : (pad key : List ℕ) (x i : ℕ) → Xored pad key x i → length key ≤ 64 → 64 ≤ i → pad ≡ xored x (keyBlock key)
+all-xored : (pad key : List ℕ) (x i : ℕ) → Xored pad key x i → length key ≤ 64 → 64 ≤ i → pad ≡ xored x (keyBlock key)
 unfolding filledOut
 all-xored pad key x i d n h =
     let block : List ℕ = key ++ zeros (64 - length key) in
@@ -85,8 +85,8 @@ all-xored pad key x i d n h =
     ∙ sym (getD-xored block x k (omega (arith, d .long, m))))
     ∙ ap (xored x) (sym (short-block key n))
 
-pub is-padded : (key l : List ℕ) (x : ℕ) (s t : State) → l ≡ xored x (keyBlock key) → s ≡ fresh → t ≡ taken s l → t ≡ taken fresh (xored x (keyBlock key))
-is-padded key l x s t f g h = simp (h, g, f)
+pub is-padded : (key pad : List ℕ) (x i : ℕ) (t : State) → Xored pad key x i → length key ≤ 64 → 64 ≤ i → t ≡ taken fresh pad → t ≡ taken fresh (xored x (keyBlock key))
+is-padded key pad x i t d n h e = e ∙ ap (taken fresh) (all-xored pad key x i d n h)
 
 pub is-begun : (key : List ℕ) (t : State) → t ≡ taken fresh (xored 0x36 (keyBlock key)) → t ≡ begun key
 unfolding begun

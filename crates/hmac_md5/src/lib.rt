@@ -16,10 +16,10 @@ fn key_byte(key: &[u8], i: usize) -> u8
     0
 }
 
-// The block of a key of at most 64 bytes, each byte XOR x.
-fn key_pad(key: &[u8], x: u8) -> [u8; 64]
+// A digest's state after the block of a key of at most 64 bytes, each byte XOR x.
+fn padded(key: &[u8], x: u8) -> State
     requires { ⌜ length (now key) ≤ 64 ⌝ }
-    ensures { λ r. ⌜ r ≡ xored x (keyBlock (now (key .entry))) ⌝ }
+    ensures { λ r. ⌜ (r .count ≡ 64) × (r ≡ taken fresh (xored x (keyBlock (now (key .entry))))) ⌝ }
 {
     let mut pad = [0u8; 64];
     let mut i: usize = 0;
@@ -27,17 +27,7 @@ fn key_pad(key: &[u8], x: u8) -> [u8; 64]
         pad[i] = key_byte(key, i) ^ x;
         i = i + 1;
     }
-    pad
-}
-
-// A digest's state after that block.
-fn padded(key: &[u8], x: u8) -> State
-    requires { ⌜ length (now key) ≤ 64 ⌝ }
-    ensures { λ r. ⌜ (r .count ≡ 64) × (r ≡ taken fresh (xored x (keyBlock (now (key .entry))))) ⌝ }
-{
-    let pad = key_pad(key, x);
-    let s = State::new();
-    s.update(&pad)
+    State::of_block(&pad)
 }
 
 // The state of the inner digest, before the first piece of the text. A key that is longer than a block is digested before: `mac` does it.
