@@ -47,7 +47,7 @@ pub fn plus(x: u32, y: u32) -> u32
     ((wide(x) + wide(y)) % 4294967296) as u32
 }
 
-// Entry n of the table.
+// Entry n of the table. A `match`, long as it is: an array would be laid out on the stack anew at each use.
 pub fn sine(n: usize) -> u32
     requires { ⌜ n < 64 ⌝ }
     ensures { λ r. ⌜ r ≡ getD sines n 0 ⌝ }
