@@ -557,6 +557,7 @@ fn night(size: usize, (what, other): &Beside) -> Measured {
         on,
         proved: repeat!(raw::check_messages(black_box(&night.buffer), &mut entries)),
         second: other(Night::of(size)),
+        through: None,
     }
 }
 
