@@ -56,8 +56,8 @@
  * overlap an input or another output. A pointer may be NULL where its length is 0; version, mic and bindings, where they
  * come without a length, must never be NULL.
  *
- * The answer is 0, or the length of what was written, or a refusal; dialtable_check_mic's may also be 1, for yes. A
- * refusal changes no byte of any output. An output exactly as long as what is written suffices.
+ * The answer is 0, or the length of what was written, or a refusal; dialtable_check_mic's is 1 for yes and 0
+ * for no. A refusal changes no byte of any output. An output exactly as long as what is written suffices.
  *
  *     uint64_t answer = dialtable_authenticate_line(msg, msg_len, line, sizeof line);
  *     if (DIALTABLE_IS_REFUSED(answer))
@@ -100,10 +100,10 @@ typedef uint64_t dialtable_len;
  * response 2, domain 3, user 4, workstation 5, session key 6. CHALLENGE: target name 1, target info 2. NEGOTIATE:
  * domain 1, workstation 2. NL_AUTH: strings A to E are 1 to 5. */
 enum {
-    DIALTABLE_REFUSED_TOO_LONG = 1,           /* message over 65,535 bytes */
+    DIALTABLE_REFUSED_TOO_LONG = 1,           /* message, or a night's buffer, over 65,535 bytes */
     DIALTABLE_REFUSED_TOO_SHORT = 2,          /* shorter than its fixed part */
     DIALTABLE_REFUSED_WRONG_SIGNATURE = 3,    /* signature differs */
-    DIALTABLE_REFUSED_WRONG_TYPE = 4,         /* type differs */
+    DIALTABLE_REFUSED_WRONG_TYPE = 4,         /* type differs; a night's mark that is no kind's */
     DIALTABLE_REFUSED_NO_CHARSET = 5,         /* UNICODE and OEM both clear */
     DIALTABLE_REFUSED_PAST_END = 6,           /* the field ends past the message */
     DIALTABLE_REFUSED_IN_FIXED_PART = 7,      /* the field begins in the fixed part */
@@ -478,7 +478,7 @@ uint64_t dialtable_canonical_authenticate(uint8_t *out, dialtable_len out_len, c
                                           dialtable_len msg_len);
 
 /* ---- Messages in HTTP header lines: what stands after 'Authorization: ' or 'WWW-Authenticate: '. The text holds the
- * message's secrets. No byte of the message is looked at. */
+ * message's secrets: let no log have it. No byte of the message is looked at. */
 
 /* Writes 'NTLM ' and the message in base64 (RFC 4648, section 4) with padding. Refuses 1, then 33. Answers the text's
  * length, which is DIALTABLE_HEADER_LEN(msg_len). */
@@ -493,14 +493,17 @@ uint64_t dialtable_import_header(uint8_t *out, dialtable_len out_len, const uint
 /* ---- The MIC of a sign-in: HMAC-MD5 (RFC 2104 over RFC 1321) of its three messages, one after the other and whole, with
  * the sixteen bytes at DIALTABLE_MIC_AT of the AUTHENTICATE taken as zero, whatever stands there. The key is the exported
  * session key. Both calls refuse 55, then as reading the NEGOTIATE does, the CHALLENGE, the AUTHENTICATE (which of the
- * three is not told), then 56. Both answers depend on secrets: let no log have them. A refusal depends only on the key's
- * length, the two earlier messages, and the AUTHENTICATE's length and first 64 bytes. */
+ * three is not told), then 56. Both answers depend on secrets: let no log have them. A refusal, but for the 33
+ * of a mic that is too short, depends only on the key's length, the two earlier messages, and the AUTHENTICATE's length
+ * and first 64 bytes. */
 
 /* 16 bytes of mic. They must not be those of the message. Answers 0. */
 uint64_t dialtable_mic(const uint8_t *key, dialtable_len key_len, const uint8_t *negotiate, dialtable_len negotiate_len,
                        const uint8_t *challenge, dialtable_len challenge_len, const uint8_t *authenticate,
                        dialtable_len authenticate_len, uint8_t *mic, dialtable_len mic_len);
-/* Answers 1 where the AUTHENTICATE's MIC is the one that is worked out, else 0. All sixteen bytes are looked at. */
+/* Answers 1 where the AUTHENTICATE's MIC is the one that is worked out, else 0: no, which is not a refusal, so go on only
+ * where the answer is 1. 56 is no MIC at all; 0 is one that doesn't fit this key and these messages, also the zeros of an
+ * AUTHENTICATE for which none was due. All sixteen bytes are looked at. */
 uint64_t dialtable_check_mic(const uint8_t *key, dialtable_len key_len, const uint8_t *negotiate,
                              dialtable_len negotiate_len, const uint8_t *challenge, dialtable_len challenge_len,
                              const uint8_t *authenticate, dialtable_len authenticate_len);
