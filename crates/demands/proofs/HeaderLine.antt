@@ -22,14 +22,14 @@ use Rattle.place.specs.declared.written.Written.the-variants.{Length}
 use Rattle.place.specs.Written.{answered, outAfter, roomHolds}
 use Rattle.base64.specs.Base64.{alphabet, letter, three, two, one, encode, isLetter, valueOf, groupHolds, groupBytes, isBase64, decode}
 use Rattle.base64.proofs.Alphabet.{is-letter}
-use Rattle.base64.proofs.Back.{back, encoded-base64, one-text}
+use Rattle.base64.proofs.Back.{back, encoded-base64, there, one-text}
 use Rattle.http_header.specs.HttpHeader.{messageHolds, headerLine, checkExport, exportAnswer, exportOut, schemeHolds, afterSpaces, textOf, base64Holds, checkText, checkImport, importAnswer, importOut}
 use Rattle.http_header.proofs.Laws.{line-length, line-fits}
 use Rattle.c_number.specs.Number.{writtenNumber}
 use Rattle.demands.specs.Answers.{TellsWritten}
 use Rattle.demands.specs.Order.{placeIn}
 use Rattle.demands.specs.WrittenExactly.{WrittenExactly}
-use Rattle.demands.specs.HeaderLine.{ExportIs, decodedSize, ImportFails, importOrder, HeaderIsImported, lineSize, ExportFails, HeaderIsExported, ExportKept, ImportKept, ExportTells, ImportTells, ExportShort, ImportShort, Gives, Bytes, ImportOfExport, LineOf, OneMessage, CaseAndSpacesIgnored, BytesUnread, EveryByteCounts, WorkedLines}
+use Rattle.demands.specs.HeaderLine.{ExportIs, ImportIs, decodedSize, ImportFails, importOrder, HeaderIsImported, lineSize, ExportFails, HeaderIsExported, ExportKept, ImportKept, ExportTells, ImportTells, ExportShort, ImportShort, Gives, Bytes, ImportOfExport, LineOf, OneMessage, CaseAndSpacesIgnored, BytesUnread, EveryByteCounts, WorkedLines}
 use Rattle.demands.proofs.Bools.{failed-false, chained, after-held, both-ways}
 use Rattle.demands.proofs.Answers.Told.{tells-refusal, tells-length}
 use Rattle.demands.proofs.Kept.{by-verdict as kept-by-verdict}
@@ -208,6 +208,12 @@ exported out m n h = front (headerLine m) out n (checkExport (length out) m) h
 pub export-is : ExportIs
 unfolding headerLine
 export-is out m n h = exported out m n h
+
+pub import-is : ImportIs
+unfolding importAnswer importOut
+import-is out t b n a h =
+    let k = import-holds (length out) t (clear-answer (decode (textOf t)) out n (checkImport (length out) t) h) in
+    ap encode (front (decode (textOf t)) out n (checkImport (length out) t) h) ∙ there (textOf t) (k .in-base64) ∙ sym (text-is t b a)
 
 short-message : (room : ℕ) (m : List ℕ) (n : ℕ) → exportAnswer room m ≡ Length n → length m ≤ 65535
 unfolding exportAnswer checkExport

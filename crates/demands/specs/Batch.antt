@@ -126,7 +126,7 @@ NameOf Negotiate i = (i ≡ 1) ⊎ (i ≡ 2)
 NameOf Challenge i = i ≡ 1
 NameOf Authenticate i = (3 ≤ i) × (i ≤ 5)
 
--- a byte of a listed message that is in no secret by the request's words
+-- a byte of a listed message in which the two buffers may not differ
 pub data Open (s : List ℕ) (x : Place) (p : ℕ) : Type 0 where
   in-name : (k : Kind) (i : ℕ) → x .Marked k → NameOf k i → formatOf k .fixed ≤ length (message s x) →
       Nonempty (formatOf k) (message s x) i → Covers (formatOf k) (message s x) i (p - x .start) → Open s x p

@@ -1,6 +1,7 @@
 -- Document 02, 12/12: "Carry messages in HTTP header lines." A line is spoken of by the positions of its bytes, and the output by
--- its length; beside their answers and outputs nothing here names a definition of export or import, but for `ExportIs`. "Exported
--- text holds secrets and stays out of every log": no crate of a line, and no program, uses `http_header` (crates.txt).
+-- its length; beside their answers and outputs nothing here names a definition of export or import, but for `ExportIs` and
+-- `ImportIs`. "Exported text holds secrets and stays out of every log": no crate of a line, and no program, uses `http_header`
+-- (crates.txt).
 use Prim.Native.Nat.{ℕ, _+_, _-_, _*_, _/_, _%_, _≤_, _<_}
 use mathlib.Core.Path.{_≡_}
 use mathlib.Core.Bool.{cond}
@@ -121,6 +122,11 @@ HeaderIsExported = (room : ℕ) (m : List ℕ) → WrittenExactly (exportAnswer 
 abbrev pub ExportIs : Type 0
 ExportIs =
     (out m : List ℕ) (n : ℕ) → exportAnswer (length out) m ≡ Length n → take n (exportOut out m) ≡ ascii "NTLM " ++ encode m
+
+-- and what an import gives: the message whose base64 is the line's text
+abbrev pub ImportIs : Type 0
+ImportIs =
+    (out t b : List ℕ) (n : ℕ) → TextAfter t b → importAnswer (length out) t ≡ Length n → encode (take n (importOut out t)) ≡ b
 
 -- with the table above
 abbrev pub OneTable : Type 0
