@@ -264,9 +264,9 @@ uint64_t dialtable_read_nl_auth(const uint8_t *msg, dialtable_len msg_len, uint6
 uint64_t dialtable_nl_auth_name(const uint8_t *msg, dialtable_len msg_len, uint32_t which, uint8_t *out,
                                 dialtable_len out_len);
 
-/* Copies a field's own bytes out of this message. Answers how many. An offset and length that don't fit this message, so
- * that offset + len is more than msg_len, are refused 6 with field 0, before 33; those of a message that was taken fit it.
- * (Its bytes also stand at msg + offset.) */
+/* Copies a field's own bytes out of this message. Answers how many. A nonempty field that ends past this message, so that
+ * offset + len is more than msg_len, is refused 6 with field 0, before 33; none of a message that was taken does. An empty
+ * field, len 0, answers 0 whatever its offset. (The bytes of a nonempty one also stand at msg + offset.) */
 uint64_t dialtable_field_bytes(const uint8_t *msg, dialtable_len msg_len, uint32_t offset, uint16_t len, uint8_t *out,
                                dialtable_len out_len);
 

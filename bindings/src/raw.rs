@@ -306,7 +306,8 @@ pub fn nl_auth_name(message: &[u8], which: u32, out: &mut [u8]) -> u64 {
     }
 }
 
-/// Copies a field's own bytes; what doesn't fit the message is refused 6.
+/// Copies a field's own bytes; a nonempty field that ends past the message is
+/// refused 6.
 pub fn field_bytes(message: &[u8], offset: u32, len: u16, out: &mut [u8]) -> u64 {
     unsafe {
         c::dialtable_field_bytes(

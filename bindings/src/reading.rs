@@ -38,8 +38,8 @@ impl Field {
         message.get(start..end).unwrap_or_default()
     }
 
-    /// Copies the field's own bytes to the start of `out`. A field that doesn't
-    /// fit this message, so that it is no field of it, is refused 6.
+    /// Copies the field's own bytes to the start of `out`. A nonempty field
+    /// that ends past this message, so that it is no field of it, is refused 6.
     pub fn copy<'a>(self, message: &[u8], out: &'a mut [u8]) -> Result<&'a [u8], Refusal> {
         crate::written(raw::field_bytes(message, self.offset, self.len, out), out)
     }

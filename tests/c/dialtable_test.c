@@ -127,16 +127,19 @@ static void reads_authenticate(const message_t *p1)
     CHECK(memcmp(name, box7, 8) == 0);
     EQUAL(name[8], FILL);
     CHECK(refused(dialtable_field_bytes(p1->bytes, p1->len, 88, 8, name, 7), 33, 0));
-    /* Nothing to copy, at the message's start or its end. */
+    /* Nothing to copy, whatever the offset. */
     EQUAL(dialtable_field_bytes(p1->bytes, p1->len, 0, 0, NULL, 0), 0);
     EQUAL(dialtable_field_bytes(p1->bytes, p1->len, (uint32_t)p1->len, 0, NULL, 0), 0);
+    EQUAL(dialtable_field_bytes(p1->bytes, p1->len, (uint32_t)p1->len + 1, 0, NULL, 0), 0);
+    EQUAL(dialtable_field_bytes(p1->bytes, p1->len, 0xFFFFFFFFu, 0, NULL, 0), 0);
+    EQUAL(dialtable_field_bytes(p1->bytes, p1->len, (uint32_t)p1->len + 1, 0, name, sizeof name), 0);
     EQUAL(dialtable_field_bytes(p1->bytes, p1->len, (uint32_t)p1->len - 1, 1, &name[8], 1), 1);
     EQUAL(name[8], p1->bytes[p1->len - 1]);
-    /* What doesn't fit this message is no empty field; 6 comes before 33. */
+    /* A nonempty field that ends past this message is no empty one; 6 comes before 33. */
     memset(name, FILL, sizeof name);
     CHECK(refused(dialtable_field_bytes(p1->bytes, p1->len, (uint32_t)p1->len - 1, 2, name, sizeof name), 6, 0));
     CHECK(refused(dialtable_field_bytes(p1->bytes, p1->len, (uint32_t)p1->len, 1, name, 0), 6, 0));
-    CHECK(refused(dialtable_field_bytes(p1->bytes, p1->len, (uint32_t)p1->len + 1, 0, name, sizeof name), 6, 0));
+    CHECK(refused(dialtable_field_bytes(p1->bytes, p1->len, (uint32_t)p1->len + 1, 1, name, sizeof name), 6, 0));
     CHECK(refused(dialtable_field_bytes(p1->bytes, 95, 88, 8, name, 7), 6, 0));
     CHECK(refused(dialtable_field_bytes(p1->bytes, p1->len, 0xFFFFFFFFu, 2, NULL, 0), 6, 0));
     CHECK(refused(dialtable_field_bytes(p1->bytes, p1->len, 0xFFFFFFFFu, 0xFFFF, name, sizeof name), 6, 0));

@@ -58,7 +58,7 @@ fn fields_at(msg: &[u8], flags: NegotiateFlags) -> Fields
 }
 
 // Check 6, over all fields of a message of `n` bytes.
-pub fn check_ends(f: Fields, n: u64) -> Verdict
+fn check_ends(f: Fields, n: u64) -> Verdict
     ensures { λ r. ⌜ r ≡ checkEnds n f ⌝ }
 {
     let Checked::Held = f.lm.ends_inside(n) else {
@@ -83,7 +83,7 @@ pub fn check_ends(f: Fields, n: u64) -> Verdict
 }
 
 // Check 7, over all fields.
-pub fn check_begins(f: Fields) -> Verdict
+fn check_begins(f: Fields) -> Verdict
     ensures { λ r. ⌜ r ≡ checkBegins f ⌝ }
 {
     let Checked::Held = f.lm.begins_after(64) else {
@@ -108,7 +108,7 @@ pub fn check_begins(f: Fields) -> Verdict
 }
 
 // Check 8, over the names.
-pub fn check_names(f: Fields, unicode: bool) -> Verdict
+fn check_names(f: Fields, unicode: bool) -> Verdict
     ensures { λ r. ⌜ r ≡ checkNames unicode f ⌝ }
 {
     let Checked::Held = f.domain.even_name(unicode) else {
@@ -124,14 +124,14 @@ pub fn check_names(f: Fields, unicode: bool) -> Verdict
 }
 
 // Check 9 at one name: it shares no byte with a secret.
-pub fn name_apart(name: Field, f: Fields) -> Checked
+fn name_apart(name: Field, f: Fields) -> Checked
     ensures { λ r. ⌜ r ≡ apart f name ⌝ }
 {
     check(!(name.shares(f.lm) | name.shares(f.nt) | name.shares(f.key)))
 }
 
 // Check 9, over the names.
-pub fn check_shared(f: Fields) -> Verdict
+fn check_shared(f: Fields) -> Verdict
     ensures { λ r. ⌜ r ≡ checkShared f ⌝ }
 {
     let Checked::Held = name_apart(f.domain, f) else {
@@ -147,7 +147,7 @@ pub fn check_shared(f: Fields) -> Verdict
 }
 
 // Whether a MIC is there: the lowest offset of a nonempty field, or else the message's length, is at least 88.
-pub fn mic_present(f: Fields, n: usize) -> bool
+fn mic_present(f: Fields, n: usize) -> bool
     ensures { λ r. ⌜ r ≡ micPresent n f ⌝ }
 {
     let room = f.lm.begins(88)
@@ -166,7 +166,7 @@ pub fn mic_present(f: Fields, n: usize) -> bool
 }
 
 // Checks 6 to 9 on the fields of a message of `n` bytes.
-pub fn check_fields(f: Fields, unicode: bool, n: u64) -> Verdict
+fn check_fields(f: Fields, unicode: bool, n: u64) -> Verdict
     ensures { λ r. ⌜ r ≡ checkFields n unicode f ⌝ }
 {
     let ends = check_ends(f, n);

@@ -1,18 +1,22 @@
 -- Laws of a walk over a list: what is left of it from a place on.
 use Prim.Native.Nat.{ℕ, zero, suc, _+_, _-_, _^_, _≤_, _<_}
 use mathlib.Core.Path.{_≡_, refl, sym, ap, _∙_}
+use mathlib.Core.Bool.{Bool, true, false}
 use mathlib.Core.List.{List, [], _∷_}
 use mathlib.Core.Logic.{⊎-elim}
 use native.Mathlib.Omega.{arith}
 use lib.ListN.{length, length-take, length-drop}
 use mir.Syntax.{w64}
 use mir.Val.{Fits}
+use borrow.Author.Tests.{eq-eqb, ne-eqb}
 use types.Run.{OneOf}
 use denote.Enum.Declared.{tagOf}
 use Rattle.wire.specs.declared.check.Verdict.{Verdict}
 use Rattle.wire.specs.declared.check.Verdict.the-variants.{Clear, Refused as Not}
 use Rattle.wire.specs.declared.refusal.Refusal.{Refusal}
+use Rattle.av_id.specs.AvId.{isEnd}
 use Rattle.wire.specs.Check.{onClear}
+use Rattle.wire.specs.Number.{u16At}
 use Rattle.wire.specs.Refusal.{placeOf}
 use Rattle.av_pairs.specs.declared.AvPair.{AvPair}
 use Rattle.av_pairs.specs.declared.Step.{Step}
@@ -21,9 +25,9 @@ use Rattle.av_pairs.specs.declared.Count.{Count}
 use Rattle.av_pairs.specs.declared.Count.the-variants.{Pairs, Refused as Uncounted}
 use Rattle.av_pairs.specs.declared.Found.{Found}
 use Rattle.av_pairs.specs.declared.Found.the-variants.{At, Nothing}
-use Rattle.av_pairs.specs.AvPairs.{stepAt, endOf, onStep, askAt, pairAt, pairsFrom, stopFrom, pairsOf, checkPairs, countPairs, Valued, valueIn, withValues, valuesOf}
+use Rattle.av_pairs.specs.AvPairs.{stepAt, endOf, onStep, askAt, pairAt, pairsFrom, stopFrom, stopAt, pairsOf, checkPairs, countPairs, Valued, valueIn, withValues, valuesOf}
 use Rattle.av_pairs.proofs.Step.{the-type}
-use Rattle.av_pairs.proofs.Steps.{Gave, gave, fault-place}
+use Rattle.av_pairs.proofs.Steps.{Gave, gave, fault-place, Sound, sound}
 
 -- ---- a step
 
@@ -58,9 +62,6 @@ ask-stop s at r e m = simp (← e) (ap (λ (n : ℕ). record { step = r; next = 
 
 unfoldable pub pairsAt : List ℕ → ℕ → List AvPair
 pairsAt s at = pairsFrom (suc (length s - at)) s at
-
-unfoldable pub stopAt : List ℕ → ℕ → Verdict
-stopAt s at = stopFrom (suc (length s - at)) s at
 
 unfoldable pub valuesAt : List ℕ → ℕ → List Valued
 valuesAt s at = withValues s (pairsAt s at)
@@ -122,6 +123,10 @@ pub stop-start : (s : List ℕ) → stopAt s 0 ≡ checkPairs s
 unfolding stopAt checkPairs
 stop-start s = enough (length s - 0) (length s) s 0 (omega arith) (omega arith)
 
+-- of a list that was checked, all is clear
+pub clear-all : (s : List ℕ) → checkPairs s ≡ Clear → stopAt s 0 ≡ Clear
+clear-all s h = stop-start s ∙ h
+
 pub values-start : (s : List ℕ) → valuesAt s 0 ≡ valuesOf s
 unfolding valuesAt valuesOf
 values-start s = ap (λ (ps : List AvPair). withValues s ps) (pairs-start s)
@@ -169,6 +174,40 @@ module _ (s : List ℕ) (at : ℕ) (r : Step) (e : r ≡ stepAt s at) where
 
 pub ruleset giving = (gives-pair, gives-end, gives-fault)
 
+-- where the checks hold from a place on, what `pair_at` reads is there, and it answers as with the checks
+pub gives-none : (s : List ℕ) (at : ℕ) → length s ≡ 0 → Nothing ≡ pairAt s at
+unfolding pairAt stepAt
+gives-none s at h = simp (eq-eqb (length s) 0 h)
+
+module _ (s : List ℕ) (at : ℕ) (w : stopAt s at ≡ Clear) (z : length s ≡ 0 → ⊥) where
+  held : Sound s at
+  held = sound s at (ne-eqb (length s) 0 z) (λ f h. let g : Clear ≡ Not f = sym w ∙ at-fault s at (Refused f) (sym h) f refl .1 in cc)
+
+  pub held-id : at + 2 ≤ length s
+  held-id = omega (arith, held .there)
+
+  pub held-len : at + 2 + 2 ≤ length s
+  held-len = omega (arith, held .there)
+
+  pub held-fits : length s < 2 ^ 64 → Fits w64 (at + 2)
+  held-fits f = record { fits = omega (arith, held .there) }
+
+  pub held-value : length s < 2 ^ 64 → Fits w64 (at + 4)
+  held-value f = record { fits = omega (arith, held .there) }
+
+  module _ (i : ℕ) (q : i ≡ u16At s at) (b : Bool) (y : b ≡ isEnd (record { id = i })) where
+    pub held-end : b ≡ true → Nothing ≡ pairAt s at
+    unfolding pairAt
+    held-end h = simp (held .step, ← q, ← y, h)
+
+    pub held-pair : (l : ℕ) → b ≡ false → l ≡ u16At s (at + 2) → At (record { id = record { id = i }; at = at + 4; len = l }) ≡ pairAt s at
+    unfolding pairAt
+    held-pair l h x = simp (held .step, ← q, ← y, h, ← x)
+
+pub ruleset held-head = (held-id, held-len, held-fits, held-value)
+
+pub ruleset held-gives = (gives-none, held-end, held-pair)
+
 -- ---- the same for `pair_at`: a pair or nothing
 
 stood : (s : List ℕ) (at : ℕ) (p : AvPair) → pairAt s at ≡ At p → stepAt s at ≡ Pair p
@@ -204,6 +243,9 @@ module _ (s : List ℕ) (at : ℕ) (r : Found) (e : r ≡ pairAt s at) where
 
     pub there-fits : length s < 2 ^ 64 → Fits w64 (p .at + p .len)
     there-fits f = end-fits s at (Pair p) step p refl f
+
+    pub there-clear : stopAt s at ≡ Clear → stopAt s (p .at + p .len) ≡ Clear
+    there-clear w = sym (stop-pair s at (Pair p) step p refl) ∙ w
 
     pub there-falls : length s - (p .at + p .len) < length s - at
     there-falls = falls s at (Pair p) step p refl
@@ -285,25 +327,3 @@ module _ (s : List ℕ) (at n : ℕ) (w : Counted s at n) (r : Step) (e : r ≡ 
   pub count-fault : (f : Refusal) → r ≡ Refused f → Uncounted f ≡ countPairs s
   unfolding countPairs
   count-fault f h = simp (← ahead-fault s at (w .verdict) r e f h)
-
--- the count's refusal is the checks'
-module _ (s : List ℕ) (r : Count) (e : r ≡ countPairs s) where
-  pub all-held : (n : ℕ) → r ≡ Pairs n → checkPairs s ≡ Clear
-  unfolding countPairs
-  all-held n h = go (checkPairs s) (sym e ∙ h) where
-    go : (v : Verdict) → onClear Uncounted v (Pairs (length (pairsOf s))) ≡ Pairs n → v ≡ Clear
-    go Clear p = refl
-    go (Not f) p = cc
-
-  pub one-failed : (f : Refusal) → r ≡ Uncounted f → checkPairs s ≡ Not f
-  unfolding countPairs
-  one-failed f h = go (checkPairs s) (sym e ∙ h) where
-    go : (v : Verdict) → onClear Uncounted v (Pairs (length (pairsOf s))) ≡ Uncounted f → v ≡ Not f
-    go Clear p = cc
-    go (Not f) p = cc
-
-  pub count-is : (n : ℕ) → r ≡ Pairs n → n ≡ length (pairsOf s)
-  unfolding countPairs
-  count-is n h =
-      let g : Pairs n ≡ Pairs (length (pairsOf s)) = sym h ∙ e ∙ simp (all-held n h) in
-      cc

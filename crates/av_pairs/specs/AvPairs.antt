@@ -91,6 +91,10 @@ abbrev pub stopFrom : ℕ → List ℕ → ℕ → Verdict
 stopFrom zero s at = Clear
 stopFrom (suc k) s at = onStep (stepAt s at) (λ p. stopFrom k s (endOf p)) (λ v. v)
 
+-- the same with steps for the bytes that are left
+unfoldable pub stopAt : List ℕ → ℕ → Verdict
+stopAt s at = stopFrom (suc (length s - at)) s at
+
 -- a list's pairs before the end or the first fault; each takes four bytes or more, so this many steps do
 unfoldable pub pairsOf : List ℕ → List AvPair
 pairsOf s = pairsFrom (suc (length s)) s 0

@@ -54,28 +54,28 @@ fn left(list: &[u8], at: usize) -> usize
 }
 
 // Check 11.
-pub fn pair_there(left: usize) -> Checked
+fn pair_there(left: usize) -> Checked
     ensures { λ r. ⌜ r ≡ pairThere left ⌝ }
 {
     check(4 <= left)
 }
 
 // Check 12.
-pub fn end_pair_holds(id: AvId, len: u16, left: usize) -> Checked
+fn end_pair_holds(id: AvId, len: u16, left: usize) -> Checked
     ensures { λ r. ⌜ r ≡ endPairHolds id len left ⌝ }
 {
     check(!id.is_end() | ((len == 0) & (left == 4)))
 }
 
 // Check 10.
-pub fn value_inside(len: u16, left: usize) -> Checked
+fn value_inside(len: u16, left: usize) -> Checked
     ensures { λ r. ⌜ r ≡ valueInside len left ⌝ }
 {
     check(4 + len as usize <= left)
 }
 
 // Check 13.
-pub fn size_holds(id: AvId, len: u16) -> Checked
+fn size_holds(id: AvId, len: u16) -> Checked
     ensures { λ r. ⌜ r ≡ sizeHolds id len ⌝ }
 {
     check(id.size_allowed(len))

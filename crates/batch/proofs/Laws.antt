@@ -1,12 +1,12 @@
 -- Laws of an answer, of a place and of the buffer.
 use Prim.Native.Nat.{ℕ, _+_, _-_, _^_, _≤_, _<_}
 use mathlib.Core.Path.{_≡_, refl, sym, ap, _∙_}
-use mathlib.Core.Bool.{Bool, true, false}
+use mathlib.Core.Bool.{Bool, true, false, cond}
 use mathlib.Core.List.{List}
 use native.Mathlib.Omega.{arith}
 use mir.Syntax.{w64}
 use mir.Val.{Fits}
-use lib.Dec.{leb}
+use lib.Dec.{leb, eqb}
 use lib.ListN.{length, take, drop}
 use borrow.Author.Tests.{leb-true, leb-false, le-leb, lt-leb, ne-eqb}
 use Rattle.wire.specs.declared.check.Checked.{Checked}
@@ -15,86 +15,59 @@ use Rattle.wire.specs.declared.check.Verdict.{Verdict}
 use Rattle.wire.specs.declared.check.Verdict.the-variants.{Clear, Refused as Not}
 use Rattle.wire.specs.declared.refusal.Refusal.{Refusal}
 use Rattle.wire.specs.declared.refusal.Refusal.the-variants.{WrongType, PlaceOutside}
-use Rattle.wire.specs.Check.{checked}
+use Rattle.wire.specs.Check.{checked, after}
 use Rattle.wire.specs.Refusal.{numberOf, fieldOf, placeOf}
 use Rattle.wire.proofs.Laws.{held-true}
-use Rattle.head.specs.declared.Kind.{Kind}
+use Rattle.wire.proofs.Places.{of-after}
 use Rattle.head.specs.declared.Kind.the-variants.{Negotiate, Challenge, Authenticate}
-use Rattle.negotiate.specs.declared.Negotiate.{Negotiate as NegoMessage}
-use Rattle.negotiate.specs.declared.Reading.{Reading as NegoReading}
-use Rattle.negotiate.specs.declared.Reading.the-variants.{Taken as NegoTaken, Refused as NegoRefused}
-use Rattle.negotiate.specs.Negotiate.{readNegotiate}
-use Rattle.authenticate.specs.declared.Answer.{Answer as AuthAnswer}
-use Rattle.authenticate.specs.declared.Authenticate.{Authenticate as AuthMessage}
-use Rattle.authenticate.specs.declared.Reading.the-variants.{Taken as AuthTaken, Refused as AuthRefused}
-use Rattle.authenticate.specs.Authenticate.{readAuthenticate}
-use Rattle.challenge.specs.declared.Answer.{Answer as ChalAnswer}
-use Rattle.challenge.specs.declared.Challenge.{Challenge as ChalMessage}
-use Rattle.challenge.specs.declared.Reading.the-variants.{Taken as ChalTaken, Refused as ChalRefused}
-use Rattle.challenge.specs.Challenge.{readChallenge}
-use Rattle.verdict.specs.Verdict.{readAs}
-use Rattle.explain.proofs.Refusals.{nego-placed, chal-placed, auth-placed}
+use Rattle.verdict.specs.Verdict.{readAs, placeIn}
+use Rattle.verdict.proofs.Refusals.{read-short}
 use Rattle.batch.specs.declared.Answer.{Answer}
 use Rattle.batch.specs.declared.Entry.{Entry}
-use Rattle.batch.specs.declared.CEntry.{CEntry}
-use Rattle.batch.specs.Batch.{answerOf, placeInside, atPlace, readMarked, answered, withAnswer, answeredFromC}
+use Rattle.batch.specs.Batch.{answerOf, placeInside, atPlace, messageAt, readMarked, verdictOf, answerTo, answered}
 
 -- ---- an answer
 
-pub refusal-is : (e : Refusal) (n i p : ℕ) → n ≡ numberOf e → i ≡ fieldOf e → p ≡ placeOf e →
-    record { number = n; field = i; place = p } ≡ answerOf (Not e)
-refusal-is e n i p a b c = rw (a, b, c)
+module _ (v : Verdict) where
+  pub clear-is : v ≡ Clear → record { number = 0; field = 0; place = 0 } ≡ answerOf v
+  clear-is h = rw h
 
--- of a message that was taken, and of one that was refused, whose place has 32 bits
-module _ (s : List ℕ) (r : NegoReading) (p : r ≡ readNegotiate s) where
-  pub nego-taken : (m : NegoMessage) (x : Answer) → r ≡ NegoTaken m → x ≡ answerOf Clear → x ≡ answerOf (readAs Negotiate s)
-  nego-taken m x h q = q ∙ simp (← p, h)
+  pub refusal-is : (e : Refusal) (n i p : ℕ) → v ≡ Not e → n ≡ numberOf e → i ≡ fieldOf e → p ≡ placeOf e → record { number = n; field = i; place = p } ≡ answerOf v
+  refusal-is e n i p h a b c = rw (h, a, b, c)
 
-  pub nego-refused : (e : Refusal) (x : Answer) → r ≡ NegoRefused e → x ≡ answerOf (Not e) → x ≡ answerOf (readAs Negotiate s)
-  nego-refused e x h q = q ∙ simp (← p, h)
+  pub place-fits : (e : Refusal) (p : ℕ) → v ≡ Not e → p ≡ placeOf e → placeIn v < 2 ^ 32 → p < 2 ^ 32
+  place-fits e p h q l = rw q (rw h at l)
 
-  pub nego-short : (e : Refusal) → r ≡ NegoRefused e → placeOf e < 2 ^ 32
-  nego-short e h = nego-placed s r e p h .short
-
-module _ (s : List ℕ) (r : ChalAnswer) (p : r ≡ readChallenge s) where
-  pub chal-taken : (m : ChalMessage) (x : Answer) → r .reading ≡ ChalTaken m → x ≡ answerOf Clear → x ≡ answerOf (readAs Challenge s)
-  chal-taken m x h q = q ∙ simp (← p, h)
-
-  pub chal-refused : (e : Refusal) (x : Answer) → r .reading ≡ ChalRefused e → x ≡ answerOf (Not e) → x ≡ answerOf (readAs Challenge s)
-  chal-refused e x h q = q ∙ simp (← p, h)
-
-  pub chal-short : (e : Refusal) → r .reading ≡ ChalRefused e → placeOf e < 2 ^ 32
-  chal-short e h = chal-placed s r e p h .short
-
-module _ (s : List ℕ) (r : AuthAnswer) (p : r ≡ readAuthenticate s) where
-  pub auth-taken : (m : AuthMessage) (x : Answer) → r .reading ≡ AuthTaken m → x ≡ answerOf Clear → x ≡ answerOf (readAs Authenticate s)
-  auth-taken m x h q = q ∙ simp (← p, h)
-
-  pub auth-refused : (e : Refusal) (x : Answer) → r .reading ≡ AuthRefused e → x ≡ answerOf (Not e) → x ≡ answerOf (readAs Authenticate s)
-  auth-refused e x h q = q ∙ simp (← p, h)
-
-  pub auth-short : (e : Refusal) → r .reading ≡ AuthRefused e → placeOf e < 2 ^ 32
-  auth-short e h = auth-placed s r e p h .short
-
--- the kind that was asked for
-pub as-kind : (k v : Kind) (s : List ℕ) (x : Answer) → k ≡ v → x ≡ answerOf (readAs v s) → x ≡ answerOf (readAs k s)
-as-kind k v s x h q = rw h q
-
--- the kind of a mark
-module _ (mark : ℕ) (s : List ℕ) (x : Answer) where
-  pub mark-1 : mark ≡ 1 → x ≡ answerOf (readAs Negotiate s) → x ≡ answerOf (readMarked mark s)
+-- the verdict of a mark
+module _ (mark : ℕ) (s : List ℕ) (v : Verdict) where
+  pub mark-1 : mark ≡ 1 → v ≡ readAs Negotiate s → v ≡ readMarked mark s
   mark-1 h q = rw h q
 
-  pub mark-2 : mark ≡ 2 → x ≡ answerOf (readAs Challenge s) → x ≡ answerOf (readMarked mark s)
+  pub mark-2 : mark ≡ 2 → v ≡ readAs Challenge s → v ≡ readMarked mark s
   mark-2 h q = rw h q
 
-  pub mark-3 : mark ≡ 3 → x ≡ answerOf (readAs Authenticate s) → x ≡ answerOf (readMarked mark s)
+  pub mark-3 : mark ≡ 3 → v ≡ readAs Authenticate s → v ≡ readMarked mark s
   mark-3 h q = rw h q
 
-  pub no-mark : (mark ≡ 1 → ⊥) → (mark ≡ 2 → ⊥) → (mark ≡ 3 → ⊥) → x ≡ answerOf (Not WrongType) → x ≡ answerOf (readMarked mark s)
-  no-mark a b c q = q ∙ simp (ne-eqb mark 1 a, ne-eqb mark 2 b, ne-eqb mark 3 c)
+pub no-mark : (mark : ℕ) (s : List ℕ) → (mark ≡ 1 → ⊥) → (mark ≡ 2 → ⊥) → (mark ≡ 3 → ⊥) → Not WrongType ≡ readMarked mark s
+no-mark mark s a b c = simp (ne-eqb mark 1 a, ne-eqb mark 2 b, ne-eqb mark 3 c)
 
 pub ruleset marks = (mark-1, mark-2, mark-3, no-mark)
+
+-- its place has 32 bits
+of-cond : (b : Bool) (x y : Verdict) → placeIn x < 2 ^ 32 → placeIn y < 2 ^ 32 → placeIn (cond b x y) < 2 ^ 32
+of-cond true x y p q = p
+of-cond false x y p q = q
+
+marked-short : (mark : ℕ) (s : List ℕ) → placeIn (readMarked mark s) < 2 ^ 32
+marked-short mark s =
+    of-cond (eqb mark 1) (readAs Negotiate s) _ (read-short Negotiate s) (
+    of-cond (eqb mark 2) (readAs Challenge s) _ (read-short Challenge s) (
+    of-cond (eqb mark 3) (readAs Authenticate s) (Not WrongType) (read-short Authenticate s) (omega arith)))
+
+pub verdict-short : (s : List ℕ) (e : Entry) (v : Verdict) → v ≡ verdictOf s e → placeIn v < 2 ^ 32
+verdict-short s e v h =
+    rw h (of-after (λ (w : Verdict). placeIn w < 2 ^ 32) (placeInside (length s) (e .start) (e .length)) (Not PlaceOutside) (readMarked (e .mark) (messageAt s (e .start) (e .length))) (omega arith) (marked-short (e .mark) (messageAt s (e .start) (e .length))))
 
 -- ---- a place
 
@@ -117,22 +90,19 @@ ends-inside n start len r p h = leb-true (start + len) n (held-true (leb (start 
 pub end-fits : (n start len : ℕ) (r : Checked) → n < 2 ^ 64 → r ≡ placeInside n start len → r ≡ Held → Fits w64 (start + len)
 end-fits n start len r l p h = record { fits = omega (arith, ends-inside n start len r p h, l) }
 
--- 54, and else the message's answer
-module _ (s : List ℕ) (start len : ℕ) (r : Checked) (p : r ≡ placeInside (length s) start len) (x : Answer) where
-  pub outside : (read : List ℕ → Verdict) → r ≡ Failed → x ≡ answerOf (Not PlaceOutside) → x ≡ answerOf (atPlace s start len read)
-  outside read h q = q ∙ simp (← p, h)
+-- 54, and else the message's verdict
+module _ (s : List ℕ) (start len : ℕ) (r : Checked) (p : r ≡ placeInside (length s) start len) (read : List ℕ → Verdict) where
+  pub outside : r ≡ Failed → Not PlaceOutside ≡ atPlace s start len read
+  outside h = simp (← p, h)
 
-  pub inside : (read : List ℕ → Verdict) → r ≡ Held → x ≡ answerOf (read (take (start + len - start) (drop start s))) → x ≡ answerOf (atPlace s start len read)
-  inside read h q = q ∙ (let e : start + len - start ≡ len = omega arith in simp (← p, h, e))
+  pub inside : (v : Verdict) → r ≡ Held → v ≡ read (take (start + len - start) (drop start s)) → v ≡ atPlace s start len read
+  inside v h q = q ∙ (let e : start + len - start ≡ len = omega arith in simp (← p, h, e))
+
+pub answer-is : (v w : Verdict) (x : Answer) → v ≡ w → x ≡ answerOf v → x ≡ answerOf w
+answer-is v w x h q = rw (← h) q
 
 -- ---- an entry
 
-pub entry-is : (s : List ℕ) (e : Entry) (x : Answer) → x ≡ answerOf (atPlace s (e .start) (e .length) (readAs (e .mark))) →
-    record { start = e .start; length = e .length; mark = e .mark; answer = x } ≡ answered s e
+pub entry-is : (s : List ℕ) (e : Entry) (x : Answer) → x ≡ answerTo s e → record { start = e .start; length = e .length; mark = e .mark; answer = x } ≡ answered s e
 unfolding answered
 entry-is s e x h = rw h
-
-pub c-entry-is : (s : List ℕ) (e : CEntry) (x : Answer) → x ≡ answerOf (atPlace s (e .start) (e .length) (readMarked (e .mark))) →
-    withAnswer e x ≡ answeredFromC s e
-unfolding answeredFromC
-c-entry-is s e x h = rw h

@@ -17,7 +17,6 @@ use Rattle.head.specs.declared.Kind.the-variants.{Negotiate, Challenge, Authent
 use Rattle.verdict.specs.Verdict.{readAs}
 use Rattle.batch.specs.declared.Answer.{Answer}
 use Rattle.batch.specs.declared.Entry.{Entry}
-use Rattle.batch.specs.declared.CEntry.{CEntry}
 
 -- a message's answer: all 0 if it is taken
 abbrev pub answerOf : Verdict → Answer
@@ -40,23 +39,7 @@ atPlace s start len read = after (placeInside (length s) start len) (Refused Pla
 abbrev pub bufferVerdict : List ℕ → Verdict
 bufferVerdict s = after (lengthHolds s) (Refused TooLong) Clear
 
--- ---- a list whose marks are kinds
-
--- the entry with its answer
-unfoldable pub answered : List ℕ → Entry → Entry
-answered s e =
-    record {
-      start = e .start;
-      length = e .length;
-      mark = e .mark;
-      answer = answerOf (atPlace s (e .start) (e .length) (readAs (e .mark)));
-    }
-
--- the list afterwards: no entry changes where the buffer is refused
-abbrev pub filled : List ℕ → List Entry → List Entry
-filled s es = after (lengthHolds s) es (map (answered s) es)
-
--- ---- a list from C, whose marks are numbers
+-- ---- a list
 
 -- 1, 2 and 3; any other mark gets 4, since no kind has that type
 abbrev pub readMarked : ℕ → List ℕ → Verdict
@@ -66,22 +49,20 @@ readMarked mark s =
     cond (eqb mark 3) (readAs Authenticate s)
     (Refused WrongType)))
 
-abbrev pub withAnswer : CEntry → Answer → CEntry
-withAnswer e x =
-    record {
-      start = e .start;
-      length = e .length;
-      mark = e .mark;
-      number = x .number;
-      field = x .field;
-      place = x .place;
-    }
+-- the verdict of an entry's message, and its answer
+abbrev pub verdictOf : List ℕ → Entry → Verdict
+verdictOf s e = atPlace s (e .start) (e .length) (readMarked (e .mark))
 
-unfoldable pub answeredFromC : List ℕ → CEntry → CEntry
-answeredFromC s e = withAnswer e (answerOf (atPlace s (e .start) (e .length) (readMarked (e .mark))))
+abbrev pub answerTo : List ℕ → Entry → Answer
+answerTo s e = answerOf (verdictOf s e)
 
-abbrev pub filledFromC : List ℕ → List CEntry → List CEntry
-filledFromC s es = after (lengthHolds s) es (map (answeredFromC s) es)
+-- the entry with its answer
+unfoldable pub answered : List ℕ → Entry → Entry
+answered s e = record { start = e .start; length = e .length; mark = e .mark; answer = answerTo s e }
+
+-- the list afterwards: no entry changes where the buffer is refused
+abbrev pub filled : List ℕ → List Entry → List Entry
+filled s es = after (lengthHolds s) es (map (answered s) es)
 
 -- ---- what the calls count
 

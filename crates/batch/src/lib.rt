@@ -2,127 +2,77 @@
 // in.
 ghost use mathlib.Core.Path.{_≡_};
 ghost use Prim.Native.Nat.{_<_, _^_};
-ghost use lib.ListN.{length};
-ghost use Rattle.wire.specs.declared.check.Verdict.the-variants.{Clear, Refused};
-ghost use Rattle.wire.specs.Refusal.{placeOf};
-ghost use Rattle.head.specs.declared.Kind.the-variants.{Negotiate, Challenge, Authenticate};
-ghost use Rattle.verdict.specs.Verdict.{readAs};
-ghost use Rattle.batch.specs.Batch.{answerOf, placeInside, atPlace, bufferVerdict, toFill, answered, filled, readMarked, answeredFromC};
-use authenticate::Reading as AuthenticateReading;
-use challenge::Reading as ChallengeReading;
+ghost use Rattle.verdict.specs.Verdict.{placeIn};
+ghost use Rattle.batch.specs.Batch.{answerOf, placeInside, readMarked, verdictOf, answerTo, bufferVerdict, toFill, filled};
 use head::Kind;
 use head::length_holds;
-use negotiate::Reading as NegotiateReading;
+use verdict::read_as;
 use wire::check::Checked;
 use wire::check::Verdict;
 use wire::check::check;
 use wire::refusal::Refusal;
 
 // A message's answer: the refusal's number, field and pair place, all 0 if it is taken.
+#[repr(C)]
 pub struct Answer {
     pub number: u32,
     pub field: u32,
     pub place: u32,
 }
 
-// An entry of a list: where a message stands in the buffer, the kind that it is read as, and room for its answer.
+// An entry of a list: where a message stands in the buffer, the mark of the kind that it is read as, and room for its answer.
+#[repr(C)]
 pub struct Entry {
     pub start: u64,
     pub length: u64,
-    pub mark: Kind,
+    pub mark: u32,
     pub answer: Answer,
 }
 
-// The same from C, where a mark is a number: 1, 2 or 3 for NEGOTIATE, CHALLENGE or AUTHENTICATE.
-#[repr(C)]
-pub struct CEntry {
-    pub start: u64,
-    pub length: u64,
-    pub mark: u32,
-    pub number: u32,
-    pub field: u32,
-    pub place: u32,
+// The marks; any other number is no kind's.
+impl Entry {
+    pub const NEGOTIATE: u32 = 1;
+
+    pub const CHALLENGE: u32 = 2;
+
+    pub const AUTHENTICATE: u32 = 3;
 }
 
 // ---- one message
 
-fn taken() -> Answer
-    ensures { λ r. ⌜ r ≡ answerOf Clear ⌝ }
+// The refusal's numbers, all 0 where there is none.
+fn answer_of(v: Verdict) -> Answer
+    requires { ⌜ placeIn v < 2 ^ 32 ⌝ }
+    ensures { λ r. ⌜ r ≡ answerOf v ⌝ }
 {
-    Answer {
-        number: 0,
-        field: 0,
-        place: 0,
+    match v {
+        Verdict::Clear => Answer {
+            number: 0,
+            field: 0,
+            place: 0,
+        },
+        Verdict::Refused(e) => Answer {
+            number: e.number() as u32,
+            field: e.field() as u32,
+            place: e.place() as u32,
+        },
     }
 }
 
-fn refused(e: Refusal) -> Answer
-    requires { ⌜ placeOf e < 2 ^ 32 ⌝ }
-    ensures { λ r. ⌜ r ≡ answerOf (Refused e) ⌝ }
+// A message read as the kind of a mark, whatever its own type says; a mark that is no kind's gets 4.
+fn read_marked(mark: u32, msg: &[u8]) -> Verdict
+    ensures { λ r. ⌜ r ≡ readMarked mark (now (msg .entry)) ⌝ }
 {
-    Answer {
-        number: e.number() as u32,
-        field: e.field() as u32,
-        place: e.place() as u32,
+    if mark == Entry::NEGOTIATE {
+        return read_as(Kind::Negotiate, msg);
     }
-}
-
-fn negotiate_answer(msg: &[u8]) -> Answer
-    ensures { λ r. ⌜ r ≡ answerOf (readAs Negotiate (now (msg .entry))) ⌝ }
-{
-    match negotiate::read(msg) {
-        NegotiateReading::Taken(_) => taken(),
-        NegotiateReading::Refused(e) => refused(e),
+    if mark == Entry::CHALLENGE {
+        return read_as(Kind::Challenge, msg);
     }
-}
-
-fn challenge_answer(msg: &[u8]) -> Answer
-    ensures { λ r. ⌜ r ≡ answerOf (readAs Challenge (now (msg .entry))) ⌝ }
-{
-    let answer = challenge::read(msg);
-    let reading = answer.reading;
-    match reading {
-        ChallengeReading::Taken(_) => taken(),
-        ChallengeReading::Refused(e) => refused(e),
+    if mark == Entry::AUTHENTICATE {
+        return read_as(Kind::Authenticate, msg);
     }
-}
-
-fn authenticate_answer(msg: &[u8]) -> Answer
-    ensures { λ r. ⌜ r ≡ answerOf (readAs Authenticate (now (msg .entry))) ⌝ }
-{
-    let answer = authenticate::read(msg);
-    let reading = answer.reading;
-    match reading {
-        AuthenticateReading::Taken(_) => taken(),
-        AuthenticateReading::Refused(e) => refused(e),
-    }
-}
-
-// A message read as a kind, whatever its own type says.
-fn read_as(kind: Kind, msg: &[u8]) -> Answer
-    ensures { λ r. ⌜ r ≡ answerOf (readAs kind (now (msg .entry))) ⌝ }
-{
-    match kind {
-        Kind::Negotiate => negotiate_answer(msg),
-        Kind::Challenge => challenge_answer(msg),
-        Kind::Authenticate => authenticate_answer(msg),
-    }
-}
-
-// The same by a number; one that is no kind's gets 4.
-fn read_marked(mark: u32, msg: &[u8]) -> Answer
-    ensures { λ r. ⌜ r ≡ answerOf (readMarked mark (now (msg .entry))) ⌝ }
-{
-    if mark == 1 {
-        return negotiate_answer(msg);
-    }
-    if mark == 2 {
-        return challenge_answer(msg);
-    }
-    if mark == 3 {
-        return authenticate_answer(msg);
-    }
-    refused(Refusal::WrongType)
+    Verdict::Refused(Refusal::WrongType)
 }
 
 // ---- a place in a buffer
@@ -137,61 +87,28 @@ fn place_inside(n: u64, start: u64, length: u64) -> Checked
     check(start <= n - length)
 }
 
-// The message at a place, read as a kind.
-fn check_message(buffer: &[u8], start: u64, length: u64, kind: Kind) -> Answer
-    ensures { λ r. ⌜ r ≡ answerOf (atPlace (now (buffer .entry)) start length (readAs kind)) ⌝ }
+// The verdict of an entry's message.
+fn verdict_of(buffer: &[u8], e: Entry) -> Verdict
+    ensures { λ r. ⌜ r ≡ verdictOf (now (buffer .entry)) e ⌝ }
 {
-    let Checked::Held = place_inside(buffer.len() as u64, start, length) else {
-        return refused(Refusal::PlaceOutside);
+    let Checked::Held = place_inside(buffer.len() as u64, e.start, e.length) else {
+        return Verdict::Refused(Refusal::PlaceOutside);
     };
-    let at = start as usize;
-    let end = at + length as usize;
-    read_as(kind, &buffer[at..end])
+    let at = e.start as usize;
+    let end = at + e.length as usize;
+    read_marked(e.mark, &buffer[at..end])
 }
 
-fn check_marked(buffer: &[u8], start: u64, length: u64, mark: u32) -> Answer
-    ensures { λ r. ⌜ r ≡ answerOf (atPlace (now (buffer .entry)) start length (readMarked mark)) ⌝ }
+fn answer_to(buffer: &[u8], e: Entry) -> Answer
+    ensures { λ r. ⌜ r ≡ answerTo (now (buffer .entry)) e ⌝ }
 {
-    let Checked::Held = place_inside(buffer.len() as u64, start, length) else {
-        return refused(Refusal::PlaceOutside);
-    };
-    let at = start as usize;
-    let end = at + length as usize;
-    read_marked(mark, &buffer[at..end])
-}
-
-// ---- an entry with its answer; nothing else of it changes
-
-fn answered(buffer: &[u8], e: Entry) -> Entry
-    ensures { λ r. ⌜ r ≡ answered (now (buffer .entry)) e ⌝ }
-{
-    let mark = e.mark;
-    Entry {
-        start: e.start,
-        length: e.length,
-        mark: mark,
-        answer: check_message(buffer, e.start, e.length, mark),
-    }
-}
-
-pub fn answered_from_c(buffer: &[u8], e: CEntry) -> CEntry
-    ensures { λ r. ⌜ r ≡ answeredFromC (now (buffer .entry)) e ⌝ }
-{
-    let answer = check_marked(buffer, e.start, e.length, e.mark);
-    CEntry {
-        start: e.start,
-        length: e.length,
-        mark: e.mark,
-        number: answer.number,
-        field: answer.field,
-        place: answer.place,
-    }
+    answer_of(verdict_of(buffer, e))
 }
 
 // ---- the buffer
 
 // Check 1, of the buffer.
-pub fn check_buffer(buffer: &[u8]) -> Verdict
+fn check_buffer(buffer: &[u8]) -> Verdict
     ensures { λ r. ⌜ r ≡ bufferVerdict (now (buffer .entry)) ⌝ }
 {
     let Checked::Held = length_holds(buffer) else {
@@ -201,7 +118,7 @@ pub fn check_buffer(buffer: &[u8]) -> Verdict
 }
 
 // How many of `n` entries are filled: none where the buffer is refused.
-pub fn to_fill(buffer: &[u8], n: usize) -> usize
+fn to_fill(buffer: &[u8], n: usize) -> usize
     ensures { λ r. ⌜ r ≡ toFill (now (buffer .entry)) n ⌝ }
 {
     let Checked::Held = length_holds(buffer) else {
@@ -213,15 +130,14 @@ pub fn to_fill(buffer: &[u8], n: usize) -> usize
 // ---- the list
 
 // Fills each entry's answer; a buffer over 65,535 bytes is refused, and no entry changes.
-pub fn check_messages(buffer: &[u8], entries: &mut [Entry]) -> Verdict
+pub fn check_messages(buffer: &[u8], list: &mut [Entry]) -> Verdict
     ensures answer { λ r. ⌜ r ≡ bufferVerdict (now (buffer .entry)) ⌝ }
-    ensures content { λ _. ⌜ now (entries .exit) ≡ filled (now (buffer .entry)) (now (entries .entry)) ⌝ }
+    ensures content { λ _. ⌜ now (list .exit) ≡ filled (now (buffer .entry)) (now (list .entry)) ⌝ }
 {
-    let n = to_fill(buffer, entries.len());
+    let n = to_fill(buffer, list.len());
     let mut i: usize = 0;
     while i < n {
-        let e = entries[i];
-        entries[i] = answered(buffer, e);
+        list[i].answer = answer_to(buffer, list[i]);
         i = i + 1;
     }
     check_buffer(buffer)

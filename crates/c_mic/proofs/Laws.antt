@@ -1,11 +1,11 @@
 -- Laws of what the MIC's calls hand out, by what is known of their answers.
 use Prim.Native.Nat.{ℕ}
 use mathlib.Core.Path.{_≡_, refl}
-use mathlib.Core.Logic.{_⊎_}
 use mathlib.Core.Bool.{Bool}
 use mathlib.Core.List.{List}
 use Rattle.wire.specs.declared.check.Verdict.the-variants.{Clear, Refused as Not}
 use Rattle.wire.specs.declared.refusal.Refusal.{Refusal}
+use Rattle.wire.specs.Check.{verdictRefusal}
 use Rattle.wire.proofs.Laws.{told}
 use Rattle.c_number.specs.Number.{refusalNumber, bit}
 use Rattle.c_number.specs.Outcome.{numbers, refused}
@@ -18,7 +18,7 @@ module _ (w v : Worked) (e : w ≡ v) where
   pub mic-given : w .verdict ≡ Clear → numbers (w .mic) ≡ micOutcome v
   mic-given h = simp (← e, h)
 
-  pub mic-refused : (d f : Refusal) → w .verdict ≡ Not f → (w .verdict ≡ Not d) ⊎ (w .verdict ≡ Clear) → refused d ≡ micOutcome v
+  pub mic-refused : (d f : Refusal) → w .verdict ≡ Not f → d ≡ verdictRefusal (w .verdict) → refused d ≡ micOutcome v
   mic-refused d f h q = simp (← e, told (w .verdict) f d h q)
 
 module _ (w v : Checking) (e : w ≡ v) where

@@ -1,19 +1,19 @@
--- Laws of a copy of a field, by whether its record is known to fit.
+-- Laws of a copy of a field, by whether check 6 is known to hold of it.
 use Prim.Native.Nat.{ℕ}
 use mathlib.Core.Path.{_≡_, _∙_}
 use mathlib.Core.List.{List}
+use lib.ListN.{length}
 use Rattle.wire.specs.declared.check.Checked.{Checked}
 use Rattle.wire.specs.declared.check.Checked.the-variants.{Held, Failed}
 use Rattle.wire.specs.declared.refusal.Refusal.the-variants.{PastEnd}
-use Rattle.wire.specs.Check.{checked}
 use Rattle.field.specs.declared.Field.{Field}
-use Rattle.field.specs.Field.{fits, fieldBytes}
+use Rattle.field.specs.Field.{endsInside, fieldBytes}
 use Rattle.place.specs.declared.written.Written.{Written}
 use Rattle.place.specs.Written.{bytesAnswer, bytesAfter}
 use Rattle.c_number.specs.Number.{refusalNumber, writtenNumber}
 use Rattle.c_reading.specs.FieldCopy.{fieldCopyAnswer, fieldCopyOut}
 
-module _ (s : List ℕ) (f : Field) (out : List ℕ) (k : Checked) (p : k ≡ checked (fits s f)) where
+module _ (s : List ℕ) (f : Field) (out : List ℕ) (k : Checked) (p : k ≡ endsInside (length s) f) where
   pub unfit-number : (r : ℕ) → k ≡ Failed → r ≡ refusalNumber (PastEnd 0) → r ≡ writtenNumber (fieldCopyAnswer s f out)
   unfolding fieldCopyAnswer
   unfit-number r h e = e ∙ simp (← p, h)

@@ -8,8 +8,6 @@ ghost use Rattle.authenticate.specs.Authenticate.{readAuthenticate};
 ghost use Rattle.challenge.specs.Challenge.{readChallenge, timestampOf, serverNamesOf};
 ghost use Rattle.negotiate.specs.Negotiate.{readNegotiate};
 ghost use Rattle.nl_auth.specs.NlAuth.{readNlAuth};
-ghost use Rattle.wire.specs.Check.{checked};
-ghost use Rattle.field.specs.Field.{fits};
 ghost use Rattle.c_number.specs.Number.{writtenNumber};
 ghost use Rattle.c_reading.specs.FieldCopy.{fieldCopyAnswer, fieldCopyOut};
 ghost use Rattle.c_number.specs.Outcome.{callNumber, callOut, twoArrayNumber, twoArrayOut, twoArrayBytes};
@@ -38,7 +36,6 @@ use place::written::room_holds;
 use target_info::ServerNames;
 use target_info::Timestamp;
 use wire::check::Checked;
-use wire::check::check;
 use wire::refusal::Refusal;
 
 fn max_len_of(f: Field) -> u64
@@ -275,14 +272,7 @@ pub fn read_nl_auth(msg: &[u8], numbers: &mut [u64]) -> u64
     }
 }
 
-// Whether a field's record fits a message. The sum is taken in 64 bits, where it can't wrap.
-fn record_fits(f: Field, msg: &[u8]) -> Checked
-    ensures { λ r. ⌜ r ≡ checked (fits (now (msg .entry)) f) ⌝ }
-{
-    check(f.offset as u64 + f.len as u64 <= msg.len() as u64)
-}
-
-// Copies a field's own bytes; a record that doesn't fit this message is no field of it.
+// Copies a field's own bytes; a nonempty one that ends past this message is no field of it.
 pub fn field_bytes(msg: &[u8], offset: u32, len: u16, out: &mut [u8]) -> u64
     ensures answer { λ r. ⌜ r ≡ writtenNumber (fieldCopyAnswer (now (msg .entry)) (record { offset = offset; len = len; «max_len» = 0 }) (now (out .entry))) ⌝ }
     ensures content { λ _. ⌜ now (out .exit) ≡ fieldCopyOut (now (msg .entry)) (record { offset = offset; len = len; «max_len» = 0 }) (now (out .entry)) ⌝ }
@@ -292,7 +282,7 @@ pub fn field_bytes(msg: &[u8], offset: u32, len: u16, out: &mut [u8]) -> u64
         len: len,
         max_len: 0,
     };
-    let Checked::Held = record_fits(f, msg) else {
+    let Checked::Held = f.ends_inside(msg.len() as u64) else {
         return refusal_number(Refusal::PastEnd(0));
     };
     written_number(copy(out, f.bytes(msg)))

@@ -1,7 +1,7 @@
 -- Laws of what is answered and handed out, by what the decision and the answer are known to be.
 use Prim.Native.Nat.{ℕ, _≤_}
-use mathlib.Core.Path.{_≡_, sym, _∙_}
-use mathlib.Core.Bool.{Bool, not}
+use mathlib.Core.Path.{_≡_, refl, sym, _∙_}
+use mathlib.Core.Bool.{Bool, true, false, not, cond}
 use mathlib.Core.List.{List, [], _∷_}
 use lib.Dec.{leb, eqb}
 use lib.ListN.{length}
@@ -26,7 +26,7 @@ use Rattle.respond.specs.Decision.{benchSettings, decisionOn}
 use Rattle.c_number.specs.Number.{refusalNumber, bit}
 use Rattle.c_number.specs.Outcome.{numbers, refused}
 use Rattle.c_respond.specs.declared.settings.SettingsBits.{SettingsBits}
-use Rattle.c_respond.specs.Settings.{demand128, ntlmv2, integrity, confidentiality, settingsOf}
+use Rattle.c_respond.specs.Settings.{demand128, ntlmv2, integrity, confidentiality, settingsOf, benchBits}
 use Rattle.c_respond.specs.Respond.{decisionNumbers, decidedOutcome, answeredNumber, answeredOut, respondedNumber, respondedNumbers, respondedOut}
 
 pub settings-are : (asked : SettingsBits) (a b c d : Bool) →
@@ -35,11 +35,21 @@ pub settings-are : (asked : SettingsBits) (a b c d : Bool) →
 settings-are asked a b c d p q r s = simp (p, q, r, s)
 
 -- the bench's bits, by the caller's number
-pub bench-no : (n : ℕ) → n ≡ 0 → settingsOf 0x2 ≡ benchSettings (not (eqb n 0))
+pub bench-no : (n : ℕ) → n ≡ 0 → 0x2 ≡ benchBits n
+unfolding benchBits
 bench-no n h = simp h
 
-pub bench-yes : (n : ℕ) → (n ≡ 0 → ⊥) → settingsOf 0x3 ≡ benchSettings (not (eqb n 0))
+pub bench-yes : (n : ℕ) → (n ≡ 0 → ⊥) → 0x3 ≡ benchBits n
+unfolding benchBits
 bench-yes n h = simp (ne-eqb n 0 h)
+
+-- they stand for the bench's settings
+pub bench-stands : (n b : ℕ) → b ≡ benchBits n → settingsOf b ≡ benchSettings (not (eqb n 0))
+unfolding benchBits
+bench-stands n b h = rw h (go (eqb n 0)) where
+  go : (t : Bool) → settingsOf (cond t 0x2 0x3) ≡ benchSettings (not t)
+  go true = refl
+  go false = refl
 
 module _ (flags : ℕ) (w : Timestamp) where
   pub timed : (t : ℕ) → w ≡ Time t → (flags ∷ 1 ∷ t ∷ []) ≡ decisionNumbers flags w

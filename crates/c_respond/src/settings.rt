@@ -1,9 +1,6 @@
 // The settings as one number of the C interface: each bit is named once, with a question for it.
 ghost use mathlib.Core.Path.{_≡_};
-ghost use mathlib.Core.Bool.{not};
-ghost use lib.Dec.{eqb};
-ghost use Rattle.respond.specs.Decision.{benchSettings};
-ghost use Rattle.c_respond.specs.Settings.{demand128, ntlmv2, integrity, confidentiality, settingsOf};
+ghost use Rattle.c_respond.specs.Settings.{demand128, ntlmv2, integrity, confidentiality, settingsOf, benchBits};
 use respond::decision::Settings;
 use wire::number::has;
 
@@ -29,7 +26,7 @@ impl SettingsBits {
 
     // The bench's: the defaults but for 128-bit, which is demanded where its caller's number is not 0.
     pub fn for_bench(demand_128: u32) -> SettingsBits
-        ensures { λ r. ⌜ settingsOf (r .bits) ≡ benchSettings (not (eqb demand_128 0)) ⌝ }
+        ensures { λ r. ⌜ r .bits ≡ benchBits demand_128 ⌝ }
     {
         if demand_128 == 0 {
             return SettingsBits {

@@ -8,7 +8,7 @@ use mathlib.Core.Logic.{inl, inr, ⊎-elim, _↔_}
 use mathlib.Core.Bool.{Bool, true, false}
 use mathlib.Core.List.{List}
 use native.Mathlib.Omega.{arith}
-use lib.ListN.{length, take}
+use lib.ListN.{length}
 use Rattle.wire.specs.declared.refusal.Refusal.{Refusal}
 use Rattle.wire.specs.Refusal.{numberOf, fieldOf, placeOf}
 use Rattle.wire.proofs.Places.{placeless-number}
@@ -29,7 +29,6 @@ use Rattle.respond.specs.Decision.{decisionOn, onDecided}
 use Rattle.respond.specs.Domain.{domainToSend}
 use Rattle.target_info.specs.TargetInfo.{timestampIn}
 use Rattle.demands.specs.PairList.{PairThere}
-use Rattle.demands.specs.ReadBack.{AuthenticateBack}
 use Rattle.demands.specs.TakenExactly.{InfoBytes}
 use Rattle.demands.specs.WrittenExactly.{WrittenExactly, authenticateSize, AuthenticateWritingFails, authenticateOrder}
 use Rattle.demands.specs.Answering.{Agreed, Declined, ToSend, AnsweredExactly, RespondIsAnswered, RespondReadsBack}
@@ -118,7 +117,7 @@ module _ (settings : Settings) (s b : List ℕ) (F : ℕ → ℕ → Type 0) (si
 
 -- what is sent to a challenge that is agreed to
 module _ (s b v mic lm nt dom usr wks key : List ℕ) (settings : Settings) (clock : ℕ) (m16 : length mic ≡ 16) (info : InfoBytes s b) (x : ToSend settings s b clock mic lm dom key) where
-  mic-sent-long : length (x .mic-sent) ≡ 16
+  pub mic-sent-long : length (x .mic-sent) ≡ 16
   mic-sent-long = ap length (mic-is settings s b clock mic lm dom key x) ∙ mic-long (timestampIn b) mic m16
 
   abbrev decision : Decision
@@ -159,22 +158,34 @@ respond-answered room s b v mic lm nt dom usr wks key settings clock v8 m16 info
       as-refusal settings s b (AuthenticateWritingFails room (flagsAt s 20 .bits) (x .lm-sent) nt (x .domain-sent) usr wks (x .key-sent))
       (authenticateSize (x .lm-sent) nt (x .domain-sent) usr wks (x .key-sent)) (x .time) e j
 
-pub respond-reads-back : RespondReadsBack
+-- an answer that is sent is written with what is sent
+pub respond-writes : (out s b v mic lm nt dom usr wks key : List ℕ) (settings : Settings) (clock : ℕ) → length mic ≡ 16 → InfoBytes s b →
+    (x : ToSend settings s b clock mic lm dom key) (y : Answer) → respondAnswer (length out) s settings clock v mic lm nt dom usr wks key ≡ Sent y →
+    (writeAnswer (length out) (flagsAt s 20) v (x .mic-sent) (x .lm-sent) nt (x .domain-sent) usr wks (x .key-sent) ≡ Length (y .len))
+    × (respondOut out s settings v mic lm nt dom usr wks key ≡ writeOut out (flagsAt s 20) v (x .mic-sent) (x .lm-sent) nt (x .domain-sent) usr wks (x .key-sent))
 unfolding respondAnswer respondOut
-respond-reads-back out s b v mic lm nt dom usr wks key settings clock v8 m16 info x y h = go (decisionOn settings s) (judged settings s b info) h where
-  Back : List ℕ → Type 0
-  Back l = AuthenticateBack (take (y .len) l) (flagsAt s 20) (x .mic-sent) (x .lm-sent) nt (x .domain-sent) usr wks (x .key-sent)
+respond-writes out s b v mic lm nt dom usr wks key settings clock m16 info x y h = go (decisionOn settings s) (judged settings s b info) h where
+  Writes : Decision → Type 0
+  Writes z =
+      sendAnswer (length out) settings z clock v mic lm nt (domainToSend dom s) usr wks key ≡ Sent y →
+      (writeAnswer (length out) (flagsAt s 20) v (x .mic-sent) (x .lm-sent) nt (x .domain-sent) usr wks (x .key-sent) ≡ Length (y .len))
+      × (sendOut out settings z v mic lm nt (domainToSend dom s) usr wks key ≡ writeOut out (flagsAt s 20) v (x .mic-sent) (x .lm-sent) nt (x .domain-sent) usr wks (x .key-sent))
 
-  agreed-to : Agreed settings s b → sendAnswer (length out) settings (record { flags = flagsAt s 20; timestamp = timestampIn b }) clock v mic lm nt (domainToSend dom s) usr wks key ≡ Sent y →
-      Back (sendOut out settings (record { flags = flagsAt s 20; timestamp = timestampIn b }) v mic lm nt (domainToSend dom s) usr wks key)
-  agreed-to agreed e =
-      subst Back (sym (send-out s b v mic lm nt dom usr wks key settings clock m16 info x out agreed))
-      (authenticate-reads-back out (flagsAt s 20) v (x .mic-sent) (x .lm-sent) nt (x .domain-sent) usr wks (x .key-sent) (y .len) v8 (mic-sent-long s b v mic lm nt dom usr wks key settings clock m16 info x)
-      (sent-written _ (x .time) (micDue (timestampIn b)) y (sym (send-answer s b v mic lm nt dom usr wks key settings clock m16 info x (length out) agreed) ∙ e)))
+  agreed-to : Agreed settings s b → Writes (record { flags = flagsAt s 20; timestamp = timestampIn b })
+  agreed-to agreed e = (
+    sent-written _ (x .time) (micDue (timestampIn b)) y (sym (send-answer s b v mic lm nt dom usr wks key settings clock m16 info x (length out) agreed) ∙ e),
+    send-out s b v mic lm nt dom usr wks key settings clock m16 info x out agreed,
+  )
 
   go : (d : Decided) → Judged settings s b info d → onDecided Unanswered d (λ z. sendAnswer (length out) settings z clock v mic lm nt (domainToSend dom s) usr wks key) ≡ Sent y →
-      Back (onDecided (λ e. out) d (λ z. sendOut out settings z v mic lm nt (domainToSend dom s) usr wks key))
-  go (Taken d) j e =
-      subst (λ (z : Decision). Back (sendOut out settings z v mic lm nt (domainToSend dom s) usr wks key)) (sym (j .1))
-      (agreed-to (j .0) (subst (λ (z : Decision). sendAnswer (length out) settings z clock v mic lm nt (domainToSend dom s) usr wks key ≡ Sent y) (j .1) e))
+      (writeAnswer (length out) (flagsAt s 20) v (x .mic-sent) (x .lm-sent) nt (x .domain-sent) usr wks (x .key-sent) ≡ Length (y .len))
+      × (onDecided (λ e. out) d (λ z. sendOut out settings z v mic lm nt (domainToSend dom s) usr wks key) ≡ writeOut out (flagsAt s 20) v (x .mic-sent) (x .lm-sent) nt (x .domain-sent) usr wks (x .key-sent))
+  go (Taken d) j e = subst Writes (sym (j .1)) (agreed-to (j .0)) e
   go (Refused f) j e = absurd (let z : _≡_ {A = ℕ} 0 1 = cc in omega arith)
+
+pub respond-reads-back : RespondReadsBack
+respond-reads-back out s b v mic lm nt dom usr wks key settings clock v8 m16 info x y h =
+    let w = respond-writes out s b v mic lm nt dom usr wks key settings clock m16 info x y h in
+    rw (w .1)
+    (authenticate-reads-back out (flagsAt s 20) v (x .mic-sent) (x .lm-sent) nt (x .domain-sent) usr wks (x .key-sent) (y .len) v8
+    (mic-sent-long s b v mic lm nt dom usr wks key settings clock m16 info x) (w .0))

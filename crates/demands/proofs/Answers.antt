@@ -138,11 +138,15 @@ copy-fits bytes out n h =
 pub copy-tells : CopyTells
 copy-tells bytes out l = written-told (bytesAnswer bytes out) (bytes-small bytes out) (λ n h. omega (arith, copy-fits bytes out n h))
 
-pub line-tells : LineTells
+-- bytes of a length that leaves the top bit clear
+pub short-tells : (bytes out : List ℕ) → length bytes < 0x8000000000000000 → TellsWritten (writtenNumber (bytesAnswer bytes out)) (bytesAnswer bytes out)
 unfolding bytesAnswer
-line-tells l out =
-    written-told (bytesAnswer (lineOf l) out) (bytes-small (lineOf l) out)
-    (λ n h. omega (arith, by-size (bytesHold (lineOf l) out) (lineOf l) n 0x100000 (λ c. omega (arith, line-short l)) h))
+short-tells bytes out l =
+    written-told (bytesAnswer bytes out) (bytes-small bytes out)
+    (λ n h. omega (arith, l, by-size (bytesHold bytes out) bytes n (length bytes) (λ c. omega arith) h))
+
+pub line-tells : LineTells
+line-tells l out = short-tells (lineOf l) out (omega (arith, line-short l))
 
 -- ---- answering a challenge
 

@@ -1,7 +1,7 @@
 -- Asking at a place.
 use Prim.Native.Nat.{ℕ, zero, suc, _<_}
 use mathlib.Core.Path.{_≡_, refl, sym, ap, _∙_, subst}
-use mathlib.Core.Logic.{_⊎_, inl, inr, ⊎-elim, _↔_}
+use mathlib.Core.Logic.{_⊎_, inl, inr, ⊎-elim}
 use mathlib.Core.List.{List}
 use native.Mathlib.Omega.{arith}
 use lib.ListN.{length}
@@ -33,7 +33,7 @@ step-is s at = go (length s) refl where
   go zero e = rw (empty-step s at e) (inl e)
   go (suc n) e = full (stepAt s at) (omega arith) (step-judged s at (omega arith))
 
-pair-or-stop : (s : List ℕ) (at : ℕ) → PairAt s at → (length s ≡ 0) ⊎ EndAt s at → ⊥
+pub pair-or-stop : (s : List ℕ) (at : ℕ) → PairAt s at → (length s ≡ 0) ⊎ EndAt s at → ⊥
 pair-or-stop s at w h = ⊎-elim (λ e. omega (arith, w .whole, e)) (λ e. pair-or-end s at w e) h
 
 stop-or-fault : (s : List ℕ) (at n : ℕ) → (length s ≡ 0) ⊎ EndAt s at → 0 < length s → FaultAt s at n → ⊥

@@ -17,12 +17,10 @@ use Rattle.wire.specs.Check.{checked, after}
 use Rattle.head.specs.declared.Kind.{Kind}
 use Rattle.head.specs.declared.Kind.the-variants.{Negotiate, Challenge, Authenticate}
 use Rattle.verdict.specs.Verdict.{negoVerdict, authVerdict, readAs}
-use Rattle.explain.specs.Explain.{checksOf}
-use Rattle.batch.specs.declared.CEntry.{CEntry}
 use Rattle.batch.specs.declared.Entry.{Entry}
-use Rattle.batch.specs.Batch.{answerOf, atPlace, readMarked, withAnswer, answered, answeredFromC}
-use Rattle.demands.specs.Explained.{TakenAs, RefusedAs, OneOf}
-use Rattle.demands.specs.Batch.{Place, ofEntry, ofCEntry, markOf, Passes, Inside, message, PlaceAnswered, EntryAnswered, CEntryAnswered, Each, BatchAnswers, BatchAnswersFromC, Listed, in-first-64, in-challenge, DifferInListedSecrets, SameBatch, SameBatchFromC, SecretBatch, BatchIgnored}
+use Rattle.batch.specs.Batch.{answerOf, atPlace, readMarked, answered}
+use Rattle.demands.specs.Explained.{printedChecks, TakenAs, RefusedAs, OneOf}
+use Rattle.demands.specs.Batch.{markOf, Marked, Passes, Inside, message, AnswerIs, EntryAnswered, Each, BatchAnswers, Listed, in-first-64, in-challenge, DifferInListedSecrets, SameBatch, SecretBatch, BatchIgnored}
 use Rattle.demands.proofs.Alike.{same-part}
 use Rattle.demands.proofs.Explained.{taken-clear, refused-not, Either, either, refused-is}
 use Rattle.demands.proofs.Explained.Reasons.{why}
@@ -32,117 +30,98 @@ use Rattle.demands.proofs.First64.{negotiate-same, authenticate-same}
 -- ---- a single call's numbers
 
 -- a reading is refused by a check of its kind, which is neither 0 nor 54
-not-0-or-54 : (k : Kind) (n : ℕ) → OneOf (checksOf k) n → (n ≡ 0 → ⊥) × (n ≡ 54 → ⊥)
-not-0-or-54 Negotiate n h = (λ e. let x : OneOf (checksOf Negotiate) 0 = rw e at h in omega (arith, x), λ e. let x : OneOf (checksOf Negotiate) 54 = rw e at h in omega (arith, x))
-not-0-or-54 Challenge n h = (λ e. let x : OneOf (checksOf Challenge) 0 = rw e at h in omega (arith, x), λ e. let x : OneOf (checksOf Challenge) 54 = rw e at h in omega (arith, x))
-not-0-or-54 Authenticate n h = (λ e. let x : OneOf (checksOf Authenticate) 0 = rw e at h in omega (arith, x), λ e. let x : OneOf (checksOf Authenticate) 54 = rw e at h in omega (arith, x))
+not-0-or-54 : (k : Kind) (n : ℕ) → OneOf (printedChecks k) n → (n ≡ 0 → ⊥) × (n ≡ 54 → ⊥)
+not-0-or-54 Negotiate n h = (λ e. let x : OneOf (printedChecks Negotiate) 0 = rw e at h in omega (arith, x), λ e. let x : OneOf (printedChecks Negotiate) 54 = rw e at h in omega (arith, x))
+not-0-or-54 Challenge n h = (λ e. let x : OneOf (printedChecks Challenge) 0 = rw e at h in omega (arith, x), λ e. let x : OneOf (printedChecks Challenge) 54 = rw e at h in omega (arith, x))
+not-0-or-54 Authenticate n h = (λ e. let x : OneOf (printedChecks Authenticate) 0 = rw e at h in omega (arith, x), λ e. let x : OneOf (printedChecks Authenticate) 54 = rw e at h in omega (arith, x))
 
 refusal-number : (k : Kind) (s : List ℕ) (n i p : ℕ) → RefusedAs k s n i p → (n ≡ 0 → ⊥) × (n ≡ 54 → ⊥)
 refusal-number k s n i p r = not-0-or-54 k n (why k s n i p r .one)
 
--- ---- a place
+-- ---- a mark
 
--- how a place is read: as its mark's kind, or by 4 where there is none
-pub record Read (x : Place) (read : List ℕ → Verdict) (m : List ℕ) : Type 0 where
-  pub by-kind : (k : Kind) → x .Marked k → read m ≡ readAs k m
-  pub by-none : ((k : Kind) → x .Marked k → ⊥) → read m ≡ Not WrongType
-  pub one : ((k : Kind) × x .Marked k) ⊎ ((k : Kind) → x .Marked k → ⊥)
+-- a message is read as its mark's kind, or by 4 where there is none
+by-kind : (k : Kind) (m : ℕ) (s : List ℕ) → m ≡ markOf k → readMarked m s ≡ readAs k s
+by-kind Negotiate m s h = rw h
+by-kind Challenge m s h = rw h
+by-kind Authenticate m s h = rw h
 
-module _ (s : List ℕ) (x : Place) (read : List ℕ → Verdict) (r : Read x read (message s x)) where
+abbrev KindOrNone : ℕ → Type 0
+KindOrNone m = ((k : Kind) × (m ≡ markOf k)) ⊎ ((k : Kind) → m ≡ markOf k → ⊥)
+
+by-none : (m : ℕ) (s : List ℕ) → ((k : Kind) → m ≡ markOf k → ⊥) → readMarked m s ≡ Not WrongType
+by-none m s none = simp (ne-eqb m 1 (none Negotiate), ne-eqb m 2 (none Challenge), ne-eqb m 3 (none Authenticate))
+
+kind-or-none : (m : ℕ) → KindOrNone m
+kind-or-none m = one (eqb m 1) (eqb m 2) (eqb m 3) refl refl refl where
+  one : (a b c : Bool) → eqb m 1 ≡ a → eqb m 2 ≡ b → eqb m 3 ≡ c → KindOrNone m
+  one true b c p q u = inl (Negotiate, eqb-true m 1 p)
+  one false true c p q u = inl (Challenge, eqb-true m 2 q)
+  one false false true p q u = inl (Authenticate, eqb-true m 3 u)
+  one false false false p q u = inr none
+    where
+      none : (k : Kind) → m ≡ markOf k → ⊥
+      none Negotiate h = eqb-false m 1 p h
+      none Challenge h = eqb-false m 2 q h
+      none Authenticate h = eqb-false m 3 u h
+
+-- ---- an entry
+
+module _ (s : List ℕ) (x : Entry) where
   abbrev v : Verdict
-  v = atPlace s (x .start) (x .len) read
+  v = atPlace s (x .start) (x .length) (readMarked (x .mark))
 
   when-outside : Passes s x → v ≡ Not PlaceOutside
-  when-outside l = simp (lt-leb (x .start + x .len) (length s) l)
+  when-outside l = simp (lt-leb (x .start + x .length) (length s) l)
 
-  when-inside : Inside s x → v ≡ read (message s x)
-  when-inside l = simp (le-leb (x .start + x .len) (length s) l)
+  when-inside : Inside s x → v ≡ readMarked (x .mark) (message s x)
+  when-inside l = simp (le-leb (x .start + x .length) (length s) l)
 
-  when-kind : Inside s x → (k : Kind) → x .Marked k → v ≡ readAs k (message s x)
-  when-kind l k m = when-inside l ∙ r .by-kind k m
+  when-kind : Inside s x → (k : Kind) → Marked x k → v ≡ readAs k (message s x)
+  when-kind l k m = when-inside l ∙ by-kind k (x .mark) (message s x) m
 
-  refused-is-so : Inside s x → (k : Kind) → x .Marked k → (n i p : ℕ) → RefusedAs k (message s x) n i p →
-      (answerOf v .number ≡ n) × (answerOf v .field ≡ i) × (answerOf v .place ≡ p)
+  refused-is-so : Inside s x → (k : Kind) → Marked x k → (n i p : ℕ) → RefusedAs k (message s x) n i p →
+      AnswerIs (answerOf v) n i p
   refused-is-so l k m n i p h = let y = refused-not k (message s x) n i p h in rw (when-kind l k m ∙ y .1) (y .2 .0, y .2 .1, y .2 .2)
 
   never-54 : Inside s x → answerOf v .number ≡ 54 → ⊥
-  never-54 l h = go (r .one) where
-    go : ((k : Kind) × x .Marked k) ⊎ ((k : Kind) → x .Marked k → ⊥) → ⊥
-    go (inr none) = let z : _≡_ {A = ℕ} 4 54 = rw (when-inside l ∙ r .by-none none) at h in omega (arith, z)
+  never-54 l h = go (kind-or-none (x .mark)) where
+    go : KindOrNone (x .mark) → ⊥
+    go (inr none) = let z : _≡_ {A = ℕ} 4 54 = rw (when-inside l ∙ by-none (x .mark) (message s x) none) at h in omega (arith, z)
     go (inl km) = of (either (km .0) (message s x)) where
       of : Either (km .0) (message s x) → ⊥
       of (inl t) = let z : _≡_ {A = ℕ} 0 54 = rw (when-kind l (km .0) (km .1) ∙ taken-clear (km .0) (message s x) t) at h in omega (arith, z)
       of (inr e) = refusal-number (km .0) (message s x) _ _ _ (e .1) .1 (sym (refused-is-so l (km .0) (km .1) _ _ _ (e .1) .0) ∙ h)
 
-  pub place-answered : PlaceAnswered s x (answerOf v)
-  place-answered =
+  entry-answered : EntryAnswered s x (answered s x)
+  unfolding answered
+  entry-answered =
       record {
+        start = refl;
+        len = refl;
+        mark = refl;
         outside = λ l. rw (when-outside l) (refl, refl, refl);
-        only-outside = λ h. only (leb (x .start + x .len) (length s)) refl h;
+        only-outside = λ h. only (leb (x .start + x .length) (length s)) refl h;
         taken = λ l k m t. rw (when-kind l k m ∙ taken-clear k (message s x) t) (refl, refl, refl);
         only-taken = λ l k m h. zero-taken l k m h (either k (message s x));
         refused = refused-is-so;
         only-refused = λ l k m h. some-refused l k m h (either k (message s x));
-        no-kind = λ l none. rw (when-inside l ∙ r .by-none none) (refl, refl, refl);
+        no-kind = λ l none. rw (when-inside l ∙ by-none (x .mark) (message s x) none) (refl, refl, refl);
       }
     where
-      only : (b : Bool) → leb (x .start + x .len) (length s) ≡ b → answerOf v .number ≡ 54 → Passes s x
-      only true e h = absurd (never-54 (leb-true (x .start + x .len) (length s) e) h)
-      only false e h = leb-false (x .start + x .len) (length s) e
+      only : (b : Bool) → leb (x .start + x .length) (length s) ≡ b → answerOf v .number ≡ 54 → Passes s x
+      only true e h = absurd (never-54 (leb-true (x .start + x .length) (length s) e) h)
+      only false e h = leb-false (x .start + x .length) (length s) e
 
-      zero-taken : Inside s x → (k : Kind) → x .Marked k → answerOf v .number ≡ 0 → Either k (message s x) → TakenAs k (message s x)
+      zero-taken : Inside s x → (k : Kind) → Marked x k → answerOf v .number ≡ 0 → Either k (message s x) → TakenAs k (message s x)
       zero-taken l k m h (inl t) = t
       zero-taken l k m h (inr e) = absurd (refusal-number k (message s x) _ _ _ (e .1) .0 (sym (refused-is-so l k m _ _ _ (e .1) .0) ∙ h))
 
-      some-refused : Inside s x → (k : Kind) → x .Marked k → 0 < answerOf v .number → Either k (message s x) →
+      some-refused : Inside s x → (k : Kind) → Marked x k → 0 < answerOf v .number → Either k (message s x) →
           RefusedAs k (message s x) (answerOf v .number) (answerOf v .field) (answerOf v .place)
       some-refused l k m h (inl t) = absurd (let z : 0 < 0 = rw (when-kind l k m ∙ taken-clear k (message s x) t) at h in omega (arith, z))
       some-refused l k m h (inr e) =
           let y = refused-is-so l k m _ _ _ (e .1) in refused-is k (message s x) _ _ _ _ _ _ (sym (y .0)) (sym (y .1)) (sym (y .2)) (e .1)
-
--- ---- an entry
-
-own-read : (e : Entry) (m : List ℕ) → Read (ofEntry e) (readAs (e .mark)) m
-own-read e m = record { by-kind = λ k h. rw h; by-none = λ none. absurd (none (e .mark) refl); one = inl (e .mark, refl) }
-
-c-read : (e : CEntry) (m : List ℕ) → Read (ofCEntry e) (readMarked (e .mark)) m
-c-read e m = record { by-kind = by-kind; by-none = λ none. simp (ne-eqb (e .mark) 1 (none Negotiate), ne-eqb (e .mark) 2 (none Challenge), ne-eqb (e .mark) 3 (none Authenticate)); one = one (eqb (e .mark) 1) (eqb (e .mark) 2) (eqb (e .mark) 3) refl refl refl }
-  where
-    by-kind : (k : Kind) → e .mark ≡ markOf k → readMarked (e .mark) m ≡ readAs k m
-    by-kind Negotiate h = rw h
-    by-kind Challenge h = rw h
-    by-kind Authenticate h = rw h
-
-    one : (a b c : Bool) → eqb (e .mark) 1 ≡ a → eqb (e .mark) 2 ≡ b → eqb (e .mark) 3 ≡ c → ((k : Kind) × (e .mark ≡ markOf k)) ⊎ ((k : Kind) → e .mark ≡ markOf k → ⊥)
-    one true b c p q u = inl (Negotiate, eqb-true (e .mark) 1 p)
-    one false true c p q u = inl (Challenge, eqb-true (e .mark) 2 q)
-    one false false true p q u = inl (Authenticate, eqb-true (e .mark) 3 u)
-    one false false false p q u = inr none
-      where
-        none : (k : Kind) → e .mark ≡ markOf k → ⊥
-        none Negotiate h = eqb-false (e .mark) 1 p h
-        none Challenge h = eqb-false (e .mark) 2 q h
-        none Authenticate h = eqb-false (e .mark) 3 u h
-
-entry-answered : (s : List ℕ) (e : Entry) → EntryAnswered s e (answered s e)
-unfolding answered
-entry-answered s e =
-    record {
-      start = refl;
-      len = refl;
-      mark = refl;
-      answer = place-answered s (ofEntry e) (readAs (e .mark)) (own-read e (message s (ofEntry e)));
-    }
-
-c-entry-answered : (s : List ℕ) (e : CEntry) → CEntryAnswered s e (answeredFromC s e)
-unfolding answeredFromC
-c-entry-answered s e =
-    record {
-      start = refl;
-      len = refl;
-      mark = refl;
-      answer = place-answered s (ofCEntry e) (readMarked (e .mark)) (c-read e (message s (ofCEntry e)));
-    }
 
 -- ---- the list
 
@@ -152,19 +131,13 @@ each R g (e ∷ es) h = (h e, each R g es h)
 
 pub batch-answers : BatchAnswers
 batch-answers s es = (
-  λ l. rw (le-leb (length s) 65535 l) (refl, each (EntryAnswered s) (answered s) es (entry-answered s)),
-  λ l. rw (lt-leb (length s) 65535 l) (refl, refl),
-)
-
-pub batch-answers-from-c : BatchAnswersFromC
-batch-answers-from-c s es = (
-  λ l. rw (le-leb (length s) 65535 l) (refl, each (CEntryAnswered s) (answeredFromC s) es (c-entry-answered s)),
-  λ l. rw (lt-leb (length s) 65535 l) (record { top-bit = refl; number = refl; field = refl; place = refl }, refl),
+  λ l. rw (le-leb (length s) 65535 l) (refl, refl, each (EntryAnswered s) (answered s) es (entry-answered s)),
+  λ l. rw (lt-leb (length s) 65535 l) (refl, record { top-bit = refl; number = refl; field = refl; place = refl }, refl),
 )
 
 -- ---- equal answers
 
-map-same : {A : Type 0} (f g : A → A) (es : List A) → ((e : A) → Listed e es → f e ≡ g e) → map f es ≡ map g es
+map-same : (f g : Entry → Entry) (es : List Entry) → ((e : Entry) → Listed e es → f e ≡ g e) → map f es ≡ map g es
 map-same f g [] h = refl
 map-same f g (e ∷ es) h = λ i. h e (inl refl) i ∷ map-same f g es (λ x l. h x (inr l)) i
 
@@ -176,34 +149,23 @@ at-same s t start len read long h = rw (← long) (go (leb (start + len) (length
   go true e = h (leb-true (start + len) (length s) e)
   go false e = refl
 
--- a place's message has the same verdict in both buffers, by each kind
-abbrev SameRead : List ℕ → List ℕ → Place → Type 0
-SameRead s t x = Inside s x → (k : Kind) → x .Marked k → readAs k (message s x) ≡ readAs k (message t x)
+-- an entry's message has the same verdict in both buffers, by each kind
+abbrev SameRead : List ℕ → List ℕ → Entry → Type 0
+SameRead s t e = Inside s e → (k : Kind) → Marked e k → readAs k (message s e) ≡ readAs k (message t e)
 
-own-same : (s t : List ℕ) (e : Entry) → length s ≡ length t → SameRead s t (ofEntry e) → answered s e ≡ answered t e
+entry-same : (s t : List ℕ) (e : Entry) → length s ≡ length t → SameRead s t e → answered s e ≡ answered t e
 unfolding answered
-own-same s t e long h =
+entry-same s t e long h =
     ap (λ (v : Verdict). record { start = e .start; length = e .length; mark = e .mark; answer = answerOf v })
-    (at-same s t (e .start) (e .length) (readAs (e .mark)) long (λ l. h l (e .mark) refl))
-
-c-same : (s t : List ℕ) (e : CEntry) → length s ≡ length t → SameRead s t (ofCEntry e) → answeredFromC s e ≡ answeredFromC t e
-unfolding answeredFromC
-c-same s t e long h =
-    ap (λ (v : Verdict). withAnswer e (answerOf v)) (at-same s t (e .start) (e .length) (readMarked (e .mark)) long (λ l. go l (c-read e (message s (ofCEntry e))) (c-read e (message t (ofCEntry e))) (c-read e (message s (ofCEntry e)) .one)))
+    (at-same s t (e .start) (e .length) (readMarked (e .mark)) long (λ l. go l (kind-or-none (e .mark))))
   where
-    go : Inside s (ofCEntry e) → Read (ofCEntry e) (readMarked (e .mark)) (message s (ofCEntry e)) → Read (ofCEntry e) (readMarked (e .mark)) (message t (ofCEntry e)) →
-        ((k : Kind) × (e .mark ≡ markOf k)) ⊎ ((k : Kind) → e .mark ≡ markOf k → ⊥) → readMarked (e .mark) (message s (ofCEntry e)) ≡ readMarked (e .mark) (message t (ofCEntry e))
-    go l a b (inl km) = a .by-kind (km .0) (km .1) ∙ h l (km .0) (km .1) ∙ sym (b .by-kind (km .0) (km .1))
-    go l a b (inr none) = a .by-none none ∙ sym (b .by-none none)
+    go : Inside s e → KindOrNone (e .mark) → readMarked (e .mark) (message s e) ≡ readMarked (e .mark) (message t e)
+    go l (inl km) = by-kind (km .0) (e .mark) (message s e) (km .1) ∙ h l (km .0) (km .1) ∙ sym (by-kind (km .0) (e .mark) (message t e) (km .1))
+    go l (inr none) = by-none (e .mark) (message s e) none ∙ sym (by-none (e .mark) (message t e) none)
 
-batch-same : (es : List Entry) (s t : List ℕ) → length s ≡ length t → ((e : Entry) → Listed e es → SameRead s t (ofEntry e)) → SameBatch es s t
+batch-same : (es : List Entry) (s t : List ℕ) → length s ≡ length t → ((e : Entry) → Listed e es → SameRead s t e) → SameBatch es s t
 batch-same es s t long h =
-    let m : map (answered s) es ≡ map (answered t) es = map-same (answered s) (answered t) es (λ e l. own-same s t e long (h e l)) in
-    (simp long, simp (long, m))
-
-c-batch-same : (es : List CEntry) (s t : List ℕ) → length s ≡ length t → ((e : CEntry) → Listed e es → SameRead s t (ofCEntry e)) → SameBatchFromC es s t
-c-batch-same es s t long h =
-    let m : map (answeredFromC s) es ≡ map (answeredFromC t) es = map-same (answeredFromC s) (answeredFromC t) es (λ e l. c-same s t e long (h e l)) in
+    let m : map (answered s) es ≡ map (answered t) es = map-same (answered s) (answered t) es (λ e l. entry-same s t e long (h e l)) in
     (simp long, simp (long, m))
 
 -- ---- demand 3
@@ -213,46 +175,35 @@ getD-past [] i h = refl
 getD-past (x ∷ xs) zero h = absurd (omega arith)
 getD-past (x ∷ xs) (suc i) h = getD-past xs i (omega (arith, h))
 
-module _ {A : Type 0} (at : A → Place) (es : List A) (s t : List ℕ) (d : DifferInListedSecrets at es s t) (e : A) (listed : Listed e es) (inside : Inside s (at e)) where
-  abbrev x : Place
-  x = at e
-
+module _ (es : List Entry) (s t : List ℕ) (d : DifferInListedSecrets es s t) (x : Entry) (listed : Listed x es) (inside : Inside s x) where
   long : length (message s x) ≡ length (message t x)
   long = simp (length-take, length-drop, d .length-same)
 
   first-64 : (p : ℕ) → p < 64 → getD (message s x) p 0 ≡ getD (message t x) p 0
-  first-64 p l = go (leb (x .len) p) refl where
-    short : (u : List ℕ) → length (take (x .len) (drop (x .start) u)) ≤ x .len
+  first-64 p l = go (leb (x .length) p) refl where
+    short : (u : List ℕ) → length (take (x .length) (drop (x .start) u)) ≤ x .length
     short u = simp length-take (omega arith)
 
-    go : (b : Bool) → leb (x .len) p ≡ b → getD (message s x) p 0 ≡ getD (message t x) p 0
+    go : (b : Bool) → leb (x .length) p ≡ b → getD (message s x) p 0 ≡ getD (message t x) p 0
     go true h =
-        let past : x .len ≤ p = leb-true (x .len) p h in
+        let past : x .length ≤ p = leb-true (x .length) p h in
         getD-past (message s x) p (omega (arith, short s, past)) ∙ sym (getD-past (message t x) p (omega (arith, short t, past)))
     go false h =
-        let within : p < x .len = leb-false (x .len) p h in
-        simp (getD-take (x .len) (drop (x .start) s) p 0 within, getD-take (x .len) (drop (x .start) t) p 0 within, getD-drop)
-        (d .open-same e listed inside (x .start + p) (omega arith, omega (arith, within)) (in-first-64 (omega (arith, l))))
+        let within : p < x .length = leb-false (x .length) p h in
+        simp (getD-take (x .length) (drop (x .start) s) p 0 within, getD-take (x .length) (drop (x .start) t) p 0 within, getD-drop)
+        (d .open-same x listed inside (x .start + p) (omega arith, omega (arith, within)) (in-first-64 (omega (arith, l))))
 
-  same-read : (k : Kind) → x .Marked k → readAs k (message s x) ≡ readAs k (message t x)
+  same-read : (k : Kind) → Marked x k → readAs k (message s x) ≡ readAs k (message t x)
   same-read Negotiate m = ap negoVerdict (negotiate-same (message s x) (message t x) long first-64)
   same-read Authenticate m = ap authVerdict (authenticate-same (message s x) (message t x) long first-64)
   same-read Challenge m =
       ap (λ (l : List ℕ). readAs Challenge l)
-      (same-part s t (d .length-same) (x .start) (x .len) (λ p a b. d .open-same e listed inside p (a, b) (in-challenge m)))
+      (same-part s t (d .length-same) (x .start) (x .length) (λ p a b. d .open-same x listed inside p (a, b) (in-challenge m)))
 
 pub secret-batch : SecretBatch
-secret-batch =
-    record {
-      own = λ es s t d. batch-same es s t (d .length-same) (λ e l i. same-read ofEntry es s t d e l i);
-      from-c = λ es s t d. c-batch-same es s t (d .length-same) (λ e l i. same-read ofCEntry es s t d e l i);
-    }
+secret-batch es s t d = batch-same es s t (d .length-same) (λ e l i. same-read es s t d e l i)
 
 -- ---- ignored bytes
 
 pub batch-ignored : BatchIgnored
-batch-ignored =
-    record {
-      own = λ es s t d. batch-same es s t (d .length-same) (λ e l i k m. ignored-read k _ _ (d .messages e l i k m));
-      from-c = λ es s t d. c-batch-same es s t (d .length-same) (λ e l i k m. ignored-read k _ _ (d .messages e l i k m));
-    }
+batch-ignored es s t d = batch-same es s t (d .length-same) (λ e l i k m. ignored-read k _ _ (d .messages e l i k m))

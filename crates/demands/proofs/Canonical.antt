@@ -4,40 +4,32 @@ pub mod Example
 use Prim.Native.Nat.{ℕ, _+_, _≤_}
 use mathlib.Core.Path.{_≡_, refl, sym, ap, _∙_, subst}
 use mathlib.Core.Bool.{Bool, true, false, cond}
-use mathlib.Core.List.{List, [], _∷_, _++_, append-assoc}
+use mathlib.Core.List.{List, []}
 use native.Mathlib.Omega.{arith}
 use lib.Dec.{leb}
-use lib.ListN.{length, take, drop, replicate, length-append, length-take, length-drop}
-use lib.Seq.{drop-at}
+use lib.ListN.{length, take, drop, length-take, length-drop}
 use Rattle.wire.specs.declared.check.Verdict.the-variants.{Refused as Not}
 use Rattle.wire.specs.declared.refusal.Refusal.{Refusal}
 use Rattle.field.specs.declared.Field.{Field}
 use Rattle.field.specs.Field.{fieldBytes}
-use Rattle.negotiate_flags.specs.declared.NegotiateFlags.{NegotiateFlags}
-use Rattle.negotiate_flags.specs.Flags.{version}
-use Rattle.head.specs.Head.{signature}
-use Rattle.place.specs.declared.written.Written.{Written}
 use Rattle.place.specs.declared.written.Written.the-variants.{Length, Refused as Unwritten}
-use Rattle.place.specs.Place.{le32}
-use Rattle.place.proofs.Numbers.{length-le32}
-use Rattle.field_writing.specs.Writing.{versionBytes}
-use Rattle.field_writing.proofs.Laws.{length-version}
 use Rattle.authenticate.specs.declared.Authenticate.{Authenticate}
 use Rattle.authenticate.specs.declared.Fields.{Fields}
 use Rattle.authenticate.specs.declared.Reading.{Reading}
 use Rattle.authenticate.specs.declared.Reading.the-variants.{Taken, Refused}
 use Rattle.authenticate.specs.Authenticate.{readAuthenticate}
-use Rattle.authenticate_writing.specs.Writing.{fieldsTo, headsBytes, afterHeads, fixedBytes, payloadBytes, authenticateBytes, checkToWrite, writeAnswer, writeOut}
-use Rattle.authenticate_writing.proofs.Sent.{length-fixed, length-message, length-payload}
+use Rattle.authenticate_writing.specs.Writing.{authenticateBytes, checkToWrite, writeAnswer, writeOut}
+use Rattle.authenticate_writing.proofs.Sent.{length-message, length-payload}
 use Rattle.c_number.specs.Number.{writtenNumber}
 use Rattle.canonical.specs.Canonical.{Meaning, meaningOf, zeroVersion, meaningAnswer, meaningOut, onMeaning, canonicalAnswer, canonicalOut}
 use Rattle.demands.specs.Canonical.{Means, MeaningIsThere, OneMeaning, WrittenAs, OneWriting, WrittenAgain, MeaningBack, WrittenByLayout, CanonicalKept, SameCanonical, CanonicalByMeaning, CanonicalIgnored, SecretsWritten, CanonicalSecret, CanonicalShort, CanonicalTells}
 use Rattle.demands.specs.Answers.{TellsWritten, write-authenticate}
 use Rattle.demands.specs.Ignored.{SameFields, SameAnswer}
 use Rattle.demands.specs.Kept.{Kept}
+use Rattle.demands.specs.LaidOut.{LaidOut}
 use Rattle.demands.specs.MaxLen.{bareAuthenticate}
 use Rattle.demands.specs.ReadBack.{AuthenticateBack}
-use Rattle.demands.specs.Secret.{SamePublic, AsLong, AlikeOutside}
+use Rattle.demands.specs.Secret.{SamePublic, AsLong}
 use Rattle.demands.specs.TakenExactly.{IsTakenAuthenticate}
 use Rattle.demands.specs.WrittenExactly.{WrittenExactly, authenticateSize, authenticateOrder, AuthenticateWritingFails}
 use Rattle.demands.proofs.Answers.{writing-short, writing-tells}
@@ -47,10 +39,9 @@ use Rattle.demands.proofs.Ignored.{authenticate-ignored}
 use Rattle.demands.proofs.Kept as kept-laws
 use Rattle.demands.proofs.Kept.AnswerKept.{authenticate-kept}
 use Rattle.demands.proofs.Kept.CallFront.{mic-16}
+use Rattle.demands.proofs.LaidOut.{authenticate-by-layout}
 use Rattle.demands.proofs.Order.{on-row}
-use Rattle.demands.proofs.OwnBytes.{authenticate-own}
 use Rattle.demands.proofs.ReadBack.{written-is}
-use Rattle.demands.proofs.ReadBack.Sent.{in-payload}
 use Rattle.demands.proofs.ReadBack.WriteBack.{authenticate-reads-back}
 use Rattle.demands.proofs.Secret.{secret-read}
 use Rattle.demands.proofs.Secret.Answered.{write-same, written-alike}
@@ -246,87 +237,12 @@ written-again s w out y l =
 
 -- ---- its layout
 
-zeros-either-way : (flags : NegotiateFlags) → versionBytes flags zeroVersion ≡ replicate 8 0
-unfolding versionBytes
-zeros-either-way flags = go (version flags) where
-  go : (b : Bool) → cond b zeroVersion (replicate 8 0) ≡ replicate 8 0
-  go true = refl
-  go false = refl
-
-module _ (m : Meaning) (m16 : length (m .mic) ≡ 16) where
-  f : Fields
-  f = fieldsTo (length (m .lm)) (length (m .nt)) (length (m .domain)) (length (m .user)) (length (m .workstation)) (length (m .key))
-
-  payload : List ℕ
-  payload = payloadBytes (m .lm) (m .nt) (m .domain) (m .user) (m .workstation) (m .key)
-
-  before : List ℕ
-  before = signature ++ (le32 3 ++ (headsBytes f ++ le32 (m .flags .bits)))
-
-  fixed : List ℕ
-  fixed = fixedBytes (m .flags) zeroVersion (m .mic) f
-
-  fixed-is : fixed ≡ before ++ (versionBytes (m .flags) zeroVersion ++ m .mic)
-  unfolding fixed before fixedBytes afterHeads
-  fixed-is = simp append-assoc
-
-  fixed-long : length fixed ≡ 88
-  unfolding fixed
-  fixed-long = length-fixed (m .flags) zeroVersion (m .mic) f refl m16
-
-  before-long : length before ≡ 64
-  before-long =
-      omega (
-        arith,
-        fixed-long,
-        ap length fixed-is,
-        length-append before (versionBytes (m .flags) zeroVersion ++ m .mic),
-        length-append (versionBytes (m .flags) zeroVersion) (m .mic),
-        length-version (m .flags) zeroVersion refl,
-        m16,
-      )
-
-  whole-is : bytesFor m ≡ fixed ++ payload
-  unfolding fixed payload f authenticateBytes
-  whole-is = refl
-
-  at-version : bytesFor m ≡ before ++ (versionBytes (m .flags) zeroVersion ++ (m .mic ++ payload))
-  at-version =
-      whole-is ∙ ap (λ (l : List ℕ). l ++ payload) fixed-is
-      ∙ append-assoc before (versionBytes (m .flags) zeroVersion ++ m .mic) payload
-      ∙ ap (λ (l : List ℕ). before ++ l) (append-assoc (versionBytes (m .flags) zeroVersion) (m .mic) payload)
-
-  at-mic : bytesFor m ≡ (before ++ versionBytes (m .flags) zeroVersion) ++ (m .mic ++ payload)
-  at-mic = at-version ∙ sym (append-assoc before (versionBytes (m .flags) zeroVersion) (m .mic ++ payload))
-
-  version-zero : take 8 (drop 64 (bytesFor m)) ≡ replicate 8 0
-  version-zero =
-      in-payload (bytesFor m) before (versionBytes (m .flags) zeroVersion) (m .mic ++ payload) 64 8 at-version before-long
-      (length-version (m .flags) zeroVersion refl)
-      ∙ zeros-either-way (m .flags)
-
-  mic-stands : take 16 (drop 72 (bytesFor m)) ≡ m .mic
-  mic-stands =
-      in-payload (bytesFor m) (before ++ versionBytes (m .flags) zeroVersion) (m .mic) payload 72 16 at-mic
-      (length-append before (versionBytes (m .flags) zeroVersion) ∙ omega (arith, before-long, length-version (m .flags) zeroVersion refl)) m16
-
-  payload-stands : drop 88 (bytesFor m) ≡ m .domain ++ (m .user ++ (m .workstation ++ (m .lm ++ (m .nt ++ m .key))))
-  unfolding payload payloadBytes
-  payload-stands = ap (λ (l : List ℕ). drop 88 l) whole-is ∙ drop-at fixed payload 88 fixed-long
-
 pub written-by-layout : WrittenByLayout
+unfolding meaningAnswer meaningOut
 written-by-layout s w m x y =
-    let b = back s w m x y in
-    let m16 = mic-long s m x in
-    let e = whole s w m x y in
-    record {
-      whole = e;
-      size = size-is s w m x y;
-      version = ap (λ (l : List ℕ). take 8 (drop 64 l)) e ∙ version-zero m m16;
-      mic = ap (λ (l : List ℕ). take 16 (drop 72 l)) e ∙ mic-stands m m16;
-      mic-there = authenticate-own w (b .message) (b .read) .mic-present .0 (b .mic-there);
-      payload = ap (λ (l : List ℕ). drop 88 l) e ∙ payload-stands m m16;
-    }
+    subst (λ (l : List ℕ). LaidOut l (m .flags .bits) zeroVersion (m .mic) (m .lm) (m .nt) (m .domain) (m .user) (m .workstation) (m .key)) (front s w m x y)
+    (authenticate-by-layout (y .out) (m .flags) zeroVersion (m .mic) (m .lm) (m .nt) (m .domain) (m .user) (m .workstation) (m .key) (y .size) refl
+    (mic-long s m x) (answer-is s w m x y))
 
 -- ---- demands 1 to 3
 

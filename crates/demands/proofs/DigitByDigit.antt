@@ -1,8 +1,8 @@
 -- Each digit of a line is worked out from its number.
-use Prim.Native.Nat.{ℕ, zero, suc, _+_, _-_, _/_, _%_, _^_, _≤_, _<_}
+use Prim.Native.Nat.{ℕ, zero, suc, _-_, _/_, _%_, _^_, _<_}
 use mathlib.Core.Path.{_≡_, refl, sym, ap, _∙_}
 use mathlib.Core.Bool.{Bool, true, false}
-use mathlib.Core.List.{List, [], _∷_, _++_}
+use mathlib.Core.List.{List, [], _∷_}
 use native.Mathlib.Nat.{pow-zero, pow-succ', div-one, div-div-eq-div-mul}
 use native.Mathlib.Omega.{arith}
 use lib.Dec.{ltb}
@@ -11,7 +11,13 @@ use lib.Seq.{getD-at}
 use borrow.Author.Tests.{ltb-true, ltb-false}
 use Rattle.word.specs.Digits.{hexDigit, digits, hex, decimalSize, decimal}
 use Rattle.word.proofs.Numbers.{low-digit, high-digit, length-digits}
-use Rattle.demands.specs.DigitByDigit.{SixteenDigits, DigitFromNumber, HexDigitByDigit, DecimalDigitByDigit}
+use Rattle.head.specs.declared.Kind.{Kind}
+use Rattle.head.specs.declared.Kind.the-variants.{Negotiate, Challenge, Authenticate}
+use Rattle.line.specs.Line.{lineAs}
+use Rattle.demands.specs.Explained.{formatOf}
+use Rattle.demands.specs.MaxLen.{EndsInMax}
+use Rattle.demands.specs.DigitByDigit.{SixteenDigits, DigitFromNumber, HexDigitByDigit, DecimalDigitByDigit, LastWord, MaxDigitByDigit}
+use Rattle.demands.proofs.Ignored.LineIgnored.{max-word-said}
 
 pub sixteen-digits : SixteenDigits
 unfolding hexDigit
@@ -53,3 +59,21 @@ unfolding decimal
 decimal-digit-by-digit n i h =
     let size : length (digits 10 (decimalSize n) n) ≡ decimalSize n = length-digits 10 (decimalSize n) n in
     rw size (digit-at 10 (decimalSize n) n i (omega (arith, size)))
+
+-- the last word, as `MaxWordSaid` has it
+last-word : (k : Kind) (s before : List ℕ) → EndsInMax (formatOf k) s (lineAs k s) before → LastWord k s
+unfolding hexDigit
+last-word k s before w =
+    record {
+      before = before;
+      digits = w .digits;
+      line-is = w .line-is;
+      count = w .said .count;
+      one = w .said .one;
+      else = w .said .else;
+    }
+
+pub max-digit-by-digit : MaxDigitByDigit
+max-digit-by-digit Negotiate s t = let w = max-word-said .nego s t in last-word Negotiate s (w .0) (w .1)
+max-digit-by-digit Challenge s t = let w = max-word-said .chal s t in last-word Challenge s (w .0) (w .1)
+max-digit-by-digit Authenticate s t = let w = max-word-said .auth s t in last-word Authenticate s (w .0) (w .1)

@@ -38,13 +38,13 @@ use Rattle.authenticate.specs.Authenticate.{readAuthenticate}
 use Rattle.line_checks.specs.declared.Figures.{Figures as Given}
 use Rattle.line_checks.specs.Checks.{checkLines}
 use Rattle.verdict.specs.Verdict.{negoVerdict, chalVerdict, authVerdict, readAs}
-use Rattle.explain.specs.Explain.{checksOf, fieldsOf, numbered, figuresOf, noFigures, ofPair, figuresAs, explainedAs, explanation}
+use Rattle.explain.specs.Explain.{fieldsOf, numbered, figuresOf, noFigures, ofPair, figuresAs, explainedAs, explanation}
 use Rattle.explain.proofs.Laws.{no-head}
 use Rattle.demands.specs.Order.{placeIn}
 use Rattle.demands.specs.Message.{Format, negotiate, authenticate, challenge, Nonempty, lenOf, offsetOf}
 use Rattle.demands.specs.PairList.{idOf, sizeOf}
 use Rattle.demands.specs.TakenExactly.{RefusalIs, InfoBytes, IsTakenNegotiate, IsTakenChallenge, IsTakenAuthenticate, NegotiateRefusedWith, ChallengeRefusedWith, AuthenticateRefusedWith}
-use Rattle.demands.specs.Explained.{Figures, State, held, failed, not-reached, printOf, formatOf, TakenAs, RefusedAs, FailsAt, at-field, at-pair, FiguresAre, OneOf, Before, Told, ExplainedExactly, ExplainedAnswered, ExplainedKept}
+use Rattle.demands.specs.Explained.{Figures, State, held, failed, not-reached, printedChecks, printOf, formatOf, TakenAs, RefusedAs, FailsAt, at-field, at-pair, FiguresAre, OneOf, Before, Told, ExplainedExactly, ExplainedAnswered, ExplainedKept}
 use Rattle.demands.proofs.Kept.{line-kept}
 use Rattle.demands.proofs.Message.{Stands}
 use Rattle.demands.proofs.Message.Fields.{AllStand}
@@ -190,8 +190,8 @@ pair-inside k s n i p w c b q x z = go (w .fails) where
   late : 10 ≤ n
   late = by-pair n (λ m. 10 ≤ m) c (omega arith) (omega arith) (omega arith)
 
-  after-11 : Before (checksOf Challenge) 11 n
-  after-11 = by-pair n (λ m. Before (checksOf Challenge) 11 m) c (omega arith) (omega arith) (omega arith)
+  after-11 : Before (printedChecks Challenge) 11 n
+  after-11 = by-pair n (λ m. Before (printedChecks Challenge) 11 m) c (omega arith) (omega arith) (omega arith)
 
   go : FailsAt k s n i p → q + 4 ≤ length b
   go (at-field f e) = absurd (omega (arith, late, up-to-9 (formatOf k) s n i f))
@@ -231,7 +231,7 @@ module _ (k : Kind) (s : List ℕ) where
   given = figuresAs k s
 
   abbrev checks : List ℕ
-  checks = checksOf k
+  checks = printedChecks k
 
   abbrev state : ℕ → State
   state = stateOf given checks
@@ -278,7 +278,7 @@ module _ (k : Kind) (s : List ℕ) where
   -- no check has number 0
   none-is-0 : placeIn checks 0 ≡ length checks
   none-is-0 = go k where
-    go : (k : Kind) → placeIn (checksOf k) 0 ≡ length (checksOf k)
+    go : (k : Kind) → placeIn (printedChecks k) 0 ≡ length (printedChecks k)
     go Negotiate = refl
     go Challenge = refl
     go Authenticate = refl
@@ -321,15 +321,15 @@ module _ (k : Kind) (s : List ℕ) where
             (sym (ap (λ (y : Figures). y .at) (is .1) ∙ ap (λ (y : Given). y .at) g ∙ r .2 .2))
             (x .1)
 
-print-is : (k : Kind) (s : List ℕ) → explainedAs k s ≡ printOf (stateOf (figuresAs k s) (checksOf k)) (checksOf k)
+print-is : (k : Kind) (s : List ℕ) → explainedAs k s ≡ printOf (stateOf (figuresAs k s) (printedChecks k)) (printedChecks k)
 unfolding explainedAs checkLines
-print-is Negotiate s = lines-are (figuresAs Negotiate s) (checksOf Negotiate) refl
-print-is Challenge s = lines-are (figuresAs Challenge s) (checksOf Challenge) refl
-print-is Authenticate s = lines-are (figuresAs Authenticate s) (checksOf Authenticate) refl
+print-is Negotiate s = lines-are (figuresAs Negotiate s) (printedChecks Negotiate) refl
+print-is Challenge s = lines-are (figuresAs Challenge s) (printedChecks Challenge) refl
+print-is Authenticate s = lines-are (figuresAs Authenticate s) (printedChecks Authenticate) refl
 
 pub explained-exactly : ExplainedExactly
 unfolding explanation
-explained-exactly s = (stateOf (figuresAs (kindOf s) s) (checksOf (kindOf s)), print-is (kindOf s) s, told (kindOf s) s)
+explained-exactly s = (stateOf (figuresAs (kindOf s) s) (printedChecks (kindOf s)), print-is (kindOf s) s, told (kindOf s) s)
 
 -- ---- the call
 

@@ -12,23 +12,21 @@ use native.Mathlib.Omega.{arith}
 use lib.ListN.{length, take, drop, replicate}
 use borrow.Author.Tests.{eqb-true}
 use Rattle.negotiate_flags.specs.declared.NegotiateFlags.{NegotiateFlags}
-use Rattle.head.specs.declared.Head.{Head}
-use Rattle.head.specs.declared.Head.the-variants.{Flags, Refused as Stopped}
+use Rattle.head.specs.declared.Head.the-variants.{Flags}
 use Rattle.wire.specs.declared.check.Verdict.{Verdict}
 use Rattle.wire.specs.declared.check.Verdict.the-variants.{Clear, Refused as Not}
 use Rattle.wire.specs.Check.{onClear}
 use Rattle.field.specs.Field.{fieldAt}
 use Rattle.negotiate_flags.specs.Flags.{unicode, keyExch}
-use Rattle.head.specs.Head.{flagsAt, readHead, onFlags}
+use Rattle.head.specs.Head.{flagsAt}
 use Rattle.authenticate.specs.declared.Fields.{Fields}
 use Rattle.authenticate.specs.declared.Reading.{Reading}
 use Rattle.authenticate.specs.declared.Reading.the-variants.{Taken, Refused}
-use Rattle.authenticate.specs.Authenticate.{layout, fieldsAt, checkEnds, checkBegins, checkNames, checkShared, checkFields, micPresent, micBytes, readingOf, readAuthenticate}
+use Rattle.authenticate.specs.Authenticate.{fieldsAt, checkEnds, checkBegins, checkNames, checkShared, checkFields, micPresent, micBytes, readingOf, readAuthenticate}
 use Rattle.demands.specs.Message.{authenticate, MicThere, Fails, Ignored, DifferInIgnored, SameMaxLen}
 use Rattle.demands.specs.Ignored.{SameBytes, AuthenticateIgnored}
 use Rattle.demands.proofs.Alike.{same-part}
 use Rattle.demands.proofs.MaxLen.{bare-only, kept, keptFields, keptReading, as-it-is, bare-is}
-use Rattle.demands.proofs.Message.Chain.{JudgedH, head-judged}
 use Rattle.demands.proofs.Message.Apart.{Apart, spaced, lies, seen as apart-seen}
 use Rattle.demands.proofs.Message.Unchanged.{Seen}
 use Rattle.demands.proofs.Message.Unchanged as same
@@ -90,21 +88,7 @@ module _ (a b : List ℕ) (d : DifferInIgnored authenticate a b) where
 
     pub reading-same : keptReading m (readingOf a) ≡ keptReading m (readingOf b)
     unfolding readingOf
-    reading-same =
-        go (readHead layout a) (head-judged authenticate a (omega arith))
-        ∙ ap (λ (h : Head). keptReading m (of b h)) (same.head-same authenticate a b (seen a) d)
-      where
-        of : List ℕ → Head → Reading
-        of s h = onFlags Refused h (λ w. rest m w (length s) (fieldsAt s w))
-
-        go : (h : Head) → JudgedH authenticate a h → keptReading m (of a h) ≡ keptReading m (of b h)
-        go (Flags w) j =
-            rw (j .0)
-            (rest-kept m (flagsAt a 60) (length a) (fieldsAt a (flagsAt a 60))
-            ∙ ap (λ (f : Fields). rest m (flagsAt a 60) (length a) f) fields-same
-            ∙ ap (λ (n : ℕ). rest m (flagsAt a 60) n (keptFields m (fieldsAt b (flagsAt a 60)))) (d .length-same)
-            ∙ sym (rest-kept m (flagsAt a 60) (length b) (fieldsAt b (flagsAt a 60))))
-        go (Stopped e) j = refl
+    reading-same = same.read-same authenticate a b (seen a) d Refused (rest m) fieldsAt (keptFields m) (keptReading m) (omega arith) (rest-kept m) fields-same
 
   whole-reading : SameMaxLen authenticate a b → readingOf a ≡ readingOf b
   whole-reading x = sym (as-it-is (readingOf a)) ∙ reading-same true (λ e. x) ∙ as-it-is (readingOf b)

@@ -21,6 +21,8 @@ pub mod Asking
 pub mod WrittenExactly
 pub mod SearchedExactly
 pub mod Answering
+pub mod ListRead
+pub mod LaidOut
 pub mod FieldCopied
 pub mod Answers
 pub mod Printed
@@ -38,3 +40,8 @@ pub mod Mic
 pub mod HeaderLine
 pub mod First64
 pub mod MicExample
+pub mod LineShows
+pub mod RefusedLine
+pub mod TakenLine
+pub mod Kind
+pub mod NumbersFromC

@@ -1,4 +1,6 @@
 -- The MIC's calls: when there is an answer and what it is, that the two agree, and what they don't depend on.
+pub mod Ignored
+pub mod PutIn
 use Prim.Native.Nat.{ℕ, _+_, _≤_, _<_}
 use mathlib.Core.Path.{_≡_, refl, sym, ap, _∙_, subst}
 use mathlib.Core.Logic.{_⊎_, inl, inr, ⊎-elim, _↔_}
@@ -28,7 +30,6 @@ use Rattle.authenticate.specs.declared.Authenticate.{Authenticate}
 use Rattle.authenticate.specs.declared.Reading.{Reading as AuthenticateReading}
 use Rattle.authenticate.specs.declared.Reading.the-variants.{Taken as AuthenticateTaken, Refused as AuthenticateRefused}
 use Rattle.authenticate.specs.Authenticate.{readAuthenticate}
-use Rattle.mic.specs.declared.Checking.{Checking}
 use Rattle.mic.specs.declared.Checking.the-variants.{Compared, Refused}
 use Rattle.verdict.specs.Verdict.{negoVerdict, chalVerdict}
 use Rattle.mic.specs.Mic.{zeroed, micOf, authenticateVerdict, checkMessages, whenClear, workOut, checkMic}
@@ -40,10 +41,10 @@ use Rattle.c_mic.specs.Numbers.{handedOut, micOutcome, checkingNumber}
 use Rattle.demands.specs.Answers.{isRefused, TellsLength, TellsRefusal, TellsOutcome, TellsVerdict}
 use Rattle.demands.specs.FromC.{work-out-mic}
 use Rattle.demands.specs.Kept.{Front}
-use Rattle.demands.specs.Message.{Format, negotiate, challenge, authenticate, Fails, MicThere}
+use Rattle.demands.specs.Message.{Format, negotiate, challenge, authenticate, Fails}
 use Rattle.demands.specs.Order.{First}
-use Rattle.demands.specs.TakenExactly.{RefusalIs, IsTakenNegotiate, NegotiateRefusedWith, IsTakenChallenge, ChallengeRefusedWith, AuthenticateRefusedWith, InfoBytes, ChallengeHolds, ChallengeFails, in-fields, in-list}
-use Rattle.demands.specs.Mic.{MicHolds, MicFails, wrong-key, in-negotiate, in-challenge, in-authenticate, no-mic, VerdictAt, MicExactly, MicIs, micNumber, MicTells, TellsChecking, CheckMicTells, Agree, MicAgree, DifferInMic, MicBlind, MicSecret, MicUnwritten, MicKept}
+use Rattle.demands.specs.TakenExactly.{IsTakenNegotiate, NegotiateRefusedWith, IsTakenChallenge, ChallengeRefusedWith, AuthenticateRefusedWith, InfoBytes, ChallengeHolds, in-fields, in-list}
+use Rattle.demands.specs.Mic.{MicHolds, MicFails, wrong-key, in-negotiate, in-challenge, in-authenticate, no-mic, VerdictAt, MicExactly, MicIs, micNumber, MicTells, TellsChecking, CheckMicTells, MicAgree, MicBlind, SameMicRefusals, MicSecret, MicUnwritten, MicKept}
 use Rattle.demands.proofs.Alike.{same-part}
 use Rattle.demands.proofs.Answers.{call-tells}
 use Rattle.demands.proofs.Answers.SmallFields.{SmallV, mic-small}
@@ -256,7 +257,7 @@ mic-blind key nego chal s t d =
     ∙ ap (λ (n : ℕ). take n (drop 88 t)) (d .length-same) ∙ all t in
     simp (v, a, b)
 
--- ---- refusals tell no secret
+-- ---- refusals
 
 number-by : (v : Verdict) (a b : List ℕ) → outcomeNumber (handedOut v a) ≡ outcomeNumber (handedOut v b)
 number-by Clear a b = refl
@@ -272,22 +273,22 @@ refused-by : (v : Verdict) (a b : Bool) → isRefused (checkingNumber (onClear R
 refused-by Clear a b h = absurd (omega (arith, not-refused a, h))
 refused-by (Not e) a b h = refl
 
-pub mic-secret : MicSecret
+-- both calls have the same refusals where the messages' checks have the same outcome
+pub same-refusals : (key nego chal s key′ nego′ chal′ t : List ℕ) → checkMessages (length key) nego chal s ≡ checkMessages (length key′) nego′ chal′ t →
+    SameMicRefusals key nego chal s key′ nego′ chal′ t
 unfolding workOut checkMic callNumber
-mic-secret key key′ nego chal s t k long first =
-    let v : checkMessages (length key) nego chal s ≡ checkMessages (length key′) nego chal t =
-    verdict-same s t long first (length key) nego chal ∙ ap (λ (n : ℕ). checkMessages n nego chal t) k in
+same-refusals key nego chal s key′ nego′ chal′ t v =
     let p = mic-agree key nego chal s in
-    let q = mic-agree key′ nego chal t in
+    let q = mic-agree key′ nego′ chal′ t in
     let yes = standsAt s 72 (micOf key nego chal s) in
-    let yes′ = standsAt t 72 (micOf key′ nego chal t) in
+    let yes′ = standsAt t 72 (micOf key′ nego′ chal′ t) in
     record {
       worked = v;
       checked = λ e. (λ h. q .refused e .1 (sym v ∙ p .refused e .0 h), λ h. p .refused e .1 (v ∙ q .refused e .0 h));
       from-c = λ room.
           ap (λ (x : ℕ). after (roomHolds 16 room) (refusalNumber NoRoom) x)
           (ap (λ (w : Verdict). outcomeNumber (handedOut w (whenClear (checkMessages (length key) nego chal s) (micOf key nego chal s)))) v
-          ∙ number-by (checkMessages (length key′) nego chal t) _ _);
+          ∙ number-by (checkMessages (length key′) nego′ chal′ t) _ _);
       check-refused =
           checked-by (checkMessages (length key) nego chal s) yes yes′
           ∙ ap (λ (w : Verdict). isRefused (checkingNumber (onClear Refused w (Compared yes′)))) v;
@@ -295,6 +296,11 @@ mic-secret key key′ nego chal s t k long first =
           refused-by (checkMessages (length key) nego chal s) yes yes′ h
           ∙ ap (λ (w : Verdict). checkingNumber (onClear Refused w (Compared yes′))) v;
     }
+
+pub mic-secret : MicSecret
+mic-secret key key′ nego chal s t k long first =
+    same-refusals key nego chal s key′ nego chal t
+    (verdict-same s t long first (length key) nego chal ∙ ap (λ (n : ℕ). checkMessages n nego chal t) k)
 
 -- ---- from C
 

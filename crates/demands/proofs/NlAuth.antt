@@ -106,7 +106,7 @@ module _ (s : List ℕ) where
       back : at ≤ q → getD s q 0 ≡ 0 → getD s (at + (q - at)) 0 ≡ 0
       back a e = let w : at + (q - at) ≡ q = omega arith in rw w e
 
-  one-zero : (p q r : ℕ) → ZeroAt s p q → ZeroAt s p r → q ≡ r
+  pub one-zero : (p q r : ℕ) → ZeroAt s p q → ZeroAt s p r → q ≡ r
   one-zero p q r a b = go (ltb q r) (ltb r q) refl refl where
     go : (x y : Bool) → ltb q r ≡ x → ltb r q ≡ y → q ≡ r
     go true y e f = absurd (b .first q (a .from) (ltb-true q r e) (a .zero))
@@ -139,7 +139,7 @@ module _ (s : List ℕ) where
       let h = name-ends (drop 8 s) (p - 8) _ _ x w in
       (omega (arith, h .0), omega (arith, h .0, h .1, length-drop 8 s))
 
-  one-place : (is : List ℕ) (p q r : ℕ) → Strings s is p q → Strings s is p r → q ≡ r
+  pub one-place : (is : List ℕ) (p q r : ℕ) → Strings s is p q → Strings s is p r → q ≡ r
   one-place [] p q r a b = sym a ∙ b
   one-place (i ∷ is) p q r (inl a) (inl b) =
       let e = one-stand i p (a .1 .0) (b .1 .0) (a .1 .1) (b .1 .1) in

@@ -273,7 +273,7 @@ module _ (s : List ℕ) where
   one-first (later v f) (here y g) = absurd (pair-or-fault _ _ v g)
   one-first (later v f) (later w g) = one-first f g
 
-  one-holds : (n m : ℕ) → Holds s n → Holds s m → n ≡ m
+  pub one-holds : (n m : ℕ) → Holds s n → Holds s m → n ≡ m
   one-holds n m (empty e p) (empty f q) = p ∙ sym q
   one-holds n m (empty e p) (listed l w) = absurd (omega arith)
   one-holds n m (listed l w) (empty e p) = absurd (omega arith)

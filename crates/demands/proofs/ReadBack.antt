@@ -39,7 +39,7 @@ use Rattle.dns_name_writing.proofs.Back.{back as name-back}
 use Rattle.nl_auth_flags.specs.Flags.{nbDomain, nbComputer, dnsDomain, dnsHost, utf8Computer, known, noFlags, stringsHold}
 use Rattle.nl_auth.specs.NlAuth.{noString, stringBytes as ownBytes, beforeZero, holdsZero, stringAt, stringUnder, refusalIn, nameString, onName, nameAt, nameUnder as readUnder, flagsAt, readUtf8, emptyStrings, readRequest, readResponse, readNlAuth}
 use Rattle.nl_auth_writing.specs.Writing.{headBytes, stringBytes, bytesUnder, nameUnder, utf8Bytes, requestBytes, responseBytes, noZero, checkZeros, labelsUnder, checkLabels, codedUnder, checkCoded, checkNames, checkRequest, requestAnswer, requestOut, responseAnswer, responseOut}
-use Rattle.demands.specs.ReadBack.{NameBack, NlRequestReadsBack, ResponseBack, NlResponseReadsBack}
+use Rattle.demands.specs.ReadBack.{NameBack, NlRequestReadsBack, NlResponseReadsBack}
 use Rattle.demands.proofs.DnsText.{text-labels, text-shown}
 use Rattle.demands.proofs.Kept.{request-holds, clear-both}
 use Rattle.demands.proofs.Bools.{true-not-false, after-held, bit1, bit2, bit4, bit8, bit16}
@@ -325,15 +325,18 @@ nl-request-reads-back out flags a b c d e n h =
     bit : (m : ℕ) → flags .bits % 0x20 / m % 2 ≡ flags .bits / m % 2 → eqb (flags .bits / m % 2) 1 ≡ true → eqb (flags .bits % 0x20 / m % 2) 1 ≡ true
     bit m e q = ap (λ (k : ℕ). eqb k 1) e ∙ q
 
-pub nl-response-reads-back : NlResponseReadsBack
-unfolding responseAnswer responseOut responseBytes headBytes readNlAuth readResponse le32 le16
-nl-response-reads-back out n h = go (leb 9 (length out)) h where
-  go : (t : Bool) → after (checked t) (Unwritten NoRoom) (Length 9) ≡ Length n →
-      ResponseBack (take n (after (checked t) out (atFront responseBytes out)))
-  go true p =
-      subst (λ (k : ℕ). ResponseBack (take k (atFront responseBytes out))) (same p)
-      (record { message = record { «message_type» = 1; flags = noFlags; strings = emptyStrings }; read = refl; message-type = refl; flags = refl })
-    where
-      same : Length 9 ≡ Length n → 9 ≡ n
-      same q = cc
+-- a response that is written
+pub response-is : (out : List ℕ) (n : ℕ) → responseAnswer (length out) ≡ Length n → take n (responseOut out) ≡ responseBytes
+unfolding responseAnswer responseOut responseBytes headBytes le32 le16
+response-is out n h = go (leb 9 (length out)) h where
+  go : (t : Bool) → after (checked t) (Unwritten NoRoom) (Length 9) ≡ Length n → take n (after (checked t) out (atFront responseBytes out)) ≡ responseBytes
+  go true p = subst (λ (k : ℕ). take k (atFront responseBytes out) ≡ responseBytes) (same p) refl where
+    same : Length 9 ≡ Length n → 9 ≡ n
+    same q = cc
   go false p = absurd (let z : _≡_ {A = ℕ} 0 1 = cc in omega arith)
+
+pub nl-response-reads-back : NlResponseReadsBack
+unfolding responseBytes headBytes readNlAuth readResponse le32 le16
+nl-response-reads-back out n h =
+    rw (response-is out n h)
+    (record { message = record { «message_type» = 1; flags = noFlags; strings = emptyStrings }; read = refl; message-type = refl; flags = refl })

@@ -1,18 +1,17 @@
 -- The pair list that goes back: what a call leaves, what the list holds, by what a call is refused, and what it keeps.
 pub mod PairsBack
 use Prim.Native.Nat.{ℕ, zero, suc, _+_, _%_, _≤_, _<_}
-use mathlib.Core.Path.{_≡_, refl, sym, ap, _∙_, subst}
+use mathlib.Core.Path.{_≡_, refl, sym, ap, _∙_}
 use mathlib.Core.Bool.{Bool, true, false, cond}
 use mathlib.Core.Logic.{_⊎_, inl, inr, ⊎-elim, _↔_}
-use mathlib.Core.List.{List, [], _∷_, _++_}
+use mathlib.Core.List.{List, [], _∷_}
 use native.Mathlib.Omega.{arith}
 use borrow.Author.Tests.{eqb-true, eqb-false, leb-true, eq-eqb, ne-eqb}
 use lib.Dec.{eqb, leb}
-use lib.ListN.{length, take, drop, length-append}
+use lib.ListN.{length, take, length-append}
 use lib.Seq.{take-append-seam}
 use Rattle.av_pairs.specs.AvPairs.{idAt, Valued, valuesOf}
 use Rattle.av_pairs.proofs.Walks.{valuesAt, values-start}
-use Rattle.av_id.specs.AvId.{isFlags}
 use Rattle.challenge.specs.declared.Challenge.{Challenge}
 use Rattle.challenge.specs.declared.Reading.{Reading}
 use Rattle.challenge.specs.declared.Reading.the-variants.{Taken, Refused as Unread}
@@ -21,10 +20,9 @@ use Rattle.place.specs.declared.written.Written.{Written}
 use Rattle.place.specs.declared.written.Written.the-variants.{Length, Refused}
 use Rattle.place.specs.Place.{le16}
 use Rattle.place.specs.Written.{answered, outAfter, sizeHolds, roomHolds}
-use Rattle.response_pairs.specs.ResponsePairs.{pairWith, leftOut, kept, bitsDue, withBits, addsFlags, addedPairs, pairBytes, bytesOf, listBytes, listWith, listFor, evenName, checkList, listAnswer, listOut, writeAnswer, writeOut}
+use Rattle.response_pairs.specs.ResponsePairs.{pairWith, leftOut, kept, bitsDue, addsFlags, pairBytes, bytesOf, listFor, evenName, checkList, listAnswer, listOut, writeAnswer, writeOut}
 use Rattle.response_pairs.proofs.Fits.{length-pair}
 use Rattle.response_pairs.proofs.Sent.{list-empty, list-parts, list-size}
-use Rattle.wire.specs.declared.check.Checked.the-variants.{Held, Failed}
 use Rattle.wire.specs.declared.check.Verdict.{Verdict}
 use Rattle.wire.specs.declared.check.Verdict.the-variants.{Clear, Refused as Not}
 use Rattle.wire.specs.declared.refusal.Refusal.{Refusal}
@@ -38,8 +36,8 @@ use Rattle.demands.specs.InTurn.{KthPair}
 use Rattle.demands.specs.Kept.{Kept}
 use Rattle.demands.specs.TakenExactly.{RefusalIs, InfoBytes, ChallengeHolds, ChallengeFails}
 use Rattle.demands.specs.WrittenExactly.{WrittenExactly}
-use Rattle.demands.specs.ResponsePairs.{TakenOut, FlagsAdded, ValueAt, LastTwo, Added, with-flags, without-flags, GoesBack, taken-out, first-flags, same, at-end, ListBack, end-alone, from-start, PairsGoBack, CountBack, three-added, two-added, none-back, one-back, ResultHolds, OnlyPair, OneTenOneNine, EndPairAlone, KeptSize, no-more, passed-over, counted, ListSize, of-end, of-flags, of-two, SizeIsThere, ResponsePairsFail, ListRefusedAt, WrittenFrom, ResponsePairsAreWritten, ResponsePairsKept, ResponsePairsIgnored}
-use Rattle.demands.proofs.Bools.{true-not-false, both-ways, failed-false, chained, after-held}
+use Rattle.demands.specs.ResponsePairs.{TakenOut, ValueAt, LastTwo, with-flags, without-flags, GoesBack, taken-out, first-flags, same, at-end, ListBack, end-alone, from-start, PairsGoBack, CountBack, three-added, two-added, none-back, one-back, ResultHolds, OnlyPair, OneTenOneNine, EndPairAlone, KeptSize, no-more, passed-over, counted, ListSize, of-end, of-flags, of-two, SizeIsThere, ResponsePairsFail, ListRefusedAt, WrittenFrom, ResponsePairsAreWritten, ResponsePairsKept, ResponsePairsIgnored}
+use Rattle.demands.proofs.Bools.{both-ways, failed-false, chained, after-held}
 use Rattle.demands.proofs.TakenExactly.Challenge as reading
 use Rattle.demands.proofs.TakenExactly.Challenge.{holds-or-fails, one-reason, reason-is}
 use Rattle.demands.proofs.Ignored.ChallengeIgnored.{made-same}

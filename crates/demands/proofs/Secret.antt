@@ -10,28 +10,32 @@ use native.Mathlib.Omega.{arith}
 use lib.Dec.{eqb}
 use lib.Seq.{getD-set-other}
 use borrow.Author.Tests.{eqb-true, eqb-false}
-use lib.ListN.{length, getD}
+use lib.ListN.{length, getD, set, take, replicate, length-set}
 use Rattle.field.specs.declared.Field.{Field}
 use Rattle.negotiate_flags.specs.declared.NegotiateFlags.{NegotiateFlags}
-use Rattle.field.specs.Field.{isEmpty}
-use Rattle.head.specs.Head.{flagsAt, kindOf}
+use Rattle.field.specs.Field.{isEmpty, fieldAt}
+use Rattle.head.specs.Head.{signatureHolds, readHead, flagsAt, kindOf}
 use Rattle.field.proofs.Fields.{own-bytes}
 use Rattle.authenticate.specs.declared.Authenticate.{Authenticate}
 use Rattle.authenticate.specs.declared.Reading.{Reading}
 use Rattle.authenticate.specs.declared.Reading.the-variants.{Taken, Refused}
-use Rattle.authenticate.specs.Authenticate.{fieldsAt, readAuthenticate}
+use Rattle.authenticate.specs.Authenticate.{fieldsAt, checkEnds, checkBegins, checkNames, checkShared, checkFields, micPresent, readingOf, readAuthenticate}
 use Rattle.line_auth.specs.Auth.{authNames, authText}
 use Rattle.line.specs.Line.{authLine, authenticateLine}
+use Rattle.place.specs.declared.written.Written.the-variants.{Length}
 use Rattle.place.specs.Written.{bytesAnswer, bytesAfter}
-use Rattle.demands.specs.Bench.{p1}
+use Rattle.c_reading.specs.Numbers.{authenticateOutcome}
+use Rattle.demands.specs.Bench.{p1, userOffset}
 use Rattle.demands.specs.Ignored.{SameBytes}
 use Rattle.demands.specs.Message.{authenticate, lenOf, offsetOf, Nonempty, Covers, Fails}
-use Rattle.demands.specs.Secret.{Secret, secret-field, mic, DifferInSecrets, SecretRead, p1Other, SecretExample}
+use Rattle.demands.specs.Secret.{Secret, secret-field, mic, DifferInSecrets, WrittenAlike, SecretRead, SecretExample}
 use Rattle.demands.proofs.Alike.{same-part, same32}
 use Rattle.demands.proofs.First64.{auth-fields, authenticate-same}
+use Rattle.demands.proofs.Kept.{line-kept}
 use Rattle.demands.proofs.Message.{Stands, empty-bytes}
-use Rattle.demands.proofs.OwnBytes.{taken-answer, none-fails}
+use Rattle.demands.proofs.OwnBytes.{taken-answer, none-fails, authenticate-own, authenticate-refused-mic}
 use Rattle.demands.proofs.TakenExactly.{six}
+use Rattle.demands.proofs.WrittenExactly.{line-written, line-stands}
 
 module _ (s t : List ℕ) (d : DifferInSecrets s t) where
   -- what stands in the first 64 bytes is the same
@@ -80,40 +84,94 @@ module _ (s t : List ℕ) (d : DifferInSecrets s t) where
   unfolding authenticateLine
   line-same = line-of (readAuthenticate s .reading) refl ∙ ap (λ (r : Reading). authLine t r) reading-same
 
+-- ---- a line's call, twice
+
+-- the answer goes by the room's length
+answer-same : (x out out′ : List ℕ) → length out ≡ length out′ → bytesAnswer x out ≡ bytesAnswer x out′
+unfolding bytesAnswer
+answer-same x out out′ l = simp l
+
+-- what is written is the line
+stands : (x out : List ℕ) (n : ℕ) → bytesAnswer x out ≡ Length n → take n (bytesAfter x out) ≡ x
+stands x out n h =
+    let w = line-written x out .written n .0 h in
+    let fits : length out < length x → ⊥ = λ r. w .0 33 0 (refl, r) in
+    subst (λ (k : ℕ). take k (bytesAfter x out) ≡ x) (sym (w .1)) (line-stands x out (omega (arith, fits)))
+
+pub written-alike : (x y out out′ : List ℕ) → x ≡ y → length out ≡ length out′ → WrittenAlike x out y out′
+written-alike x y out out′ e l =
+    subst (λ (z : List ℕ). WrittenAlike x out z out′) e
+    (record {
+      answer = answer-same x out out′ l;
+      bytes = λ n h. stands x out n h ∙ sym (stands x out′ n (sym (answer-same x out out′ l) ∙ h));
+      kept = line-kept x out;
+      kept′ = line-kept x out′;
+    })
+
+-- ---- the answer
+
+-- the sixteen bytes, where the message isn't taken with a MIC
+zeros : (s : List ℕ) → ((a : Authenticate) → readAuthenticate s .reading ≡ Taken a → a .«mic_present» ≡ true → ⊥) → readAuthenticate s .mic ≡ replicate 16 0
+zeros s none = go (readAuthenticate s .reading) refl where
+  go : (r : Reading) → readAuthenticate s .reading ≡ r → readAuthenticate s .mic ≡ replicate 16 0
+  go (Taken a) e = let own = authenticate-own s a e in own .mic-zeros (λ m. none a e (own .mic-present .1 m))
+  go (Refused d) e = authenticate-refused-mic s d e
+
 pub secret-read : SecretRead
 secret-read s t d =
     record {
       reading = reading-same s t d;
+      from-c = ap authenticateOutcome (reading-same s t d);
       domain = λ a h. names-same s t d a h .0;
       user = λ a h. names-same s t d a h .1;
       workstation = λ a h. names-same s t d a h .2;
+      no-mic = λ none.
+          let present : (a : Authenticate) → readAuthenticate s .reading ≡ Taken a → a .«mic_present» ≡ true → ⊥ =
+          λ a h p. none (rw h tt) (authenticate-own s a h .mic-present .0 p) in
+          (zeros s present, zeros t (λ a h p. present a (reading-same s t d ∙ h) p));
       line = line-same s t d;
-      line-answer = λ out. ap (λ (l : List ℕ). bytesAnswer l out) (line-same s t d);
-      line-out = λ out. ap (λ (l : List ℕ). bytesAfter l out) (line-same s t d);
+      line-call = λ out out′ l. written-alike (authenticateLine s) (authenticateLine t) out out′ (line-same s t d) l;
     }
 
--- P1's byte 96 is one of its NT response
-nt-byte : Secret p1 96
-nt-byte =
-    secret-field 2 (omega arith) (inr (inl refl))
-    (record { first = omega arith; last = omega arith; counts = λ e. absurd (omega arith); some = omega arith })
-    (omega arith, omega arith)
+-- ---- examples
+
+-- another byte in a secret, after the first 64 bytes
+other-byte : (s : List ℕ) (at v : ℕ) → 64 ≤ at → Secret s at → DifferInSecrets s (set s at v)
+other-byte s at v l secret =
+    record {
+      length-same = sym (length-set s at v);
+      first-64 = λ p m. sym (getD-set-other s at p v 0 (λ e. omega arith));
+      elsewhere = λ p. go p (eqb p at) refl;
+    }
+  where
+    go : (p : ℕ) (b : Bool) → eqb p at ≡ b → (getD s p 0 ≡ getD (set s at v) p 0) ⊎ Secret s p
+    go p true e = inr (subst (λ (q : ℕ). Secret s q) (sym (eqb-true p at e)) secret)
+    go p false e = inl (sym (getD-set-other s at p v 0 (eqb-false p at e)))
+
+-- bytes 96 to 119 are the NT response, in P1 and in P2
+nt-byte : (s : List ℕ) (p : ℕ) → length s ≡ 120 → lenOf authenticate s 2 ≡ 24 → offsetOf authenticate s 2 ≡ 96 → 96 ≤ p → p < 120 → Secret s p
+nt-byte s p n l o a b =
+    secret-field 2 (omega (arith, n)) (inr (inl refl))
+    (record { first = omega arith; last = omega arith; counts = λ e. absurd (omega arith); some = omega (arith, l) })
+    (omega (arith, o, a), omega (arith, o, l, b))
 
 pub secret-example : SecretExample
-unfolding kindOf
-secret-example = (
-  record {
-    length-same = refl;
-    first-64 = λ p l. sym (getD-set-other p1 96 p 0xBB 0 (λ e. omega arith));
-    elsewhere = λ p. go p (eqb p 96) refl;
-  },
-  refl,
-  λ e. two (ap (λ (l : List ℕ). getD l 96 0) e),
-)
+unfolding kindOf readAuthenticate readingOf fieldsAt checkEnds checkBegins checkNames checkShared checkFields micPresent readHead signatureHolds fieldAt
+secret-example =
+    record {
+      taken = tt;
+      of-taken = (refl, other-byte p1 96 0xFF (omega arith) (nt-byte p1 96 refl refl refl (omega arith) (omega arith)), λ e. two (ap (λ (l : List ℕ). getD l 96 0) e));
+      refused = (refl, refl);
+      in-name = (
+        record { first = omega arith; last = omega arith; counts = λ e. absurd (omega arith); some = omega arith },
+        (omega arith, omega arith),
+      );
+      of-refused = (
+        refl,
+        other-byte (userOffset 112) 112 0xFF (omega arith) (nt-byte (userOffset 112) 112 refl refl refl (omega arith) (omega arith)),
+        λ e. two (ap (λ (l : List ℕ). getD l 112 0) e),
+      );
+    }
   where
-    go : (p : ℕ) (b : Bool) → eqb p 96 ≡ b → (getD p1 p 0 ≡ getD p1Other p 0) ⊎ Secret p1 p
-    go p true e = inr (subst (λ (q : ℕ). Secret p1 q) (sym (eqb-true p 96 e)) nt-byte)
-    go p false e = inl (sym (getD-set-other p1 96 p 0xBB 0 (eqb-false p 96 e)))
-
-    two : _≡_ {A = ℕ} 0xAA 0xBB → ⊥
+    two : _≡_ {A = ℕ} 0xAA 0xFF → ⊥
     two e = omega arith

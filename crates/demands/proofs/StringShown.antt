@@ -1,11 +1,13 @@
 -- The text of one string alone: as in the line, refused exactly, kept and ignored.
-use Prim.Native.Nat.{ℕ, _+_}
-use mathlib.Core.Path.{_≡_, refl, sym, _∙_}
+use Prim.Native.Nat.{ℕ, _+_, _-_, _≤_, _<_}
+use mathlib.Core.Path.{_≡_, refl, sym, ap, _∙_}
 use mathlib.Core.Bool.{Bool, true, false, cond}
-use mathlib.Core.List.{List, [], _++_, append-assoc}
+use mathlib.Core.List.{List, [], _∷_, _++_, append-assoc}
 use native.Mathlib.Omega.{arith}
-use lib.ListN.{length}
-use borrow.Author.Tests.{le-leb, lt-leb, ne-eqb}
+use lib.Dec.{leb}
+use lib.ListN.{length, getD, length-append}
+use borrow.Author.Tests.{leb-true, leb-false, le-leb, lt-leb, ne-eqb}
+use Rattle.text.specs.Text.{ascii}
 use Rattle.wire.specs.declared.check.Verdict.the-variants.{Refused as NotClear}
 use Rattle.wire.specs.Number.{has}
 use Rattle.place.specs.declared.written.Written.the-variants.{Refused}
@@ -16,16 +18,18 @@ use Rattle.nl_auth.specs.declared.Reading.{Reading}
 use Rattle.nl_auth.specs.declared.Reading.the-variants.{Taken, Refused as Not}
 use Rattle.nl_auth.specs.NlAuth.{readNlAuth}
 use Rattle.nl_auth_text.specs.StringText.{oemText, utf8Text, utf8Numbered, stringText, onReading, textAnswer, textAfter}
-use Rattle.line_nl.specs.Nl.{nlOem, nlUtf8, nlText}
+use Rattle.line_nl.specs.Nl.{nlStart, nlOem, nlUtf8, nlText}
+use Rattle.line.specs.Line.{nlAuthLine}
 use Rattle.demands.specs.Ignored.{SameNlAuth}
 use Rattle.demands.specs.Kept.{Kept}
 use Rattle.demands.specs.NlAuth.{maskOf}
 use Rattle.demands.specs.TakenExactly.{NlRefusedWith}
 use Rattle.demands.specs.WrittenExactly.{WritingRefusedWith}
-use Rattle.demands.specs.StringShown.{TextsAsInLine, StringShown, NoOtherText, NoTextWithoutBit, TextKept, TextIgnored, TextTells}
+use Rattle.demands.specs.StringShown.{wordOf, TextsAsInLine, StringShown, NoOtherText, NoTextWithoutBit, TextKept, TextIgnored, TextShort, TextTells}
 use Rattle.c_number.specs.Number.{writtenNumber}
-use Rattle.demands.specs.Answers.{TellsWritten}
-use Rattle.demands.proofs.Answers.{copy-tells}
+use Rattle.demands.specs.Answers.{TellsWritten, nl-auth-line}
+use Rattle.demands.proofs.Answers.{short-tells}
+use Rattle.demands.proofs.Answers.LineShort.{line-short}
 use Rattle.demands.proofs.Answers.SmallFields.{nl-auth-small}
 use Rattle.demands.proofs.Answers.Told.{tells-refusal}
 use Rattle.demands.proofs.Kept.{by-verdict, line-kept}
@@ -105,11 +109,44 @@ text-ignored s t which out d = go (nl-auth-ignored s t d) (readNlAuth s) refl wh
 
 -- ---- from C
 
+-- a text stands in the line, with its label or alone
+in-word : (s : List ℕ) (m : NlAuth) (i : ℕ) → 1 ≤ i → i ≤ 5 → length (stringText s m i) ≤ length (wordOf s m i)
+in-word s m i a b = go (has (m .flags .bits) (maskOf i)) refl where
+  label : List ℕ
+  label = getD (ascii " a=" ∷ ascii " b=" ∷ ascii " c=" ∷ ascii " d=" ∷ ascii " e=" ∷ []) (i - 1) []
+
+  go : (t : Bool) → has (m .flags .bits) (maskOf i) ≡ t → length (stringText s m i) ≤ length (cond t (label ++ stringText s m i) [])
+  go true e = omega (arith, length-append label (stringText s m i))
+  go false e = omega (arith, ap length (no-text-without-bit s m i a b e))
+
+in-line : (s : List ℕ) (m : NlAuth) (which : ℕ) → length (stringText s m which) ≤ length (nlText s m)
+in-line s m which = go (leb 1 which) (leb which 5) refl refl where
+  words : length (nlText s m)
+      ≡ length (nlStart (m .«message_type») (m .flags .bits))
+      + (length (wordOf s m 1) + (length (wordOf s m 2) + (length (wordOf s m 3) + (length (wordOf s m 4) + (length (wordOf s m 5) + 1)))))
+  words = ap length (texts-as-in-line s m) ∙ simp length-append
+
+  none : (1 ≤ which → which ≤ 5 → ⊥) → length (stringText s m which) ≤ length (nlText s m)
+  none h = omega (arith, ap length (no-other-text s m which h))
+
+  go : (x y : Bool) → leb 1 which ≡ x → leb which 5 ≡ y → length (stringText s m which) ≤ length (nlText s m)
+  go true true p q =
+      five (λ i. length (stringText s m i) ≤ length (nlText s m))
+      (omega (arith, words, in-word s m 1 (omega arith) (omega arith))) (omega (arith, words, in-word s m 2 (omega arith) (omega arith)))
+      (omega (arith, words, in-word s m 3 (omega arith) (omega arith))) (omega (arith, words, in-word s m 4 (omega arith) (omega arith)))
+      (omega (arith, words, in-word s m 5 (omega arith) (omega arith))) which (leb-true 1 which p) (leb-true which 5 q)
+  go false y p q = none (λ a b. omega (arith, leb-false 1 which p))
+  go true false p q = none (λ a b. omega (arith, leb-false which 5 q))
+
+pub text-short : TextShort
+unfolding nlAuthLine
+text-short s m which h = let line : length (nlText s m) < 0x100000 = rw h at (line-short (nl-auth-line s)) in omega (arith, line, in-line s m which)
+
 pub text-tells : TextTells
 unfolding textAnswer
-text-tells s which out l = go (readNlAuth s) refl where
+text-tells s which out = go (readNlAuth s) refl where
   go : (r : Reading) → readNlAuth s ≡ r →
       TellsWritten (writtenNumber (onReading r (λ m. bytesAnswer (stringText s m which) out) (λ e. Refused e)))
       (onReading r (λ m. bytesAnswer (stringText s m which) out) (λ e. Refused e))
-  go (Taken m) p = copy-tells (stringText s m which) out l
+  go (Taken m) p = short-tells (stringText s m which) out (omega (arith, text-short s m which p))
   go (Not e) p = tells-refusal e (nl-auth-small s e p)

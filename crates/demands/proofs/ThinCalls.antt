@@ -1,19 +1,15 @@
 -- What the three thin calls go by, and which of them refuse by 20.
 use Prim.Native.Nat.{ℕ, _<_}
 use mathlib.Core.Path.{_≡_, refl, sym, _∙_}
-use mathlib.Core.Bool.{Bool, true, false}
-use mathlib.Core.Logic.{inl, inr, ⊎-elim, _↔_}
+use mathlib.Core.Bool.{true}
+use mathlib.Core.Logic.{inl, ⊎-elim, _↔_}
 use mathlib.Core.List.{List}
 use native.Mathlib.Omega.{arith}
-use lib.ListN.{length}
-use Rattle.respond.specs.Answer.{respondAnswer}
-use Rattle.demands.specs.Order.{FirstIn}
 use Rattle.demands.specs.Message.{challenge, Set}
 use Rattle.demands.specs.PairList.{FirstFault}
-use Rattle.demands.specs.TakenExactly.{InfoBytes, ChallengeHolds, ChallengeFails, in-fields, in-list}
-use Rattle.demands.specs.WrittenExactly.{authenticateSize, AuthenticateWritingFails, authenticateOrder}
-use Rattle.demands.specs.Answering.{Agreed, Declined, by-reading, by-20, by-21, ToSend, AnsweredExactly, AnswerRefusedWith}
-use Rattle.demands.specs.ThinCalls.{ThinCall, for-bench, to-old-server, for-relay, goesBy, demands128, SettingsAre, ThinSettings, HeaderDefaults, ThinCallsRefuse}
+use Rattle.demands.specs.TakenExactly.{ChallengeHolds, ChallengeFails, in-fields, in-list}
+use Rattle.demands.specs.Answering.{Declined, by-reading, by-20, by-21}
+use Rattle.demands.specs.ThinCalls.{ThinCall, for-bench, to-old-server, for-relay, goesBy, demands128, ThinSettings, HeaderDefaults, ThinCallsRefuse}
 use Rattle.demands.proofs.Bools.{both-ways}
 use Rattle.demands.proofs.Answering.{respond-answered}
 use Rattle.demands.proofs.PairList.{first-number}

@@ -11,9 +11,8 @@ use Rattle.wire.specs.declared.refusal.Refusal.the-variants.{TooLong}
 use Rattle.head.specs.declared.Kind.{Kind}
 use Rattle.head.specs.declared.Kind.the-variants.{Negotiate, Challenge, Authenticate}
 use Rattle.batch.specs.declared.Answer.{Answer}
-use Rattle.batch.specs.declared.CEntry.{CEntry}
 use Rattle.batch.specs.declared.Entry.{Entry}
-use Rattle.batch.specs.Batch.{bufferVerdict, filled, filledFromC}
+use Rattle.batch.specs.Batch.{bufferVerdict, filled}
 use Rattle.c_number.specs.Number.{verdictNumber}
 use Rattle.demands.specs.Answers.{isRefused, numberIn, fieldIn, placeIn}
 use Rattle.demands.specs.Bench.{p1}
@@ -22,63 +21,48 @@ use Rattle.demands.specs.Explained.{formatOf, TakenAs, RefusedAs}
 use Rattle.demands.specs.Message.{Nonempty, Covers, DifferInIgnored}
 use Rattle.demands.specs.Secret.{Secret}
 
--- ---- a place of a list, by the kind that its mark is
+-- ---- an entry: its mark is a kind's number, or none's
 
-pub record Place : Type 1 where
-  pub start : ℕ
-  pub len : ℕ
-  pub Marked : Kind → Type 0
-
-abbrev pub ofEntry : Entry → Place
-ofEntry e = record { start = e .start; len = e .length; Marked = λ k. e .mark ≡ k }
-
--- from C: 1, 2 and 3
 abbrev pub markOf : Kind → ℕ
 markOf Negotiate = 1
 markOf Challenge = 2
 markOf Authenticate = 3
 
-abbrev pub ofCEntry : CEntry → Place
-ofCEntry e = record { start = e .start; len = e .length; Marked = λ k. e .mark ≡ markOf k }
+abbrev pub Marked : Entry → Kind → Type 0
+Marked e k = e .mark ≡ markOf k
 
 -- it passes the buffer's end, or its message is these bytes
-abbrev pub Passes : List ℕ → Place → Type 0
-Passes s x = length s < x .start + x .len
+abbrev pub Passes : List ℕ → Entry → Type 0
+Passes s e = length s < e .start + e .length
 
-abbrev pub Inside : List ℕ → Place → Type 0
-Inside s x = x .start + x .len ≤ length s
+abbrev pub Inside : List ℕ → Entry → Type 0
+Inside s e = e .start + e .length ≤ length s
 
-abbrev pub message : List ℕ → Place → List ℕ
-message s x = take (x .len) (drop (x .start) s)
+abbrev pub message : List ℕ → Entry → List ℕ
+message s e = take (e .length) (drop (e .start) s)
 
 -- ---- its answer
 
-pub record PlaceAnswered (s : List ℕ) (x : Place) (a : Answer) : Type 0 where
+abbrev pub AnswerIs : Answer → ℕ → ℕ → ℕ → Type 0
+AnswerIs a n i p = (a .number ≡ n) × (a .field ≡ i) × (a .place ≡ p)
+
+pub record EntryAnswered (s : List ℕ) (e after : Entry) : Type 0 where
+  -- "no other part of the entry changes"
+  pub start : after .start ≡ e .start
+  pub len : after .length ≡ e .length
+  pub mark : after .mark ≡ e .mark
   -- "54 with field and place 0, before all others, if start plus length passes the buffer's end", and only then
-  pub outside : Passes s x → (a .number ≡ 54) × (a .field ≡ 0) × (a .place ≡ 0)
-  pub only-outside : a .number ≡ 54 → Passes s x
+  pub outside : Passes s e → AnswerIs (after .answer) 54 0 0
+  pub only-outside : after .answer .number ≡ 54 → Passes s e
   -- all 0 if taken, and only then
-  pub taken : Inside s x → (k : Kind) → x .Marked k → TakenAs k (message s x) → (a .number ≡ 0) × (a .field ≡ 0) × (a .place ≡ 0)
-  pub only-taken : Inside s x → (k : Kind) → x .Marked k → a .number ≡ 0 → TakenAs k (message s x)
+  pub taken : Inside s e → (k : Kind) → Marked e k → TakenAs k (message s e) → AnswerIs (after .answer) 0 0 0
+  pub only-taken : Inside s e → (k : Kind) → Marked e k → after .answer .number ≡ 0 → TakenAs k (message s e)
   -- the number, field and pair place that a single call on those bytes gives, the place counted in the message
-  pub refused : Inside s x → (k : Kind) → x .Marked k → (n i p : ℕ) → RefusedAs k (message s x) n i p →
-      (a .number ≡ n) × (a .field ≡ i) × (a .place ≡ p)
-  pub only-refused : Inside s x → (k : Kind) → x .Marked k → 0 < a .number → RefusedAs k (message s x) (a .number) (a .field) (a .place)
+  pub refused : Inside s e → (k : Kind) → Marked e k → (n i p : ℕ) → RefusedAs k (message s e) n i p → AnswerIs (after .answer) n i p
+  pub only-refused : Inside s e → (k : Kind) → Marked e k → 0 < after .answer .number →
+      RefusedAs k (message s e) (after .answer .number) (after .answer .field) (after .answer .place)
   -- a mark that is no kind's: 4
-  pub no-kind : Inside s x → ((k : Kind) → x .Marked k → ⊥) → (a .number ≡ 4) × (a .field ≡ 0) × (a .place ≡ 0)
-
--- "no other part of the entry changes"
-pub record EntryAnswered (s : List ℕ) (before after : Entry) : Type 0 where
-  pub start : after .start ≡ before .start
-  pub len : after .length ≡ before .length
-  pub mark : after .mark ≡ before .mark
-  pub answer : PlaceAnswered s (ofEntry before) (after .answer)
-
-pub record CEntryAnswered (s : List ℕ) (before after : CEntry) : Type 0 where
-  pub start : after .start ≡ before .start
-  pub len : after .length ≡ before .length
-  pub mark : after .mark ≡ before .mark
-  pub answer : PlaceAnswered s (ofCEntry before) (record { number = after .number; field = after .field; place = after .place })
+  pub no-kind : Inside s e → ((k : Kind) → Marked e k → ⊥) → AnswerIs (after .answer) 4 0 0
 
 -- two lists of one length, entry by entry
 abbrev pub Each : {A : Type 0} → (A → A → Type 0) → List A → List A → Type 0
@@ -89,36 +73,30 @@ Each R (x ∷ xs) [] = ⊥
 
 -- ---- the call: "1 for the buffer, changing no entry"
 
-abbrev pub BatchAnswers : Type 0
-BatchAnswers =
-    (s : List ℕ) (es : List Entry) →
-    (length s ≤ 65535 → (bufferVerdict s ≡ Clear) × Each (EntryAnswered s) es (filled s es))
-    × (65535 < length s → (bufferVerdict s ≡ Refused TooLong) × (filled s es ≡ es))
-
--- from C the answer is 0, or by the header's macros 1 with field and place 0
+-- from C, by the header's macros: 1 with field and place 0
 pub record TellsTooLong (answer : ℕ) : Type 0 where
   pub top-bit : isRefused answer ≡ 1
   pub number : numberIn answer ≡ 1
   pub field : fieldIn answer ≡ 0
   pub place : placeIn answer ≡ 0
 
-abbrev pub BatchAnswersFromC : Type 0
-BatchAnswersFromC =
-    (s : List ℕ) (es : List CEntry) →
-    (length s ≤ 65535 → (verdictNumber (bufferVerdict s) ≡ 0) × Each (CEntryAnswered s) es (filledFromC s es))
-    × (65535 < length s → TellsTooLong (verdictNumber (bufferVerdict s)) × (filledFromC s es ≡ es))
+abbrev pub BatchAnswers : Type 0
+BatchAnswers =
+    (s : List ℕ) (es : List Entry) →
+    (length s ≤ 65535 → (bufferVerdict s ≡ Clear) × (verdictNumber (bufferVerdict s) ≡ 0) × Each (EntryAnswered s) es (filled s es))
+    × (65535 < length s → (bufferVerdict s ≡ Refused TooLong) × TellsTooLong (verdictNumber (bufferVerdict s)) × (filled s es ≡ es))
 
 -- ---- "Demand 3 here reads: two buffers of one length that differ only inside the secrets that count, or a MIC that is there, of
 -- ---- listed AUTHENTICATE messages, and in no byte that any listed message has as a name, in its first 64 bytes or in a challenge, get
 -- ---- equal answers for equal lists."
 
-abbrev pub Listed : {A : Type 0} → A → List A → Type 0
+abbrev pub Listed : Entry → List Entry → Type 0
 Listed e [] = ⊥
 Listed e (x ∷ xs) = (e ≡ x) ⊎ Listed e xs
 
 -- the byte at p of the buffer is one of the message's
-abbrev pub Within : Place → ℕ → Type 0
-Within x p = (x .start ≤ p) × (p < x .start + x .len)
+abbrev pub Within : Entry → ℕ → Type 0
+Within e p = (e .start ≤ p) × (p < e .start + e .length)
 
 -- the names of each kind
 abbrev pub NameOf : Kind → ℕ → Type 0
@@ -127,46 +105,40 @@ NameOf Challenge i = i ≡ 1
 NameOf Authenticate i = (3 ≤ i) × (i ≤ 5)
 
 -- a byte of a listed message in which the two buffers may not differ
-pub data Open (s : List ℕ) (x : Place) (p : ℕ) : Type 0 where
-  in-name : (k : Kind) (i : ℕ) → x .Marked k → NameOf k i → formatOf k .fixed ≤ length (message s x) →
-      Nonempty (formatOf k) (message s x) i → Covers (formatOf k) (message s x) i (p - x .start) → Open s x p
-  in-first-64 : p < x .start + 64 → Open s x p
-  in-challenge : x .Marked Challenge → Open s x p
+pub data Open (s : List ℕ) (e : Entry) (p : ℕ) : Type 0 where
+  in-name : (k : Kind) (i : ℕ) → Marked e k → NameOf k i → formatOf k .fixed ≤ length (message s e) →
+      Nonempty (formatOf k) (message s e) i → Covers (formatOf k) (message s e) i (p - e .start) → Open s e p
+  in-first-64 : p < e .start + 64 → Open s e p
+  in-challenge : Marked e Challenge → Open s e p
 
-module _ {A : Type 0} (at : A → Place) (es : List A) (s : List ℕ) where
+module _ (es : List Entry) (s : List ℕ) where
   -- the byte at p is inside a secret that counts, or a MIC that is there, of a listed AUTHENTICATE message
   pub record ListedSecret (p : ℕ) : Type 0 where
-    pub entry : A
+    pub entry : Entry
     pub listed : Listed entry es
-    pub marked : at entry .Marked Authenticate
-    pub within : Within (at entry) p
-    pub secret : Secret (message s (at entry)) (p - at entry .start)
+    pub marked : Marked entry Authenticate
+    pub within : Within entry p
+    pub secret : Secret (message s entry) (p - entry .start)
 
   pub record DifferInListedSecrets (t : List ℕ) : Type 0 where
     pub length-same : length s ≡ length t
     pub only-secrets : (p : ℕ) → (getD s p 0 ≡ getD t p 0) ⊎ ListedSecret p
-    pub open-same : (e : A) → Listed e es → Inside s (at e) → (p : ℕ) → Within (at e) p → Open s (at e) p → getD s p 0 ≡ getD t p 0
+    pub open-same : (e : Entry) → Listed e es → Inside s e → (p : ℕ) → Within e p → Open s e p → getD s p 0 ≡ getD t p 0
 
   -- demand 2: two buffers of one length in which each listed message differs only in ignored bytes
   pub record DifferInListedIgnored (t : List ℕ) : Type 0 where
     pub length-same : length s ≡ length t
-    pub messages : (e : A) → Listed e es → Inside s (at e) → (k : Kind) → at e .Marked k →
-        DifferInIgnored (formatOf k) (message s (at e)) (message t (at e))
+    pub messages : (e : Entry) → Listed e es → Inside s e → (k : Kind) → Marked e k → DifferInIgnored (formatOf k) (message s e) (message t e)
 
--- equal answers, of the call and of each entry
+-- equal answers, of the call (of which C's number is made) and of each entry
 abbrev pub SameBatch : List Entry → List ℕ → List ℕ → Type 0
 SameBatch es s t = (bufferVerdict s ≡ bufferVerdict t) × (filled s es ≡ filled t es)
 
-abbrev pub SameBatchFromC : List CEntry → List ℕ → List ℕ → Type 0
-SameBatchFromC es s t = (verdictNumber (bufferVerdict s) ≡ verdictNumber (bufferVerdict t)) × (filledFromC s es ≡ filledFromC t es)
+abbrev pub SecretBatch : Type 0
+SecretBatch = (es : List Entry) (s t : List ℕ) → DifferInListedSecrets es s t → SameBatch es s t
 
-pub record SecretBatch : Type 0 where
-  pub own : (es : List Entry) (s t : List ℕ) → DifferInListedSecrets ofEntry es s t → SameBatch es s t
-  pub from-c : (es : List CEntry) (s t : List ℕ) → DifferInListedSecrets ofCEntry es s t → SameBatchFromC es s t
-
-pub record BatchIgnored : Type 0 where
-  pub own : (es : List Entry) (s t : List ℕ) → DifferInListedIgnored ofEntry es s t → SameBatch es s t
-  pub from-c : (es : List CEntry) (s t : List ℕ) → DifferInListedIgnored ofCEntry es s t → SameBatchFromC es s t
+abbrev pub BatchIgnored : Type 0
+BatchIgnored = (es : List Entry) (s t : List ℕ) → DifferInListedIgnored es s t → SameBatch es s t
 
 -- ---- the theorems speak of something
 
@@ -174,13 +146,13 @@ pub record BatchIgnored : Type 0 where
 abbrev pub night : List ℕ
 night = challengeMessage ++ p1
 
-abbrev entryAt : ℕ → ℕ → ℕ → CEntry
-entryAt start len mark = record { start = start; length = len; mark = mark; number = 7; field = 8; place = 9 }
+abbrev entryAt : ℕ → ℕ → ℕ → Entry
+entryAt start len mark = record { start = start; length = len; mark = mark; answer = record { number = 7; field = 8; place = 9 } }
 
-abbrev answeredAs : CEntry → ℕ → ℕ → ℕ → CEntry
-answeredAs e n i p = record { start = e .start; length = e .length; mark = e .mark; number = n; field = i; place = p }
+abbrev answeredAs : Entry → ℕ → ℕ → ℕ → Entry
+answeredAs e n i p = record { start = e .start; length = e .length; mark = e .mark; answer = record { number = n; field = i; place = p } }
 
-abbrev pub nightList : List CEntry
+abbrev pub nightList : List Entry
 nightList = entryAt 0 100 2 ∷ entryAt 100 120 3 ∷ []
 
 -- another first byte of P1's NT response
@@ -196,11 +168,11 @@ abbrev faulty : List ℕ
 faulty = 0 ∷ set challengeMessage 78 5
 
 pub record BatchExample : Type 0 where
-  pub differ : DifferInListedSecrets ofCEntry nightList night otherNight × (night ≡ otherNight → ⊥)
-  pub ignored : DifferInListedIgnored ofCEntry nightList night ignoredNight × (night ≡ ignoredNight → ⊥)
+  pub differ : DifferInListedSecrets nightList night otherNight × (night ≡ otherNight → ⊥)
+  pub ignored : DifferInListedIgnored nightList night ignoredNight × (night ≡ ignoredNight → ⊥)
   -- both taken; P1 read as a challenge, which it isn't; a place past the end by one; the end itself with no bytes; a mark of 4
-  pub answers : filledFromC night (nightList ++ (entryAt 100 120 2 ∷ entryAt 100 121 3 ∷ entryAt 220 0 3 ∷ entryAt 0 100 4 ∷ [])) ≡
+  pub answers : filled night (nightList ++ (entryAt 100 120 2 ∷ entryAt 100 121 3 ∷ entryAt 220 0 3 ∷ entryAt 0 100 4 ∷ [])) ≡
       (answeredAs (entryAt 0 100 2) 0 0 0 ∷ answeredAs (entryAt 100 120 3) 0 0 0 ∷ answeredAs (entryAt 100 120 2) 4 0 0
       ∷ answeredAs (entryAt 100 121 3) 54 0 0 ∷ answeredAs (entryAt 220 0 3) 2 0 0 ∷ answeredAs (entryAt 0 100 4) 4 0 0 ∷ [])
   -- the pair place counts from the entry's message
-  pub in-message : filledFromC faulty (entryAt 1 100 2 ∷ []) ≡ (answeredAs (entryAt 1 100 2) 13 2 76 ∷ [])
+  pub in-message : filled faulty (entryAt 1 100 2 ∷ []) ≡ (answeredAs (entryAt 1 100 2) 13 2 76 ∷ [])

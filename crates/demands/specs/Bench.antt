@@ -85,7 +85,7 @@ p1 =
 abbrev userLen : ℕ → List ℕ
 userLen n = sets p1 36 (n ∷ 0 ∷ [])
 
-abbrev userOffset : ℕ → List ℕ
+abbrev pub userOffset : ℕ → List ℕ
 userOffset n = sets p1 40 (n ∷ 0 ∷ 0 ∷ 0 ∷ [])
 
 -- P1 with an NT response of another length, at most 44, and bytes enough for it

@@ -8,7 +8,7 @@ use mathlib.Core.Bool.{cond}
 use mathlib.Core.Logic.{_⊎_, _↔_}
 use mathlib.Core.List.{List, [], _∷_, _++_}
 use lib.Dec.{eqb}
-use lib.ListN.{length, take, drop, replicate}
+use lib.ListN.{length, take, replicate}
 use lib.Seq.{sets}
 use Rattle.wire.specs.declared.refusal.Refusal.the-variants.{TooShort, WrongKey, NoRoom}
 use Rattle.wire.specs.Number.{u32At}
@@ -17,17 +17,17 @@ use Rattle.place.specs.declared.written.Written.the-variants.{Length, Refused}
 use Rattle.authenticate.specs.declared.Authenticate.{Authenticate}
 use Rattle.authenticate.specs.declared.Reading.the-variants.{Taken}
 use Rattle.authenticate.specs.Authenticate.{readAuthenticate}
-use Rattle.authenticate_writing.specs.Writing.{authenticateBytes}
 use Rattle.c_number.specs.Number.{writtenNumber}
 use Rattle.canonical.specs.Canonical.{Meaning, canonicalAnswer, canonicalOut}
 use Rattle.demands.specs.Answers.{TellsWritten}
 use Rattle.demands.specs.Bench.{p1}
-use Rattle.demands.specs.Message.{authenticate, lenOf, Nonempty, MicThere, Fails, DifferInIgnored}
+use Rattle.demands.specs.LaidOut.{LaidOut}
+use Rattle.demands.specs.Message.{authenticate, lenOf, Nonempty, Fails, DifferInIgnored}
 use Rattle.demands.specs.Order.{check}
 use Rattle.demands.specs.Kept.{Kept}
 use Rattle.demands.specs.Secret.{DifferInSecrets, AlikeOutside}
 use Rattle.demands.specs.TakenExactly.{IsTakenAuthenticate}
-use Rattle.demands.specs.WrittenExactly.{WritingRefusedWith, WrittenExactly, Fails30, Fails33, authenticateSize}
+use Rattle.demands.specs.WrittenExactly.{WritingRefusedWith, WrittenExactly, Fails30, Fails33}
 
 -- ---- meaning
 
@@ -76,18 +76,11 @@ WrittenAgain =
 abbrev pub MeaningBack : Type 0
 MeaningBack = (s w : List ℕ) (m : Meaning) → Means s m → WrittenAs s w → Means w m
 
--- and is laid out as document 01 says: zero Version at 64, the MIC at 72, and from 88 on domain, user, workstation, LM response,
--- NT response and key, with no padding
-pub record LaidOut (w : List ℕ) (m : Meaning) : Type 0 where
-  pub whole : w ≡ authenticateBytes (m .flags) (replicate 8 0) (m .mic) (m .lm) (m .nt) (m .domain) (m .user) (m .workstation) (m .key)
-  pub size : length w ≡ authenticateSize (m .lm) (m .nt) (m .domain) (m .user) (m .workstation) (m .key)
-  pub version : take 8 (drop 64 w) ≡ replicate 8 0
-  pub mic : take 16 (drop 72 w) ≡ m .mic
-  pub mic-there : MicThere authenticate w
-  pub payload : drop 88 w ≡ m .domain ++ (m .user ++ (m .workstation ++ (m .lm ++ (m .nt ++ m .key))))
-
+-- and is laid out as document 01 says, with zero Version, also where VERSION is set
 abbrev pub WrittenByLayout : Type 0
-WrittenByLayout = (s w : List ℕ) (m : Meaning) → Means s m → WrittenAs s w → LaidOut w m
+WrittenByLayout =
+    (s w : List ℕ) (m : Meaning) → Means s m → WrittenAs s w →
+    LaidOut w (m .flags .bits) (replicate 8 0) (m .mic) (m .lm) (m .nt) (m .domain) (m .user) (m .workstation) (m .key)
 
 -- ---- by what it is refused
 

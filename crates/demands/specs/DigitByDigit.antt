@@ -1,13 +1,18 @@
 -- Request 6/12: "work out each digit of a log line from its number .. for each of 0 to 15 the digit is proved to be the
 -- definition's". `hex_digit` (`crates/word`) makes every digit of H, T, D and an escape, and its contract gives hexDigit n for each n
--- below 16; B, and the figure in K, are letters of fixed words. Here stands which sixteen digits these are, how each comes from its number, and that each digit of H, T, D and an escape is such a one.
+-- below 16; those of `max=` are chosen by a test, and B, and the figure in K, are letters of fixed words. Here stands which sixteen digits
+-- these are, how each comes from its number, and that each digit of H, T, D, an escape and `max=` is such a one.
 use Prim.Native.Nat.{ℕ, _+_, _-_, _/_, _%_, _^_, _≤_, _<_}
 use Prim.Native.String.{String}
 use mathlib.Core.Path.{_≡_}
-use mathlib.Core.List.{[], _∷_}
+use mathlib.Core.List.{List, [], _∷_, _++_}
 use lib.ListN.{length, getD}
 use Rattle.text.specs.Text.{ascii}
 use Rattle.word.specs.Digits.{hexDigit, hex, decimal}
+use Rattle.head.specs.declared.Kind.{Kind}
+use Rattle.line.specs.Line.{lineAs}
+use Rattle.demands.specs.Explained.{formatOf, TakenAs}
+use Rattle.demands.specs.MaxLen.{Unlike}
 
 -- the digit of n is this character
 abbrev Shows : ℕ → String → Type 0
@@ -29,3 +34,16 @@ HexDigitByDigit = (k n i : ℕ) → i < k → getD (hex k n) i 0 ≡ hexDigit (n
 abbrev pub DecimalDigitByDigit : Type 0
 DecimalDigitByDigit =
     (n i : ℕ) → i < length (decimal n) → getD (decimal n) i 0 ≡ hexDigit (n / 10 ^ (length (decimal n) - 1 - i) % 10)
+
+-- of `max=`, the last word of a taken message's line, the digit of field i is that of 1 where a field that counts has MaxLen unlike Len,
+-- else that of 0
+pub record LastWord (k : Kind) (s : List ℕ) : Type 0 where
+  pub before : List ℕ
+  pub digits : List ℕ
+  pub line-is : lineAs k s ≡ before ++ (ascii " max=" ++ (digits ++ (0x0A ∷ [])))
+  pub count : length digits ≡ formatOf k .last
+  pub one : (i : ℕ) → 1 ≤ i → i ≤ formatOf k .last → Unlike (formatOf k) s i → getD digits (i - 1) 0 ≡ hexDigit 1
+  pub else : (i : ℕ) → 1 ≤ i → i ≤ formatOf k .last → (Unlike (formatOf k) s i → ⊥) → getD digits (i - 1) 0 ≡ hexDigit 0
+
+abbrev pub MaxDigitByDigit : Type 0
+MaxDigitByDigit = (k : Kind) (s : List ℕ) → TakenAs k s → LastWord k s

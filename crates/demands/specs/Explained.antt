@@ -22,16 +22,16 @@ use Rattle.negotiate.specs.Negotiate.{readNegotiate}
 use Rattle.challenge.specs.Challenge.{readChallenge}
 use Rattle.authenticate.specs.Authenticate.{readAuthenticate}
 use Rattle.c_number.specs.Number.{writtenNumber}
-use Rattle.explain.specs.Explain.{checksOf, explanation}
+use Rattle.explain.specs.Explain.{explanation}
 use Rattle.demands.specs.Answers.{TellsWritten}
 use Rattle.demands.specs.Bench.{p1}
-use Rattle.demands.specs.Examples.{challengeMessage}
+use Rattle.demands.specs.Examples.{negotiateMessage, challengeMessage}
 use Rattle.demands.specs.Ignored.{DifferAsRead}
 use Rattle.demands.specs.Kept.{Kept}
 use Rattle.demands.specs.Message.{Format, negotiate, authenticate, challenge, lenOf, offsetOf, Fails}
 use Rattle.demands.specs.Order.{placeIn, check}
 use Rattle.demands.specs.PairList.{idOf, sizeOf, nextOf, PairAt, Fails10, Fails11, Fails12, Fails13}
-use Rattle.demands.specs.Secret.{DifferInSecrets}
+use Rattle.demands.specs.Secret.{DifferInSecrets, WrittenAlike}
 use Rattle.demands.specs.TakenExactly.{IsTakenNegotiate, IsTakenChallenge, IsTakenAuthenticate, NegotiateRefusedWith, ChallengeRefusedWith, AuthenticateRefusedWith, InfoBytes}
 
 -- ---- what is printed
@@ -72,6 +72,12 @@ lineText n (failed f) =
     word (ascii " length=") (f .len) ++ (
     word (ascii " message=") (f .message) ++ (
     pairText n f ++ (0x0A ∷ []))))))
+
+-- "1 to 7 for all, then 8, 9 for AUTHENTICATE and 8, 11, 12, 10, 13 for CHALLENGE"
+abbrev pub printedChecks : Kind → List ℕ
+printedChecks Negotiate = 1 ∷ 2 ∷ 3 ∷ 4 ∷ 5 ∷ 6 ∷ 7 ∷ []
+printedChecks Authenticate = 1 ∷ 2 ∷ 3 ∷ 4 ∷ 5 ∷ 6 ∷ 7 ∷ 8 ∷ 9 ∷ []
+printedChecks Challenge = 1 ∷ 2 ∷ 3 ∷ 4 ∷ 5 ∷ 6 ∷ 7 ∷ 8 ∷ 11 ∷ 12 ∷ 10 ∷ 13 ∷ []
 
 -- the lines of checks, each with its state
 abbrev pub printOf : (ℕ → State) → List ℕ → List ℕ
@@ -140,22 +146,22 @@ Before checks m n = placeIn checks m < placeIn checks n
 
 pub record Told (k : Kind) (s : List ℕ) (state : ℕ → State) : Type 0 where
   -- an accepted message shows all held, and only an accepted one does
-  pub all-held : TakenAs k s → (n : ℕ) → OneOf (checksOf k) n → state n ≡ held
-  pub only-taken : ((n : ℕ) → OneOf (checksOf k) n → state n ≡ held) → TakenAs k s
+  pub all-held : TakenAs k s → (n : ℕ) → OneOf (printedChecks k) n → state n ≡ held
+  pub only-taken : ((n : ℕ) → OneOf (printedChecks k) n → state n ≡ held) → TakenAs k s
   -- number, field and place are what the reader returns, and the figures are those of that field and pair
-  pub named : (n i p : ℕ) → RefusedAs k s n i p → OneOf (checksOf k) n × ((f : Figures) × (state n ≡ failed f) × FiguresAre k s n i p f)
-  pub returned : (n : ℕ) (f : Figures) → OneOf (checksOf k) n → state n ≡ failed f → RefusedAs k s n (f .field) (f .at)
+  pub named : (n i p : ℕ) → RefusedAs k s n i p → OneOf (printedChecks k) n × ((f : Figures) × (state n ≡ failed f) × FiguresAre k s n i p f)
+  pub returned : (n : ℕ) (f : Figures) → OneOf (printedChecks k) n → state n ≡ failed f → RefusedAs k s n (f .field) (f .at)
   -- the named check fails by its definition there
-  pub fails : (n : ℕ) (f : Figures) → OneOf (checksOf k) n → state n ≡ failed f → FailsAt k s n (f .field) (f .at)
+  pub fails : (n : ℕ) (f : Figures) → OneOf (printedChecks k) n → state n ≡ failed f → FailsAt k s n (f .field) (f .at)
   -- each before it held up to there
-  pub before : (n i p : ℕ) → RefusedAs k s n i p → (m : ℕ) → Before (checksOf k) m n → state m ≡ held
-  pub holds : (m : ℕ) → OneOf (checksOf k) m → state m ≡ held → HoldsUpTo k s m
+  pub before : (n i p : ℕ) → RefusedAs k s n i p → (m : ℕ) → Before (printedChecks k) m n → state m ≡ held
+  pub holds : (m : ℕ) → OneOf (printedChecks k) m → state m ≡ held → HoldsUpTo k s m
   -- each after it is not reached
-  pub after : (n i p : ℕ) → RefusedAs k s n i p → (m : ℕ) → Before (checksOf k) n m → state m ≡ not-reached
+  pub after : (n i p : ℕ) → RefusedAs k s n i p → (m : ℕ) → Before (printedChecks k) n m → state m ≡ not-reached
 
 -- the print is one line for each check of the kind, in its order, with a state that is true of it
 abbrev pub ExplainedExactly : Type 0
-ExplainedExactly = (s : List ℕ) → (state : ℕ → State) × (explanation s ≡ printOf state (checksOf (kindOf s))) × Told (kindOf s) s state
+ExplainedExactly = (s : List ℕ) → (state : ℕ → State) × (explanation s ≡ printOf state (printedChecks (kindOf s))) × Told (kindOf s) s state
 
 -- ---- demands 1 to 3
 
@@ -173,12 +179,12 @@ ExplainedKept = (s out : List ℕ) → Kept (bytesAnswer (explanation s) out) ou
 abbrev pub ExplainedIgnored : Type 0
 ExplainedIgnored = (s t : List ℕ) → DifferAsRead s t → explanation s ≡ explanation t
 
--- a message that is read as AUTHENTICATE tells no secret by it: the print is the same, and the call's answer and output at every room
+-- a message that is read as AUTHENTICATE tells no secret by it: the print is the same, and so is the call at every two outputs of one
+-- length
 pub record SameExplained (s t : List ℕ) : Type 0 where
   pub kind : kindOf t ≡ Authenticate
   pub print : explanation s ≡ explanation t
-  pub answer : (out : List ℕ) → bytesAnswer (explanation s) out ≡ bytesAnswer (explanation t) out
-  pub output : (out : List ℕ) → bytesAfter (explanation s) out ≡ bytesAfter (explanation t) out
+  pub call : (out out′ : List ℕ) → length out ≡ length out′ → WrittenAlike (explanation s) out (explanation t) out′
 
 abbrev pub SecretExplained : Type 0
 SecretExplained = (s t : List ℕ) → DifferInSecrets s t → kindOf s ≡ Authenticate → SameExplained s t
@@ -213,3 +219,7 @@ pub record ExplainedExample : Type 0 where
   pub of-taken : explanation challengeMessage ≡
       linesOf ("check 1 held" ∷ "check 2 held" ∷ "check 3 held" ∷ "check 4 held" ∷ "check 5 held" ∷ "check 6 held" ∷ "check 7 held" ∷ "check 8 held"
       ∷ "check 11 held" ∷ "check 12 held" ∷ "check 10 held" ∷ "check 13 held" ∷ [])
+  -- the opening message with its workstation's offset at 31, in the fixed part of 32: there is no check after 7
+  pub of-negotiate : explanation (sets negotiateMessage 28 (31 ∷ [])) ≡
+      linesOf ("check 1 held" ∷ "check 2 held" ∷ "check 3 held" ∷ "check 4 held" ∷ "check 5 held" ∷ "check 6 held"
+      ∷ "check 7 failed field=2 offset=31 length=4 message=48" ∷ [])

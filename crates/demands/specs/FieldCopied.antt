@@ -11,9 +11,11 @@ use Rattle.place.specs.Written.{atFront}
 use Rattle.c_reading.specs.FieldCopy.{fieldCopyAnswer, fieldCopyOut}
 use Rattle.demands.specs.Kept.{Kept}
 
--- one of the three holds of every message, output and record
+-- one of the four holds of every message, output and record: 6 is given as row 6 of document 01 has it, "a nonempty field ends past
+-- the message", and "an empty field's offset is ignored"
 pub record Copied (s out : List ℕ) (f : Field) : Type 0 where
-  pub past-end : length s < f .offset + f .len → fieldCopyAnswer s f out ≡ Refused (PastEnd 0)
+  pub empty : f .len ≡ 0 → (fieldCopyAnswer s f out ≡ Length 0) × (fieldCopyOut s f out ≡ out)
+  pub past-end : 0 < f .len → length s < f .offset + f .len → fieldCopyAnswer s f out ≡ Refused (PastEnd 0)
   pub no-room : f .offset + f .len ≤ length s → length out < f .len → fieldCopyAnswer s f out ≡ Refused NoRoom
   pub own : f .offset + f .len ≤ length s → f .len ≤ length out →
       (fieldCopyAnswer s f out ≡ Length (f .len))

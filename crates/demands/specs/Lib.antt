@@ -19,6 +19,8 @@ pub mod Asking
 pub mod WrittenExactly
 pub mod SearchedExactly
 pub mod Answering
+pub mod ListRead
+pub mod LaidOut
 pub mod FieldCopied
 pub mod FromC
 pub mod Answers
@@ -35,3 +37,8 @@ pub mod Canonical
 pub mod Mic
 pub mod HeaderLine
 pub mod MicExample
+pub mod LineShows
+pub mod RefusedLine
+pub mod TakenLine
+pub mod Kind
+pub mod NumbersFromC

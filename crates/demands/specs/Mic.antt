@@ -1,5 +1,6 @@
 -- Document 02, 10/12: the MIC is worked out and checked. "One call gives the sixteen bytes, another says yes exactly when they equal
--- those in the message", and "demand 3 covers the refusals here, which depend only on the key's length, the two earlier messages, and
+-- those in the message." "It is over whole messages, so demand 2's word that MaxLen and ignored bytes change nothing leaves these two
+-- calls' answers out", and "demand 3 covers the refusals here, which depend only on the key's length, the two earlier messages, and
 -- the AUTHENTICATE's length and first 64 bytes."
 use Prim.Native.Nat.{ℕ, _≤_, _<_}
 use mathlib.Core.Path.{_≡_}
@@ -7,6 +8,7 @@ use mathlib.Core.Logic.{_⊎_, _↔_}
 use mathlib.Core.Bool.{true, false}
 use mathlib.Core.List.{List, _++_}
 use lib.ListN.{length, getD, take, drop, replicate}
+use lib.Seq.{sets}
 use Rattle.wire.specs.declared.check.Verdict.{Verdict}
 use Rattle.wire.specs.declared.check.Verdict.the-variants.{Clear, Refused as Not}
 use Rattle.wire.specs.declared.refusal.Refusal.{Refusal}
@@ -19,7 +21,7 @@ use Rattle.c_number.specs.Outcome.{callNumber, callOut}
 use Rattle.c_mic.specs.Numbers.{micOutcome, checkingNumber}
 use Rattle.demands.specs.Answers.{isRefused, numberIn, TellsLength, TellsRefusal, TellsVerdict}
 use Rattle.demands.specs.Kept.{Front}
-use Rattle.demands.specs.Message.{negotiate, authenticate, Fails, MicThere}
+use Rattle.demands.specs.Message.{negotiate, challenge, authenticate, Fails, MicThere, DifferInIgnored}
 use Rattle.demands.specs.Order.{First}
 use Rattle.demands.specs.TakenExactly.{RefusalIs, InfoBytes, ChallengeHolds, ChallengeFails}
 
@@ -107,20 +109,41 @@ pub record DifferInMic (s t : List ℕ) : Type 0 where
 abbrev pub MicBlind : Type 0
 MicBlind = (key nego chal s t : List ℕ) → DifferInMic s t → workOut key nego chal s ≡ workOut key nego chal t
 
--- ---- demand 3: refusals tell no secret. Keys of one length, AUTHENTICATEs of one length and alike in their first 64 bytes
+-- ---- what is worked out, put at 72 of the AUTHENTICATE, makes the check say yes, and any other sixteen bytes make it say no
 
-pub record SameMicRefusals (key key′ nego chal s t : List ℕ) : Type 0 where
-  pub worked : workOut key nego chal s .verdict ≡ workOut key′ nego chal t .verdict
-  pub checked : (e : Refusal) → (checkMic key nego chal s ≡ Refused e) ↔ (checkMic key′ nego chal t ≡ Refused e)
-  pub from-c : (room : ℕ) → micNumber room key nego chal s ≡ micNumber room key′ nego chal t
+pub record PutIn (key nego chal auth bytes : List ℕ) : Type 0 where
+  pub yes : bytes ≡ workOut key nego chal auth .mic →
+      (checkMic key nego chal (sets auth 72 bytes) ≡ Compared true) × (checkNumber key nego chal (sets auth 72 bytes) ≡ 1)
+  pub no : (bytes ≡ workOut key nego chal auth .mic → ⊥) →
+      (checkMic key nego chal (sets auth 72 bytes) ≡ Compared false) × (checkNumber key nego chal (sets auth 72 bytes) ≡ 0)
+
+abbrev pub MicPutIn : Type 0
+MicPutIn =
+    (key nego chal auth bytes : List ℕ) → workOut key nego chal auth .verdict ≡ Clear → length bytes ≡ 16 → PutIn key nego chal auth bytes
+
+-- ---- by what the refusals don't go
+
+-- both calls are refused twice, with the same refusal, or not at all
+pub record SameMicRefusals (key nego chal auth key′ nego′ chal′ auth′ : List ℕ) : Type 0 where
+  pub worked : workOut key nego chal auth .verdict ≡ workOut key′ nego′ chal′ auth′ .verdict
+  pub checked : (e : Refusal) → (checkMic key nego chal auth ≡ Refused e) ↔ (checkMic key′ nego′ chal′ auth′ ≡ Refused e)
+  pub from-c : (room : ℕ) → micNumber room key nego chal auth ≡ micNumber room key′ nego′ chal′ auth′
   -- a check from C: both are refused or none, and where one is refused both have its number
-  pub check-refused : isRefused (checkNumber key nego chal s) ≡ isRefused (checkNumber key′ nego chal t)
-  pub check-from-c : isRefused (checkNumber key nego chal s) ≡ 1 → checkNumber key nego chal s ≡ checkNumber key′ nego chal t
+  pub check-refused : isRefused (checkNumber key nego chal auth) ≡ isRefused (checkNumber key′ nego′ chal′ auth′)
+  pub check-from-c : isRefused (checkNumber key nego chal auth) ≡ 1 → checkNumber key nego chal auth ≡ checkNumber key′ nego′ chal′ auth′
 
+-- demand 2, which leaves the answers out and not the refusals: MaxLen and ignored bytes of the three messages change none
+abbrev pub MicIgnored : Type 0
+MicIgnored =
+    (key nego chal auth nego′ chal′ auth′ : List ℕ) →
+    DifferInIgnored negotiate nego nego′ → DifferInIgnored challenge chal chal′ → DifferInIgnored authenticate auth auth′ →
+    SameMicRefusals key nego chal auth key nego′ chal′ auth′
+
+-- demand 3: refusals tell no secret. Keys of one length, AUTHENTICATEs of one length and alike in their first 64 bytes
 abbrev pub MicSecret : Type 0
 MicSecret =
     (key key′ nego chal s t : List ℕ) → length key ≡ length key′ → length s ≡ length t → ((p : ℕ) → p < 64 → getD s p 0 ≡ getD t p 0) →
-    SameMicRefusals key key′ nego chal s t
+    SameMicRefusals key nego chal s key′ nego chal t
 
 -- ---- Kept: the C call is answered 0 and hands out the sixteen bytes, or is refused and leaves its array as it was
 

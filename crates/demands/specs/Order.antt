@@ -18,9 +18,6 @@ pub record FirstBy (rank : ℕ → ℕ) (F : ℕ → ℕ → Type 0) (n i : ℕ)
   pub none-before : (m j : ℕ) → BeforeBy rank m j n i → F m j → ⊥
 
 -- where checks go by number
-abbrev pub Before : ℕ → ℕ → ℕ → ℕ → Type 0
-Before = BeforeBy (λ n. n)
-
 abbrev pub First : (ℕ → ℕ → Type 0) → ℕ → ℕ → Type 0
 First = FirstBy (λ n. n)
 

@@ -87,17 +87,21 @@ AuthenticateReadsBack =
     writeAnswer (length out) flags version mic lm nt domain user workstation key ≡ Length n →
     AuthenticateBack (take n (writeOut out flags version mic lm nt domain user workstation key)) flags mic lm nt domain user workstation key
 
--- the message read back from the bytes s: these names; bit 0x1000 set exactly where the domain is nonempty, 0x2000 where the
--- workstation is, and the caller's flags in the bits below and above the two
+-- bit 0x1000 is set exactly where the domain is nonempty, 0x2000 where the workstation is, and the bits below and above the two are
+-- as given
+pub record BitsByNames (bits given : ℕ) (domain workstation : List ℕ) : Type 0 where
+  pub domain-bit : (bits / 0x1000 % 2 ≡ 1) ↔ (0 < length domain)
+  pub workstation-bit : (bits / 0x2000 % 2 ≡ 1) ↔ (0 < length workstation)
+  pub bits-below : bits % 0x1000 ≡ given % 0x1000
+  pub bits-above : bits / 0x4000 ≡ given / 0x4000
+
+-- the message read back from the bytes s: these names, and the caller's flags with those two bits as the names make them
 pub record NegotiateBack (s : List ℕ) (flags : NegotiateFlags) (domain workstation : List ℕ) : Type 0 where
   pub message : Negotiate
   pub read : readNegotiate s ≡ NegotiateTaken message
   pub domain-same : fieldBytes s (message .fields .domain) ≡ domain
   pub workstation-same : fieldBytes s (message .fields .workstation) ≡ workstation
-  pub domain-bit : (message .flags .bits / 0x1000 % 2 ≡ 1) ↔ (0 < length domain)
-  pub workstation-bit : (message .flags .bits / 0x2000 % 2 ≡ 1) ↔ (0 < length workstation)
-  pub bits-below : message .flags .bits % 0x1000 ≡ flags .bits % 0x1000
-  pub bits-above : message .flags .bits / 0x4000 ≡ flags .bits / 0x4000
+  pub flags-same : BitsByNames (message .flags .bits) (flags .bits) domain workstation
 
 -- for every call that is not refused
 abbrev pub NegotiateReadsBack : Type 0

@@ -5,21 +5,25 @@ use Prim.Native.Nat.{ℕ, _≤_, _<_}
 use mathlib.Core.Path.{_≡_}
 use mathlib.Core.Logic.{_⊎_}
 use mathlib.Core.List.{List}
-use lib.ListN.{length, getD, set, take}
+use lib.ListN.{length, getD, set, take, replicate}
 use Rattle.authenticate.specs.declared.Authenticate.{Authenticate}
 use Rattle.authenticate.specs.declared.Reading.the-variants.{Taken}
 use Rattle.authenticate.specs.Authenticate.{readAuthenticate}
 use Rattle.head.specs.declared.Kind.the-variants.{Authenticate as AsAuthenticate}
 use Rattle.head.specs.Head.{kindOf}
 use Rattle.line.specs.Line.{authenticateLine, ntlmLine, shownLine}
+use Rattle.place.specs.declared.written.Written.the-variants.{Length}
 use Rattle.place.specs.Written.{bytesAnswer, bytesAfter}
 use Rattle.respond.specs.declared.answer.Answer.{Answer}
 use Rattle.respond.specs.declared.answer.Answered.the-variants.{Sent}
 use Rattle.respond.specs.declared.decision.Settings.{Settings}
 use Rattle.respond.specs.Answer.{respondAnswer, respondOut}
-use Rattle.demands.specs.Bench.{p1}
+use Rattle.demands.specs.Bench.{p1, userOffset}
+use Rattle.demands.specs.FromC.{read-authenticate, twoArrayOutcome}
 use Rattle.demands.specs.Ignored.{SameBytes}
+use Rattle.demands.specs.Kept.{Kept}
 use Rattle.demands.specs.Message.{authenticate, Nonempty, Covers, MicThere}
+use Rattle.demands.specs.TakenExactly.{IsTakenAuthenticate, AuthenticateRefusedWith}
 use Rattle.demands.specs.ThinCalls.{ThinCall, goesBy}
 
 -- the byte at p is a secret's or a MIC's: "a field's bytes go by its head, in a refused message too: those from its offset
@@ -35,40 +39,57 @@ pub record DifferInSecrets (s t : List ℕ) : Type 0 where
   pub first-64 : (p : ℕ) → p < 64 → getD s p 0 ≡ getD t p 0
   pub elsewhere : (p : ℕ) → (getD s p 0 ≡ getD t p 0) ⊎ Secret s p
 
--- the same answer but for the secrets' and the MIC's own bytes, the same line, and the same answer of the line's call at
--- every output
+-- a call that writes a line, made twice with outputs of one length: the same answer, and the same bytes where some are written; a
+-- refusal leaves each output as it was, and a success leaves the bytes after what is written
+pub record WrittenAlike (x out y out′ : List ℕ) : Type 0 where
+  pub answer : bytesAnswer x out ≡ bytesAnswer y out′
+  pub bytes : (n : ℕ) → bytesAnswer x out ≡ Length n → take n (bytesAfter x out) ≡ take n (bytesAfter y out′)
+  pub kept : Kept (bytesAnswer x out) out (bytesAfter x out)
+  pub kept′ : Kept (bytesAnswer y out′) out′ (bytesAfter y out′)
+
+-- "all but the secrets' and the MIC's own bytes": the same flags, places, MIC presence or refusal, from C too, the same names, the
+-- same line, and the same of the line's call
 pub record SamePublic (s t : List ℕ) : Type 0 where
   pub reading : readAuthenticate s .reading ≡ readAuthenticate t .reading
+  pub from-c : twoArrayOutcome (read-authenticate s) ≡ twoArrayOutcome (read-authenticate t)
   pub domain : (a : Authenticate) → readAuthenticate s .reading ≡ Taken a → SameBytes s t (a .fields .domain)
   pub user : (a : Authenticate) → readAuthenticate s .reading ≡ Taken a → SameBytes s t (a .fields .user)
   pub workstation : (a : Authenticate) → readAuthenticate s .reading ≡ Taken a → SameBytes s t (a .fields .workstation)
+  -- where no MIC is there, or the message is refused, the sixteen bytes are zeros in both
+  pub no-mic : (IsTakenAuthenticate (readAuthenticate s .reading) → MicThere authenticate s → ⊥) →
+      (readAuthenticate s .mic ≡ replicate 16 0) × (readAuthenticate t .mic ≡ replicate 16 0)
   pub line : authenticateLine s ≡ authenticateLine t
-  pub line-answer : (out : List ℕ) → bytesAnswer (authenticateLine s) out ≡ bytesAnswer (authenticateLine t) out
-  pub line-out : (out : List ℕ) → bytesAfter (authenticateLine s) out ≡ bytesAfter (authenticateLine t) out
+  pub line-call : (out out′ : List ℕ) → length out ≡ length out′ → WrittenAlike (authenticateLine s) out (authenticateLine t) out′
 
 abbrev pub SecretRead : Type 0
 SecretRead = (s t : List ℕ) → DifferInSecrets s t → SamePublic s t
 
 -- the NTLM program, where it reads the first as AUTHENTICATE: it reads the second so too, both have the same line, and the
--- line's call and what the program prints are the same at every output
+-- line's call and what the program prints are the same at every two outputs of one length
 pub record SamePrinted (s t : List ℕ) : Type 0 where
   pub kind : kindOf t ≡ AsAuthenticate
   pub line : ntlmLine s ≡ ntlmLine t
-  pub line-answer : (out : List ℕ) → bytesAnswer (ntlmLine s) out ≡ bytesAnswer (ntlmLine t) out
-  pub line-out : (out : List ℕ) → bytesAfter (ntlmLine s) out ≡ bytesAfter (ntlmLine t) out
-  pub printed : (out : List ℕ) → shownLine (ntlmLine s) out ≡ shownLine (ntlmLine t) out
-  pub printed-answer : (out : List ℕ) → bytesAnswer (shownLine (ntlmLine s) out) out ≡ bytesAnswer (shownLine (ntlmLine t) out) out
-  pub printed-out : (out : List ℕ) → bytesAfter (shownLine (ntlmLine s) out) out ≡ bytesAfter (shownLine (ntlmLine t) out) out
+  pub line-call : (out out′ : List ℕ) → length out ≡ length out′ → WrittenAlike (ntlmLine s) out (ntlmLine t) out′
+  pub printed : (out out′ : List ℕ) → length out ≡ length out′ → shownLine (ntlmLine s) out ≡ shownLine (ntlmLine t) out′
+  pub print-call : (out out′ : List ℕ) → length out ≡ length out′ →
+      WrittenAlike (shownLine (ntlmLine s) out) out (shownLine (ntlmLine t) out′) out′
 
 abbrev pub SecretPrinted : Type 0
 SecretPrinted = (s t : List ℕ) → DifferInSecrets s t → kindOf s ≡ AsAuthenticate → SamePrinted s t
 
--- the theorems speak of something: P1, which is read as AUTHENTICATE, and P1 with another first byte of its NT response
-abbrev pub p1Other : List ℕ
-p1Other = set p1 96 0xBB
+-- the theorems speak of something: a message that is read as AUTHENTICATE, and the same with FF at a place where it has a secret and
+-- no FF
+abbrev pub OtherSecret : List ℕ → ℕ → Type 0
+OtherSecret s p = (kindOf s ≡ AsAuthenticate) × DifferInSecrets s (set s p 0xFF) × (s ≡ set s p 0xFF → ⊥)
 
-abbrev pub SecretExample : Type 0
-SecretExample = DifferInSecrets p1 p1Other × (kindOf p1 ≡ AsAuthenticate) × (p1 ≡ p1Other → ⊥)
+pub record SecretExample : Type 0 where
+  -- P1, which is taken, and the first byte of its NT response
+  pub taken : IsTakenAuthenticate (readAuthenticate p1 .reading)
+  pub of-taken : OtherSecret p1 96
+  -- P2 at 112, which is refused: the first byte of the user's name is one of the NT response's
+  pub refused : AuthenticateRefusedWith (readAuthenticate (userOffset 112) .reading) 9 4
+  pub in-name : Nonempty authenticate (userOffset 112) 4 × Covers authenticate (userOffset 112) 4 112
+  pub of-refused : OtherSecret (userOffset 112) 112
 
 -- "Now let a box answer one challenge twice by the same call, with the same settings, clock reading and length of output,
 -- but with any other LM response, NT response, key and MIC bytes, each as long as before. Both times it gets the same answer

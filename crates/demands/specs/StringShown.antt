@@ -61,8 +61,10 @@ TextIgnored =
     (s t : List ℕ) (which : ℕ) (out : List ℕ) → NlDifferInIgnored s t →
     (textAnswer s which out ≡ textAnswer t which out) × (textAfter s which out ≡ textAfter t which out)
 
--- from C, where the output has under 2^63 bytes
+-- a text is no longer than the message's line, so it has under 2^20 bytes
+abbrev pub TextShort : Type 0
+TextShort = (s : List ℕ) (m : NlAuth) (which : ℕ) → readNlAuth s ≡ Taken m → length (stringText s m which) < 0x100000
+
+-- so that from C no length of a text is taken for a refusal
 abbrev pub TextTells : Type 0
-TextTells =
-    (s : List ℕ) (which : ℕ) (out : List ℕ) → length out < 0x8000000000000000 →
-    TellsWritten (writtenNumber (textAnswer s which out)) (textAnswer s which out)
+TextTells = (s : List ℕ) (which : ℕ) (out : List ℕ) → TellsWritten (writtenNumber (textAnswer s which out)) (textAnswer s which out)

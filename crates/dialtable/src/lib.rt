@@ -8,7 +8,7 @@ ghost use Rattle.place.specs.Written.{bytesAnswer, bytesAfter};
 ghost use Rattle.av_pairs.specs.AvPairs.{checkPairs, countPairs, askAt};
 ghost use Rattle.target_info.specs.TargetInfo.{findPair};
 ghost use Rattle.authenticate.specs.Authenticate.{readAuthenticate};
-ghost use Rattle.batch.specs.Batch.{bufferVerdict, filledFromC};
+ghost use Rattle.batch.specs.Batch.{bufferVerdict, filled};
 ghost use Rattle.authenticate_writing.specs.Writing.{writeAnswer, writeOut};
 ghost use Rattle.challenge.specs.Challenge.{readChallenge, timestampOf, serverNamesOf};
 ghost use Rattle.negotiate.specs.Negotiate.{readNegotiate};
@@ -35,10 +35,7 @@ ghost use Rattle.c_pairs.specs.Pairs.{countOutcome, searchOutcome, askedOutcome
 ghost use Rattle.c_respond.specs.Settings.{settingsOf};
 ghost use Rattle.c_respond.specs.Respond.{decidedOutcome, respondedNumber, respondedNumbers, respondedOut};
 use authenticate_writing::write;
-use batch::CEntry;
-use batch::answered_from_c;
-use batch::check_buffer;
-use batch::to_fill;
+use batch::Entry;
 use c_number::copy;
 use c_number::line_number;
 use c_number::verdict_number;
@@ -466,26 +463,12 @@ pub extern "C" fn dialtable_write_response_pairs(
     written_number(response_pairs::write(out, challenge, target_name, !(unverified == 0), bindings))
 }
 
-// Check 1 of a night's buffer, as a number.
-fn buffer_number(buffer: &[u8]) -> u64
-    ensures { λ r. ⌜ r ≡ verdictNumber (bufferVerdict (now (buffer .entry))) ⌝ }
-{
-    verdict_number(check_buffer(buffer))
-}
-
 #[no_mangle]
-pub extern "C" fn dialtable_check_messages(buffer: &[u8], entries: &mut [CEntry]) -> u64
+pub extern "C" fn dialtable_check_messages(buffer: &[u8], list: &mut [Entry]) -> u64
     ensures answer { λ r. ⌜ r ≡ verdictNumber (bufferVerdict (now (buffer .entry))) ⌝ }
-    ensures content { λ _. ⌜ now (entries .exit) ≡ filledFromC (now (buffer .entry)) (now (entries .entry)) ⌝ }
+    ensures content { λ _. ⌜ now (list .exit) ≡ filled (now (buffer .entry)) (now (list .entry)) ⌝ }
 {
-    let n = to_fill(buffer, entries.len());
-    let mut i: usize = 0;
-    while i < n {
-        let e = entries[i];
-        entries[i] = answered_from_c(buffer, e);
-        i = i + 1;
-    }
-    buffer_number(buffer)
+    verdict_number(batch::check_messages(buffer, list))
 }
 
 #[no_mangle]

@@ -12,9 +12,8 @@ use Rattle.wire.specs.declared.check.Checked.the-variants.{Held}
 use Rattle.wire.specs.Check.{checked, after}
 use Rattle.wire.proofs.Laws.{held-true, chain, branches}
 use Rattle.dns_name.specs.declared.Cursor.{Cursor}
-use Rattle.dns_name.specs.declared.Fault.{Fault}
 use Rattle.dns_name.specs.declared.Step.{Step}
-use Rattle.dns_name.specs.DnsName.{left, labelOf, jumpTo, jumped, ended, numberOf}
+use Rattle.dns_name.specs.DnsName.{left, labelOf, jumpTo, jumped, ended}
 
 -- an `if` that compares two numbers
 pub when-lt : {A : Type 0} (m n : ℕ) (x y z : A) → m < n → z ≡ x → z ≡ cond (ltb m n) x y
@@ -62,7 +61,3 @@ place-by c to q x p h = rw (← p) h
 pub ruleset stepping = (chain, branches, when-lt, when-ge, left-by, label-by, place-by)
 
 pub ruleset inside = (byte-in, second-in)
-
--- the number of a fault, by its variant
-pub number-is : (e v : Fault) (n : ℕ) → e ≡ v → n ≡ numberOf v → n ≡ numberOf e
-number-is e v n p q = rw p q

@@ -2,7 +2,7 @@
 ghost use mathlib.Core.Path.{_≡_};
 ghost use Prim.Native.Nat.{_+_, _≤_, _<_, _^_};
 ghost use lib.ListN.{length};
-ghost use Rattle.dns_name.specs.DnsName.{left, begin, pastLabel, jumped, ended, jumpPlace, labelOf, jumpTo, jumpAt, stepAt, readName, numberOf};
+ghost use Rattle.dns_name.specs.DnsName.{left, begin, pastLabel, jumped, ended, jumpPlace, labelOf, jumpTo, jumpAt, stepAt, readName};
 use wire::check::Checked;
 use wire::check::check;
 
@@ -25,20 +25,6 @@ pub enum Fault {
     PlaceNotBefore,
     TooManyJumps,
     NameTooLong,
-}
-
-impl Fault {
-    pub fn number(self) -> u8
-        ensures { λ r. ⌜ r ≡ numberOf self ⌝ }
-    {
-        match self {
-            Fault::CutShort => 15,
-            Fault::WrongTopBits => 50,
-            Fault::PlaceNotBefore => 51,
-            Fault::TooManyJumps => 52,
-            Fault::NameTooLong => 53,
-        }
-    }
 }
 
 // What stands at the cursor: a label of so many bytes, a jump to a place, the zero byte, or a fault.

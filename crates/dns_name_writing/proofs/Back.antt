@@ -153,7 +153,3 @@ piece-then (b ∷ l) t h = go (eqb b 0x2E) h (λ e. piece-then l t e) where
       cond x ([] ∷ pieces (l ++ (0x2E ∷ t))) (onFirst b (pieces (l ++ (0x2E ∷ t)))) ≡ (b ∷ l) ∷ pieces t
   go true e rest = absurd (omega (arith, e))
   go false e rest = simp (rest (omega (arith, e)))
-
-pub only-pieces : (l : List ℕ) (ls : List (List ℕ)) → NoStops (l ∷ ls) → pieces (withStops (l ∷ ls)) ≡ l ∷ ls
-only-pieces l [] h = last-piece l (h .0)
-only-pieces l (m ∷ ls) h = piece-then l (withStops (m ∷ ls)) (h .0) ∙ ap (λ (x : List (List ℕ)). l ∷ x) (only-pieces m ls (h .1))

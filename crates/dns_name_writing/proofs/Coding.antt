@@ -35,12 +35,6 @@ module _ (x : List ℕ) where
   unfolding labelBytes
   wrote-label l k m i p q v w = and-then l k m (length x ∷ []) x i p q v w
 
-  pub room-label : (at n : ℕ) → at + length (labelBytes x) + 1 ≤ n → at + length (labelBytes x) ≤ n
-  room-label at n h = omega (arith, h)
-
-  pub room-zero : (l k : List ℕ) (i p : ℕ) → Wrote l k i p (labelBytes x) → i + length (labelBytes x) + 1 ≤ length l → p + 1 ≤ length k
-  room-zero l k i p w h = omega (arith, h, w .place, kept l k (labelBytes x) i p w)
-
 -- labels that hold have at most 63 bytes
 first-held : (l : List ℕ) (ls : List (List ℕ)) → labelsHold (l ∷ ls) ≡ Held → (length l ≤ 63) × (labelsHold ls ≡ Held)
 unfolding labelsHold

@@ -13,14 +13,6 @@ use Rattle.dns_name_writing.specs.Writing.{onFirst, pieces, beforeStop}
 
 -- ---- the first full stop
 
-pub within : (t : List ℕ) → beforeStop t ≤ length t
-unfolding beforeStop
-within [] = omega arith
-within (b ∷ t) = go (eqb b 0x2E) (within t) where
-  go : (x : Bool) → beforeStop t ≤ length t → cond x 0 (suc (beforeStop t)) ≤ suc (length t)
-  go true h = omega arith
-  go false h = omega arith
-
 -- no full stop stands between `from` and `at`
 pub record Passed (t : List ℕ) (from at : ℕ) : Type 0 where
   pub behind : from ≤ at

@@ -7,6 +7,8 @@ use native.Mathlib.Omega.{arith}
 use lib.Dec.{T, leb, eqb, leb→le}
 use native.Mathlib.Nat.{le-trans}
 use lib.ListN.{length}
+use Rattle.wire.specs.declared.check.Verdict.{Verdict}
+use Rattle.wire.specs.declared.check.Verdict.the-variants.{Clear, Refused as Not}
 use Rattle.wire.specs.declared.refusal.Refusal.{Refusal}
 use Rattle.wire.specs.Number.{u16At}
 use Rattle.wire.specs.Refusal.{numberOf, fieldOf, placeOf}
@@ -17,21 +19,10 @@ use Rattle.negotiate_flags.specs.Flags.{requestTarget, oemDomainSupplied, oemWo
 use Rattle.head.specs.declared.Kind.{Kind}
 use Rattle.head.specs.declared.Kind.the-variants.{Negotiate, Challenge, Authenticate}
 use Rattle.head.specs.Head.{flagsAt, kindOf}
-use Rattle.negotiate.specs.declared.Negotiate.{Negotiate as NegoMessage}
-use Rattle.negotiate.specs.declared.Reading.{Reading as NegoReading}
-use Rattle.negotiate.specs.declared.Reading.the-variants.{Taken as NegoTaken, Refused as NegoRefused}
-use Rattle.negotiate.specs.Negotiate.{readNegotiate}
-use Rattle.authenticate.specs.declared.Answer.{Answer as AuthAnswer}
-use Rattle.authenticate.specs.declared.Authenticate.{Authenticate as AuthMessage}
-use Rattle.authenticate.specs.declared.Reading.the-variants.{Taken as AuthTaken, Refused as AuthRefused}
-use Rattle.authenticate.specs.Authenticate.{readAuthenticate}
-use Rattle.challenge.specs.declared.Answer.{Answer as ChalAnswer}
-use Rattle.challenge.specs.declared.Challenge.{Challenge as ChalMessage}
-use Rattle.challenge.specs.declared.Reading.the-variants.{Taken as ChalTaken, Refused as ChalRefused}
-use Rattle.challenge.specs.Challenge.{readChallenge}
+use Rattle.verdict.specs.Verdict.{readAs, fixedOf, FixedPart, Placed}
 use Rattle.line_checks.specs.declared.Figures.{Figures}
 use Rattle.line_checks.specs.Checks.{aboutPair, checkLines}
-use Rattle.explain.specs.Explain.{fieldsOf, numbered, ofPair, figuresOf, noFigures, figuresAs, explainedAs, explanation, FixedPart, NumberThere, Placed}
+use Rattle.explain.specs.Explain.{checksOf, fieldsOf, numbered, ofPair, figuresOf, noFigures, figuresAs, explainedAs, explanation, NumberThere}
 
 -- ---- the head of a field
 
@@ -92,51 +83,25 @@ unfolding figuresOf
 figures-are s head e number field message at id size p q m a i z = rw (i, z, m, q, p, a)
 
 -- those of a message that was taken, and of one that was refused
-module _ (s : List ℕ) (r : NegoReading) (p : r ≡ readNegotiate s) (f : Figures) where
-  pub nego-taken : (m : NegoMessage) → r ≡ NegoTaken m → f ≡ noFigures → f ≡ figuresAs Negotiate s
+module _ (k : Kind) (s : List ℕ) (v : Verdict) (p : v ≡ readAs k s) (f : Figures) where
+  pub of-taken : v ≡ Clear → f ≡ noFigures → f ≡ figuresAs k s
   unfolding figuresAs
-  nego-taken m h q = q ∙ simp (← p, h)
+  of-taken h q = q ∙ simp (← p, h)
 
-  pub nego-refused : (e : Refusal) (i : ℕ) (head : Field) → r ≡ NegoRefused e → i ≡ fieldOf e → head ≡ numbered i (fieldsOf Negotiate s) →
-      f ≡ figuresOf s head e → f ≡ figuresAs Negotiate s
+  pub of-refused : (e : Refusal) (i : ℕ) (head : Field) → v ≡ Not e → i ≡ fieldOf e → head ≡ numbered i (fieldsOf k s) → f ≡ figuresOf s head e → f ≡ figuresAs k s
   unfolding figuresAs
-  nego-refused e i head h j g q = q ∙ simp (← p, h, ← j, ← g)
+  of-refused e i head h j g q = q ∙ simp (← p, h, ← j, ← g)
 
-module _ (s : List ℕ) (r : ChalAnswer) (p : r ≡ readChallenge s) (f : Figures) where
-  pub chal-taken : (c : ChalMessage) → r .reading ≡ ChalTaken c → f ≡ noFigures → f ≡ figuresAs Challenge s
-  unfolding figuresAs
-  chal-taken c h q = q ∙ simp (← p, h)
+-- the head by the kind that was asked for
+module _ (k : Kind) (s : List ℕ) (i : ℕ) where
+  pub fixed-as : (v : Kind) (fixed : ℕ) → FixedPart (fixedOf k) i (length s) → k ≡ v → fixedOf v ≡ fixed → FixedPart fixed i (length s)
+  fixed-as v fixed p h q = rw (h, q) at p
 
-  pub chal-refused : (e : Refusal) (i : ℕ) (head : Field) → r .reading ≡ ChalRefused e → i ≡ fieldOf e → head ≡ numbered i (fieldsOf Challenge s) →
-      f ≡ figuresOf s head e → f ≡ figuresAs Challenge s
-  unfolding figuresAs
-  chal-refused e i head h j g q = q ∙ simp (← p, h, ← j, ← g)
-
-module _ (s : List ℕ) (r : AuthAnswer) (p : r ≡ readAuthenticate s) (f : Figures) where
-  pub auth-taken : (a : AuthMessage) → r .reading ≡ AuthTaken a → f ≡ noFigures → f ≡ figuresAs Authenticate s
-  unfolding figuresAs
-  auth-taken a h q = q ∙ simp (← p, h)
-
-  pub auth-refused : (e : Refusal) (i : ℕ) (head : Field) → r .reading ≡ AuthRefused e → i ≡ fieldOf e → head ≡ numbered i (fieldsOf Authenticate s) →
-      f ≡ figuresOf s head e → f ≡ figuresAs Authenticate s
-  unfolding figuresAs
-  auth-refused e i head h j g q = q ∙ simp (← p, h, ← j, ← g)
+  pub head-of : (v : Kind) (x : Field) → k ≡ v → x ≡ numbered i (fieldsOf v s) → x ≡ numbered i (fieldsOf k s)
+  head-of v x h q = rw h q
 
 -- ---- the print of the kind that was chosen
 
-module _ (s : List ℕ) (k : Kind) (e : k ≡ kindOf s) (f : Figures) where
-  pub as-negotiate : k ≡ Negotiate → f ≡ figuresAs Negotiate s → checkLines f (1 ∷ 2 ∷ 3 ∷ 4 ∷ 5 ∷ 6 ∷ 7 ∷ []) ≡ explanation s
-  unfolding explanation explainedAs
-  as-negotiate h p = rw (p, ← e, h)
-
-  pub as-challenge : k ≡ Challenge → f ≡ figuresAs Challenge s →
-      checkLines f (1 ∷ 2 ∷ 3 ∷ 4 ∷ 5 ∷ 6 ∷ 7 ∷ 8 ∷ 11 ∷ 12 ∷ 10 ∷ 13 ∷ []) ≡ explanation s
-  unfolding explanation explainedAs
-  as-challenge h p = rw (p, ← e, h)
-
-  pub as-authenticate : k ≡ Authenticate → f ≡ figuresAs Authenticate s →
-      checkLines f (1 ∷ 2 ∷ 3 ∷ 4 ∷ 5 ∷ 6 ∷ 7 ∷ 8 ∷ 9 ∷ []) ≡ explanation s
-  unfolding explanation explainedAs
-  as-authenticate h p = rw (p, ← e, h)
-
-pub ruleset chosen = (as-negotiate, as-challenge, as-authenticate)
+pub chosen : (s : List ℕ) (k v : Kind) (f : Figures) (checks : List ℕ) → k ≡ kindOf s → f ≡ figuresAs k s → k ≡ v → checksOf v ≡ checks → checkLines f checks ≡ explanation s
+unfolding explanation explainedAs
+chosen s k v f checks e p h q = rw (p, ← q, ← h, ← e)

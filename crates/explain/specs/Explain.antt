@@ -1,8 +1,8 @@
 -- Why a message is refused (document 02, 4/12): the checks of the kind that the NTLM program reads it as, one to a line, and the
 -- figures of the one that failed.
-use Prim.Native.Nat.{ℕ, _+_, _^_, _≤_, _<_, min}
+use Prim.Native.Nat.{ℕ, _+_, _≤_, min}
 use mathlib.Core.Path.{_≡_}
-use mathlib.Core.Bool.{Bool, true, _&&_, not, cond}
+use mathlib.Core.Bool.{true, cond}
 use mathlib.Core.List.{List, [], _∷_}
 use lib.Dec.{eqb}
 use lib.ListN.{length}
@@ -19,9 +19,9 @@ use Rattle.head.specs.Head.{flagsAt, kindOf}
 use Rattle.negotiate.specs.Negotiate as N
 use Rattle.challenge.specs.Challenge as C
 use Rattle.authenticate.specs.Authenticate as A
-use Rattle.verdict.specs.Verdict.{readAs}
+use Rattle.verdict.specs.Verdict.{readAs, hasPair}
 use Rattle.line_checks.specs.declared.Figures.{Figures}
-use Rattle.line_checks.specs.Checks.{aboutPair, checkLines}
+use Rattle.line_checks.specs.Checks.{checkLines}
 
 -- the checks of each kind, in the order in which they are made
 abbrev pub checksOf : Kind → List ℕ
@@ -41,10 +41,6 @@ fieldsOf Authenticate s = A.allFields (A.fieldsAt s (flagsAt s (A.layout .flags)
 abbrev pub numbered : ℕ → List (ℕ × Field) → Field
 numbered i [] = noField
 numbered i (f ∷ fs) = cond (eqb i (f .0)) (f .1) (numbered i fs)
-
--- checks 10, 12 and 13 fail at a pair, 11 where there is none
-abbrev pub hasPair : ℕ → Bool
-hasPair number = aboutPair number && not (eqb number 11)
 
 -- a number of that pair
 abbrev pub ofPair : ℕ → ℕ → ℕ
@@ -82,15 +78,6 @@ explanation s = explainedAs (kindOf s) s
 
 -- ---- what inner functions ask
 
--- a message of n bytes has its fixed part where a field is given
-pub record FixedPart (fixed field n : ℕ) : Type 0 where
-  pub there : (field ≡ 0 → ⊥) → fixed ≤ n
-
 -- a number of the pair that failed stands at a place
 pub record NumberThere (number at n : ℕ) : Type 0 where
   pub there : hasPair number ≡ true → at + 2 ≤ n
-
--- a refusal's place has 32 bits, and a pair's id and length number stand there
-pub record Placed (e : Refusal) (n : ℕ) : Type 0 where
-  pub short : placeOf e < 2 ^ 32
-  pub there : hasPair (numberOf e) ≡ true → placeOf e + 4 ≤ n

@@ -6,9 +6,8 @@ ghost use Rattle.wire.specs.Number.{u16At};
 ghost use Rattle.field.specs.Field.{noField};
 ghost use Rattle.head.specs.declared.Kind.the-variants.{Negotiate, Challenge, Authenticate};
 ghost use Rattle.place.specs.Written.{bytesAnswer, bytesAfter};
-ghost use Rattle.explain.specs.Explain.{fieldsOf, numbered, ofPair, figuresOf, noFigures, figuresAs, explanation, FixedPart, NumberThere, Placed};
-use authenticate::Reading as AuthenticateReading;
-use challenge::Reading as ChallengeReading;
+ghost use Rattle.explain.specs.Explain.{fieldsOf, numbered, ofPair, figuresOf, noFigures, figuresAs, explanation, NumberThere};
+ghost use Rattle.verdict.specs.Verdict.{fixedOf, FixedPart, Placed};
 use field::Field;
 use field::field_at;
 use head::Kind;
@@ -16,8 +15,9 @@ use head::flags_at;
 use head::kind_of;
 use line_checks::Figures;
 use line_checks::about_pair;
-use negotiate::Reading as NegotiateReading;
 use place::written::Written;
+use verdict::read_as;
+use wire::check::Verdict;
 use wire::number::u16_at;
 use wire::refusal::Refusal;
 
@@ -140,34 +140,25 @@ fn no_figures() -> Figures
     }
 }
 
-fn negotiate_figures(msg: &[u8]) -> Figures
-    ensures { λ r. ⌜ r ≡ figuresAs Negotiate (now (msg .entry)) ⌝ }
+// The head of the field by its number, in a message of a kind.
+fn head_as(kind: Kind, msg: &[u8], field: u8) -> Field
+    requires { ⌜ FixedPart (fixedOf kind) field (length (now msg)) ⌝ }
+    ensures { λ r. ⌜ r ≡ numbered field (fieldsOf kind (now (msg .entry))) ⌝ }
 {
-    match negotiate::read(msg) {
-        NegotiateReading::Taken(_) => no_figures(),
-        NegotiateReading::Refused(e) => figures_of(msg, negotiate_head(msg, e.field()), e),
+    match kind {
+        Kind::Negotiate => negotiate_head(msg, field),
+        Kind::Challenge => challenge_head(msg, field),
+        Kind::Authenticate => authenticate_head(msg, field),
     }
 }
 
-fn challenge_figures(msg: &[u8]) -> Figures
-    ensures { λ r. ⌜ r ≡ figuresAs Challenge (now (msg .entry)) ⌝ }
+fn figures_as(kind: Kind, msg: &[u8]) -> Figures
+    ensures { λ r. ⌜ r ≡ figuresAs kind (now (msg .entry)) ⌝ }
 {
-    let answer = challenge::read(msg);
-    let reading = answer.reading;
-    match reading {
-        ChallengeReading::Taken(_) => no_figures(),
-        ChallengeReading::Refused(e) => figures_of(msg, challenge_head(msg, e.field()), e),
-    }
-}
-
-fn authenticate_figures(msg: &[u8]) -> Figures
-    ensures { λ r. ⌜ r ≡ figuresAs Authenticate (now (msg .entry)) ⌝ }
-{
-    let answer = authenticate::read(msg);
-    let reading = answer.reading;
-    match reading {
-        AuthenticateReading::Taken(_) => no_figures(),
-        AuthenticateReading::Refused(e) => figures_of(msg, authenticate_head(msg, e.field()), e),
+    let verdict = read_as(kind, msg);
+    match verdict {
+        Verdict::Clear => no_figures(),
+        Verdict::Refused(e) => figures_of(msg, head_as(kind, msg, e.field()), e),
     }
 }
 
@@ -179,19 +170,17 @@ pub fn write(msg: &[u8], out: &mut [u8]) -> Written
     ensures answer { λ r. ⌜ r ≡ bytesAnswer (explanation (now (msg .entry))) (now (out .entry)) ⌝ }
     ensures content { λ _. ⌜ now (out .exit) ≡ bytesAfter (explanation (now (msg .entry))) (now (out .entry)) ⌝ }
 {
-    match kind_of(msg) {
-        Kind::Negotiate => {
-            line_checks::write(out, b"\x01\x02\x03\x04\x05\x06\x07", negotiate_figures(msg))
-        }
+    let kind = kind_of(msg);
+    let figures = figures_as(kind, msg);
+    match kind {
+        Kind::Negotiate => line_checks::write(out, b"\x01\x02\x03\x04\x05\x06\x07", figures),
         Kind::Challenge => line_checks::write(
             out,
             b"\x01\x02\x03\x04\x05\x06\x07\x08\x0B\x0C\x0A\x0D",
-            challenge_figures(msg),
+            figures,
         ),
-        Kind::Authenticate => line_checks::write(
-            out,
-            b"\x01\x02\x03\x04\x05\x06\x07\x08\x09",
-            authenticate_figures(msg),
-        ),
+        Kind::Authenticate => {
+            line_checks::write(out, b"\x01\x02\x03\x04\x05\x06\x07\x08\x09", figures)
+        }
     }
 }

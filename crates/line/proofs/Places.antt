@@ -1,15 +1,18 @@
--- What a message is refused for outside its list of pairs has no place.
-use Prim.Native.Nat.{ℕ, _^_, _<_}
-use mathlib.Core.Path.{_≡_, refl}
+-- The place of a refusal is short: what a message is refused for outside its list of pairs has none.
+use Prim.Native.Nat.{ℕ, _^_, _≤_, _<_}
+use mathlib.Core.Path.{_≡_, refl, sym}
 use mathlib.Core.Bool.{Bool}
 use mathlib.Core.List.{List}
 use native.Mathlib.Omega.{arith}
 use lib.ListN.{length}
-use Rattle.wire.specs.declared.check.Verdict.the-variants.{Refused as Not}
+use Rattle.wire.specs.declared.check.Verdict.{Verdict}
+use Rattle.wire.specs.declared.check.Verdict.the-variants.{Clear, Refused as Not}
 use Rattle.wire.specs.declared.refusal.Refusal.{Refusal}
 use Rattle.wire.specs.declared.refusal.Refusal.the-variants.{PastEnd, InFixedPart, OddName, NameOverSecret}
-use Rattle.wire.specs.Refusal.{placeOf}
-use Rattle.wire.proofs.Places.{Placeless, of-group, of-all}
+use Rattle.wire.specs.Check.{onClear}
+use Rattle.wire.specs.Refusal.{placeOf, movedBy}
+use Rattle.wire.proofs.Places.{Placeless, of-group, of-all, moved-place}
+use Rattle.av_pairs.specs.AvPairs.{checkPairs}
 use Rattle.field.specs.declared.Field.{Field}
 use Rattle.field.specs.Field.{endsInside, beginsAfter, evenName}
 use Rattle.negotiate_flags.specs.declared.NegotiateFlags.{NegotiateFlags}
@@ -30,11 +33,15 @@ use Rattle.authenticate.specs.declared.Reading.{Reading as AuthReading}
 use Rattle.authenticate.specs.declared.Reading.the-variants.{Taken as AuthTaken, Refused as AuthRefused}
 use Rattle.authenticate.specs.Authenticate as A
 use Rattle.authenticate.specs.Authenticate.{readAuthenticate}
+use Rattle.challenge.specs.declared.Challenge.{Challenge}
 use Rattle.challenge.specs.declared.Fields.{Fields as ChalFields}
+use Rattle.challenge.specs.declared.FullReading.{FullReading}
+use Rattle.challenge.specs.declared.FullReading.the-variants.{Refused as FullRefused}
 use Rattle.challenge.specs.declared.Reading.{Reading as ChalReading}
 use Rattle.challenge.specs.declared.Reading.the-variants.{Taken as ChalTaken, Refused as ChalRefused}
 use Rattle.challenge.specs.Challenge as C
-use Rattle.challenge.specs.Challenge.{fieldsOf}
+use Rattle.challenge.specs.Challenge.{fieldsOf, onTaken, infoOf, inMessage, checkInfo, readingOf, fullReadingOf}
+use Rattle.challenge.proofs.Laws.{inside-message, fields-short, refusal-alone}
 
 -- a place that is 0 has 32 bits
 short : (e : Refusal) → placeOf e ≡ 0 → placeOf e < 2 ^ 32
@@ -109,11 +116,26 @@ fields-placeless s =
     of-flags-read PlacelessC ChalRefused C.layout s _ (λ e h. h)
     (λ w. of-group PlacelessC ChalRefused (C.checkFields (length s) (unicode w) (C.fieldsAt s w)) _ (chal-fields (length s) (unicode w) (C.fieldsAt s w)) (λ e h. h) tt)
 
-pub chal-short : (s : List ℕ) (r : ChalReading) (e : Refusal) → r ≡ fieldsOf s → r ≡ ChalRefused e → placeOf e < 2 ^ 32
-chal-short s r e p h = short e (go r h (rw p (fields-placeless s))) where
-  go : (r : ChalReading) → r ≡ ChalRefused e → PlacelessC r → placeOf e ≡ 0
-  go (ChalTaken m) q z = cc
-  go (ChalRefused d) q z = let same : d ≡ e = cc in rw same at z
+-- ---- and its list
+
+pub chal-place : (s : List ℕ) (e : Refusal) → readingOf s ≡ ChalRefused e → placeOf e ≤ 65535
+unfolding readingOf checkInfo
+chal-place s e h = go (fieldsOf s) refl (fields-placeless s) h where
+  by : (c : Challenge) (v : Verdict) → fieldsOf s ≡ ChalTaken c → checkPairs (infoOf s c) ≡ v →
+      onClear ChalRefused (inMessage (c .fields .«target_info») v) (ChalTaken c) ≡ ChalRefused e → placeOf e ≤ 65535
+  by c Clear t w p = absurd (let z : _≡_ {A = ℕ} 0 1 = cc in omega arith)
+  by c (Not d) t w p =
+      let f = c .fields .«target_info» in
+      let same : movedBy (f .offset) d ≡ e = cc in
+      rw (← same) (omega (arith, moved-place (f .offset) d, inside-message s (infoOf s c) f d refl w, fields-short s c t))
+
+  go : (r : ChalReading) → fieldsOf s ≡ r → PlacelessC r →
+      onTaken ChalRefused r (λ c. onClear ChalRefused (inMessage (c .fields .«target_info») (checkPairs (infoOf s c))) (ChalTaken c)) ≡ ChalRefused e → placeOf e ≤ 65535
+  go (ChalTaken c) t z p = by c (checkPairs (infoOf s c)) t refl p
+  go (ChalRefused d) t z p = let same : d ≡ e = cc in rw (← same) (omega (arith, z))
+
+pub chal-short : (s : List ℕ) (r : FullReading) (e : Refusal) → r ≡ fullReadingOf s → r ≡ FullRefused e → placeOf e < 2 ^ 32
+chal-short s r e p h = omega (arith, chal-place s e (sym (refusal-alone s r p e h)))
 
 -- ---- NL_AUTH
 

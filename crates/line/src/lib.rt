@@ -3,7 +3,7 @@ ghost use mathlib.Core.Path.{_≡_};
 ghost use Rattle.line.specs.Line.{negotiateLine, authenticateLine, nlAuthLine, challengeLine, ntlmLine, shownLine};
 ghost use Rattle.place.specs.Written.{bytesAnswer, bytesAfter};
 use authenticate::Reading;
-use challenge::Reading as ChallengeReading;
+use challenge::FullReading;
 use head::Kind;
 use head::kind_of;
 use negotiate::Reading as NegotiateReading;
@@ -41,10 +41,9 @@ pub fn challenge_line(msg: &[u8], out: &mut [u8]) -> Written
     ensures answer { λ r. ⌜ r ≡ bytesAnswer (challengeLine (now (msg .entry))) (now (out .entry)) ⌝ }
     ensures content { λ _. ⌜ now (out .exit) ≡ bytesAfter (challengeLine (now (msg .entry))) (now (out .entry)) ⌝ }
 {
-    let reading = challenge::fields_of(msg);
-    match reading {
-        ChallengeReading::Taken(c) => line_chal::write(out, msg, c),
-        ChallengeReading::Refused(e) => line_refused::write(out, e),
+    match challenge::read_full(msg) {
+        FullReading::Taken(f) => line_chal::write(out, msg, f),
+        FullReading::Refused(e) => line_refused::write(out, e),
     }
 }
 

@@ -1,6 +1,6 @@
--- Laws of the timestamp's word, of the line's length, and of the list that decides on the line.
-use Prim.Native.Nat.{ℕ, _+_, _-_, _^_, _≤_, _<_}
-use mathlib.Core.Path.{_≡_, sym}
+-- Laws of the timestamp's word, of the line's length, and of what the reader found in the list.
+use Prim.Native.Nat.{ℕ, _+_, _-_, _≤_, _<_}
+use mathlib.Core.Path.{_≡_, refl, sym, ap}
 use mathlib.Core.Bool.{Bool}
 use mathlib.Core.List.{List}
 use native.Mathlib.Omega.{arith}
@@ -9,24 +9,18 @@ use Rattle.text.specs.Text.{ascii}
 use Rattle.field.specs.Field.{fieldBytes}
 use Rattle.place.specs.Place.{Wrote}
 use Rattle.place.proofs.Laws.{nothing}
-use Rattle.wire.specs.declared.refusal.Refusal.{Refusal}
-use Rattle.wire.specs.Refusal.{placeOf, movedBy}
-use Rattle.wire.proofs.Places.{moved-place}
 use Rattle.negotiate_flags.specs.Flags.{unicode}
-use Rattle.av_pairs.specs.declared.Count.{Count}
-use Rattle.av_pairs.specs.declared.Count.the-variants.{Pairs, Refused as Uncounted}
-use Rattle.av_pairs.specs.AvPairs.{countPairs}
-use Rattle.av_pairs.proofs.Walks.{few-pairs, all-held, one-failed, count-is}
+use Rattle.av_pairs.proofs.Walks.{few-pairs}
 use Rattle.challenge.specs.declared.Challenge.{Challenge}
-use Rattle.challenge.specs.declared.Reading.the-variants.{Taken}
-use Rattle.challenge.specs.Challenge.{fieldsOf, infoOf, checkInfo}
-use Rattle.challenge.proofs.Laws.{inside-message, fields-short}
+use Rattle.challenge.specs.declared.FullChallenge.{FullChallenge}
+use Rattle.challenge.specs.declared.FullReading.the-variants.{Taken}
+use Rattle.challenge.specs.Challenge.{infoOf, fullReadingOf}
+use Rattle.challenge.proofs.Laws.{full-holds}
+use Rattle.target_info.specs.declared.Contents.{Contents}
 use Rattle.target_info.specs.declared.Timestamp.{Timestamp}
 use Rattle.target_info.specs.declared.Timestamp.the-variants.{Time, Nothing as NoTime}
-use Rattle.target_info.specs.TargetInfo.{timestampIn}
 use Rattle.wire.specs.declared.check.Checked.{Checked}
 use Rattle.line_max.proofs.Laws.{two-size}
-use Rattle.line_refused.specs.Refused.{refusedLine}
 use Rattle.place.specs.Written.{roomHolds}
 use Rattle.word.specs.Words.{Room, numberWord, nameWord}
 use Rattle.word.proofs.Calls.{of-left}
@@ -80,27 +74,15 @@ module _ (unicode : Bool) (s : List ℕ) (c : Challenge) (pairs : ℕ) (time : T
       of-left (chalWords unicode s c pairs time) (length target + length (numberWord (ascii " pairs=") pairs)) (25 + t + 8) room p r
       (simp (length-append, start-size, two-size) (omega arith)) (omega arith) (omega arith) h
 
--- ---- the list: its count and its timestamp, or its refusal
+-- ---- what the reader found in the list
 
-module _ (s : List ℕ) (c : Challenge) (l : List ℕ) (i : l ≡ infoOf s c) (r : Count) (e : r ≡ countPairs l) where
-  pub list-told : (n : ℕ) (b : Bool) (t : Timestamp) → r ≡ Pairs n → b ≡ unicode (c .flags) → t ≡ timestampIn l →
-      chalWords b s c n t ≡ chalText s c
-  unfolding chalText checkInfo
-  list-told n b t h p q = simp (← i, all-held l r e n h, p, q, count-is l r e n h)
+module _ (s : List ℕ) (f : FullChallenge) (h : fullReadingOf s ≡ Taken f) where
+  pub count-fits : f .challenge .fields .«target_info» .len < 65536 → f .contents .pairs < 4294967296
+  count-fits n =
+      let l = infoOf s (f .challenge) in
+      omega (arith, ap (λ (x : Contents). x .pairs) (full-holds s (fullReadingOf s) refl f h), few-pairs l, field-small s l (f .challenge .fields .«target_info») refl)
 
-  pub count-fits : (n : ℕ) → r ≡ Pairs n → c .fields .«target_info» .len < 65536 → n < 4294967296
-  count-fits n h f = omega (arith, count-is l r e n h, few-pairs l, field-small s l (c .fields .«target_info») i)
-
-  module _ (d : Refusal) (h : r ≡ Uncounted d) where
-    inside : c .fields .«target_info» .offset + placeOf d ≤ length s
-    inside = inside-message s l (c .fields .«target_info») d i (one-failed l r e d h)
-
-    pub place-fits : length s < 2 ^ 64 → c .fields .«target_info» .offset + placeOf d < 2 ^ 64
-    place-fits n = omega (arith, inside)
-
-    pub place-short : (m : Refusal) → fieldsOf s ≡ Taken c → m ≡ movedBy (c .fields .«target_info» .offset) d → placeOf m < 2 ^ 32
-    place-short m t p = rw p (omega (arith, inside, moved-place (c .fields .«target_info» .offset) d, fields-short s c t))
-
-    pub list-refused : (m : Refusal) → m ≡ movedBy (c .fields .«target_info» .offset) d → refusedLine m ≡ chalText s c
-    unfolding chalText checkInfo
-    list-refused m p = simp (← i, one-failed l r e d h, p)
+  pub words-told : (b : Bool) → b ≡ unicode (f .challenge .flags) →
+      chalWords b s (f .challenge) (f .contents .pairs) (f .contents .timestamp) ≡ chalText s (f .challenge)
+  unfolding chalText
+  words-told b p = simp (p, full-holds s (fullReadingOf s) refl f h)

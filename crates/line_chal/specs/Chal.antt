@@ -5,17 +5,15 @@ use mathlib.Core.List.{List, [], _++_}
 use lib.ListN.{length}
 use Rattle.text.specs.Text.{ascii}
 use Rattle.field.specs.Field.{fieldBytes}
-use Rattle.wire.specs.Check.{onClear}
 use Rattle.negotiate_flags.specs.Flags.{unicode}
 use Rattle.av_pairs.specs.AvPairs.{pairsOf}
 use Rattle.challenge.specs.declared.Challenge.{Challenge}
 use Rattle.challenge.specs.declared.Fields.{Fields}
-use Rattle.challenge.specs.Challenge.{allFields, infoOf, checkInfo}
+use Rattle.challenge.specs.Challenge.{allFields, infoOf}
 use Rattle.target_info.specs.declared.Timestamp.{Timestamp}
 use Rattle.target_info.specs.declared.Timestamp.the-variants.{Time, Nothing}
 use Rattle.target_info.specs.TargetInfo.{timestampIn}
 use Rattle.line_max.specs.Max.{maxEnd}
-use Rattle.line_refused.specs.Refused.{refusedLine}
 use Rattle.word.specs.Digits.{hex}
 use Rattle.word.specs.Words.{numberWord, nameWord, startText}
 
@@ -38,8 +36,6 @@ chalWords unicode s c pairs time =
     nameWord (ascii " target=") unicode (fieldBytes s (c .fields .«target_name»)) ++
     chalEnd pairs time (c .fields))
 
--- the line of c, read from s: the words with the count and the timestamp of its list, or the line of the list's refusal
+-- the line of c, read from s: the words with the count and the timestamp of its list
 unfoldable pub chalText : List ℕ → Challenge → List ℕ
-chalText s c =
-    onClear refusedLine (checkInfo s c)
-    (chalWords (unicode (c .flags)) s c (length (pairsOf (infoOf s c))) (timestampIn (infoOf s c)))
+chalText s c = chalWords (unicode (c .flags)) s c (length (pairsOf (infoOf s c))) (timestampIn (infoOf s c))

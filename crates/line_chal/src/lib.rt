@@ -1,23 +1,21 @@
-// The line of a CHALLENGE message whose checks 1 to 8 held.
+// The line of a CHALLENGE message that was taken.
 ghost use mathlib.Core.Path.{_≡_};
 ghost use Prim.Native.Nat.{_+_, _≤_};
 ghost use lib.ListN.{length};
 ghost use Rattle.place.specs.Place.{Wrote};
 ghost use Rattle.place.specs.Written.{roomHolds, bytesAnswer, bytesAfter};
 ghost use Rattle.word.specs.Words.{Room};
-ghost use Rattle.challenge.specs.declared.Reading.the-variants.{Taken};
-ghost use Rattle.challenge.specs.Challenge.{fieldsOf};
+ghost use Rattle.challenge.specs.declared.FullReading.the-variants.{Taken};
+ghost use Rattle.challenge.specs.Challenge.{fullReadingOf};
 ghost use Rattle.line_chal.specs.Chal.{timeText, timeWord, chalEnd, chalWords, chalText};
-use av_pairs::Count;
-use av_pairs::count_pairs;
 use challenge::Challenge;
 use challenge::Fields;
+use challenge::FullChallenge;
 use line_max::put_two;
 use place::Place;
 use place::written::Written;
 use place::written::room_holds;
 use target_info::Timestamp;
-use target_info::timestamp_in;
 use wire::check::Checked;
 use wire::refusal::Refusal;
 use word::digits::put_hex;
@@ -116,27 +114,14 @@ fn write_words(
     Written::Length(p.at)
 }
 
-// The line of `c`, which was read from the message: checks 10 to 13 on its list, and then the words or the line of the refusal,
-// with the message's place.
-// A list has at most 65,535 bytes, and no more pairs.
-pub fn write(out: &mut [u8], msg: &[u8], c: Challenge) -> Written
-    requires { ⌜ fieldsOf (now msg) ≡ Taken c ⌝ }
-    ensures answer { λ r. ⌜ r ≡ bytesAnswer (chalText (now (msg .entry)) c) (now (out .entry)) ⌝ }
-    ensures content { λ _. ⌜ now (out .exit) ≡ bytesAfter (chalText (now (msg .entry)) c) (now (out .entry)) ⌝ }
+// The line of `f`, which the reader made of the message. Its list has at most 65,535 bytes, and no more pairs.
+pub fn write(out: &mut [u8], msg: &[u8], f: FullChallenge) -> Written
+    requires { ⌜ fullReadingOf (now msg) ≡ Taken f ⌝ }
+    ensures answer { λ r. ⌜ r ≡ bytesAnswer (chalText (now (msg .entry)) (f .challenge)) (now (out .entry)) ⌝ }
+    ensures content { λ _. ⌜ now (out .exit) ≡ bytesAfter (chalText (now (msg .entry)) (f .challenge)) (now (out .entry)) ⌝ }
 {
-    let list = c.fields.target_info.bytes(msg);
-    match count_pairs(list) {
-        Count::Pairs(n) => write_words(
-            out,
-            msg,
-            c,
-            c.flags.unicode(),
-            n as u32,
-            timestamp_in(list),
-        ),
-        Count::Refused(e) => line_refused::write(
-            out,
-            e.moved_by(c.fields.target_info.offset as usize),
-        ),
-    }
+    let c = f.challenge;
+    let contents = f.contents;
+    let time = contents.timestamp;
+    write_words(out, msg, c, c.flags.unicode(), contents.pairs as u32, time)
 }

@@ -1,11 +1,10 @@
 // The line of an NL_AUTH message that was taken.
 ghost use mathlib.Core.Path.{_≡_};
 ghost use mathlib.Core.List.{_++_};
-ghost use Prim.Native.Nat.{_-_, _<_};
+ghost use Prim.Native.Nat.{_-_};
 ghost use lib.ListN.{length};
 ghost use Rattle.place.specs.Place.{Wrote};
 ghost use Rattle.place.specs.Written.{roomHolds, bytesAnswer, bytesAfter};
-ghost use Rattle.wire.specs.Number.{has};
 ghost use Rattle.word.specs.Words.{Room, stringWord};
 ghost use Rattle.nl_auth.specs.declared.Reading.the-variants.{Taken};
 ghost use Rattle.nl_auth.specs.NlAuth.{readNlAuth};
@@ -13,13 +12,11 @@ ghost use Rattle.nl_auth_text.specs.StringText.{oemText, utf8Text};
 ghost use Rattle.line_nl.specs.Nl.{nlStart, nlOem, nlUtf8, nlText};
 use nl_auth::NlAuth;
 use nl_auth::string::NlString;
-use nl_auth_flags::NlAuthFlags;
 use place::Place;
 use place::written::Written;
 use place::written::room_after;
 use place::written::room_holds;
 use wire::check::Checked;
-use wire::number::has;
 use wire::refusal::Refusal;
 use word::words::put_flags_word;
 use word::words::put_number_word;
@@ -30,14 +27,12 @@ fn room_after_oem_string(
     room: usize,
     label: &[u8],
     msg: &[u8],
-    flags: NlAuthFlags,
-    mask: u32,
+    set: bool,
     string: NlString,
 ) -> usize
-    requires { ⌜ 0 < mask ⌝ }
-    ensures { λ r. ⌜ r ≡ room - length (stringWord (now (label .entry)) (has (flags .bits) mask) (oemText (now (msg .entry)) string)) ⌝ }
+    ensures { λ r. ⌜ r ≡ room - length (stringWord (now (label .entry)) set (oemText (now (msg .entry)) string)) ⌝ }
 {
-    if has(flags.bits, mask) {
+    if set {
         return nl_auth_text::room_after_oem(room_after(room, label.len()), msg, string);
     }
     room
@@ -48,14 +43,12 @@ fn room_after_utf8_string(
     room: usize,
     label: &[u8],
     msg: &[u8],
-    flags: NlAuthFlags,
-    mask: u32,
+    set: bool,
     string: NlString,
 ) -> usize
-    requires { ⌜ 0 < mask ⌝ }
-    ensures { λ r. ⌜ r ≡ room - length (stringWord (now (label .entry)) (has (flags .bits) mask) (utf8Text (now (msg .entry)) string)) ⌝ }
+    ensures { λ r. ⌜ r ≡ room - length (stringWord (now (label .entry)) set (utf8Text (now (msg .entry)) string)) ⌝ }
 {
-    if has(flags.bits, mask) {
+    if set {
         return nl_auth_text::room_after_utf8(room_after(room, label.len()), msg, string);
     }
     room
@@ -66,22 +59,8 @@ fn room_after_oem(room: usize, msg: &[u8], m: NlAuth) -> usize
     ensures { λ r. ⌜ r ≡ room - length (nlOem (now (msg .entry)) m) ⌝ }
 {
     let s = m.strings;
-    let left = room_after_oem_string(
-        room,
-        b" a=",
-        msg,
-        m.flags,
-        NlAuthFlags::NB_DOMAIN,
-        s.nb_domain,
-    );
-    room_after_oem_string(
-        left,
-        b" b=",
-        msg,
-        m.flags,
-        NlAuthFlags::NB_COMPUTER,
-        s.nb_computer,
-    )
+    let left = room_after_oem_string(room, b" a=", msg, m.flags.nb_domain(), s.nb_domain);
+    room_after_oem_string(left, b" b=", msg, m.flags.nb_computer(), s.nb_computer)
 }
 
 // What the UTF-8 strings leave of a room.
@@ -89,30 +68,9 @@ fn room_after_utf8(room: usize, msg: &[u8], m: NlAuth) -> usize
     ensures { λ r. ⌜ r ≡ room - length (nlUtf8 (now (msg .entry)) m) ⌝ }
 {
     let s = m.strings;
-    let left = room_after_utf8_string(
-        room,
-        b" c=",
-        msg,
-        m.flags,
-        NlAuthFlags::DNS_DOMAIN,
-        s.dns_domain,
-    );
-    let left = room_after_utf8_string(
-        left,
-        b" d=",
-        msg,
-        m.flags,
-        NlAuthFlags::DNS_HOST,
-        s.dns_host,
-    );
-    room_after_utf8_string(
-        left,
-        b" e=",
-        msg,
-        m.flags,
-        NlAuthFlags::UTF8_COMPUTER,
-        s.utf8_computer,
-    )
+    let left = room_after_utf8_string(room, b" c=", msg, m.flags.dns_domain(), s.dns_domain);
+    let left = room_after_utf8_string(left, b" d=", msg, m.flags.dns_host(), s.dns_host);
+    room_after_utf8_string(left, b" e=", msg, m.flags.utf8_computer(), s.utf8_computer)
 }
 
 // Check 33, by what the type's word and the strings leave of the room: 15 for the flags' word and 1 for the line's end.
@@ -148,15 +106,13 @@ fn put_oem_string(
     out: &mut [u8],
     label: &[u8],
     msg: &[u8],
-    flags: NlAuthFlags,
-    mask: u32,
+    set: bool,
     string: NlString,
 ) -> Place
-    requires { ⌜ 0 < mask ⌝ }
-    requires { ⌜ Room (p .at) (stringWord (now label) (has (flags .bits) mask) (oemText (now msg) string)) (length (now out)) ⌝ }
-    ensures { λ r. ⌜ Wrote (now (out .entry)) (now (out .exit)) (p .at) (r .at) (stringWord (now (label .entry)) (has (flags .bits) mask) (oemText (now (msg .entry)) string)) ⌝ }
+    requires { ⌜ Room (p .at) (stringWord (now label) set (oemText (now msg) string)) (length (now out)) ⌝ }
+    ensures { λ r. ⌜ Wrote (now (out .entry)) (now (out .exit)) (p .at) (r .at) (stringWord (now (label .entry)) set (oemText (now (msg .entry)) string)) ⌝ }
 {
-    if has(flags.bits, mask) {
+    if set {
         return put_oem_word(p, out, label, msg, string);
     }
     p
@@ -177,15 +133,13 @@ fn put_utf8_string(
     out: &mut [u8],
     label: &[u8],
     msg: &[u8],
-    flags: NlAuthFlags,
-    mask: u32,
+    set: bool,
     string: NlString,
 ) -> Place
-    requires { ⌜ 0 < mask ⌝ }
-    requires { ⌜ Room (p .at) (stringWord (now label) (has (flags .bits) mask) (utf8Text (now msg) string)) (length (now out)) ⌝ }
-    ensures { λ r. ⌜ Wrote (now (out .entry)) (now (out .exit)) (p .at) (r .at) (stringWord (now (label .entry)) (has (flags .bits) mask) (utf8Text (now (msg .entry)) string)) ⌝ }
+    requires { ⌜ Room (p .at) (stringWord (now label) set (utf8Text (now msg) string)) (length (now out)) ⌝ }
+    ensures { λ r. ⌜ Wrote (now (out .entry)) (now (out .exit)) (p .at) (r .at) (stringWord (now (label .entry)) set (utf8Text (now (msg .entry)) string)) ⌝ }
 {
-    if has(flags.bits, mask) {
+    if set {
         return put_utf8_word(p, out, label, msg, string);
     }
     p
@@ -196,24 +150,8 @@ fn put_oem(p: Place, out: &mut [u8], msg: &[u8], m: NlAuth) -> Place
     ensures { λ r. ⌜ Wrote (now (out .entry)) (now (out .exit)) (p .at) (r .at) (nlOem (now (msg .entry)) m) ⌝ }
 {
     let s = m.strings;
-    let p = put_oem_string(
-        p,
-        out,
-        b" a=",
-        msg,
-        m.flags,
-        NlAuthFlags::NB_DOMAIN,
-        s.nb_domain,
-    );
-    put_oem_string(
-        p,
-        out,
-        b" b=",
-        msg,
-        m.flags,
-        NlAuthFlags::NB_COMPUTER,
-        s.nb_computer,
-    )
+    let p = put_oem_string(p, out, b" a=", msg, m.flags.nb_domain(), s.nb_domain);
+    put_oem_string(p, out, b" b=", msg, m.flags.nb_computer(), s.nb_computer)
 }
 
 fn put_utf8(p: Place, out: &mut [u8], msg: &[u8], m: NlAuth) -> Place
@@ -221,31 +159,14 @@ fn put_utf8(p: Place, out: &mut [u8], msg: &[u8], m: NlAuth) -> Place
     ensures { λ r. ⌜ Wrote (now (out .entry)) (now (out .exit)) (p .at) (r .at) (nlUtf8 (now (msg .entry)) m) ⌝ }
 {
     let s = m.strings;
-    let p = put_utf8_string(
-        p,
-        out,
-        b" c=",
-        msg,
-        m.flags,
-        NlAuthFlags::DNS_DOMAIN,
-        s.dns_domain,
-    );
-    let p = put_utf8_string(
-        p,
-        out,
-        b" d=",
-        msg,
-        m.flags,
-        NlAuthFlags::DNS_HOST,
-        s.dns_host,
-    );
+    let p = put_utf8_string(p, out, b" c=", msg, m.flags.dns_domain(), s.dns_domain);
+    let p = put_utf8_string(p, out, b" d=", msg, m.flags.dns_host(), s.dns_host);
     put_utf8_string(
         p,
         out,
         b" e=",
         msg,
-        m.flags,
-        NlAuthFlags::UTF8_COMPUTER,
+        m.flags.utf8_computer(),
         s.utf8_computer,
     )
 }

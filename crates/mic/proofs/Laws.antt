@@ -20,7 +20,6 @@ use Rattle.head.specs.declared.Head.the-variants.{Flags, Refused as Stopped}
 use Rattle.head.specs.Head.{readHead, onFlags}
 use Rattle.head.proofs.Heads.{head-short}
 use Rattle.negotiate_flags.specs.declared.NegotiateFlags.{NegotiateFlags}
-use Rattle.negotiate.specs.declared.Negotiate.{Negotiate}
 use Rattle.negotiate.specs.declared.Reading.{Reading as NegotiateReading}
 use Rattle.negotiate.specs.declared.Reading.the-variants.{Taken as NegotiateTaken, Refused as NegotiateRefused}
 use Rattle.negotiate.specs.Negotiate.{layout as negotiateLayout, readNegotiate}
@@ -47,19 +46,7 @@ use Rattle.mic.specs.declared.Checking.the-variants.{Compared}
 use Rattle.verdict.specs.Verdict.{negoVerdict, chalVerdict}
 use Rattle.mic.specs.Mic.{zeroed, micOf, authenticateVerdict, checkMessages, workOut, checkMic}
 
--- ---- each message's verdict, by what its reading is known to be
-
-pub negotiate-clear : (q r : NegotiateReading) (m : Negotiate) → r ≡ q → r ≡ NegotiateTaken m → Clear ≡ negoVerdict q
-negotiate-clear q r m e f = rw (← e, f)
-
-pub negotiate-not : (q r : NegotiateReading) (e : Refusal) → r ≡ q → r ≡ NegotiateRefused e → Not e ≡ negoVerdict q
-negotiate-not q r e p f = rw (← p, f)
-
-pub challenge-clear : (q r : ChallengeAnswer) (c : Challenge) → r ≡ q → r .reading ≡ ChallengeTaken c → Clear ≡ chalVerdict (q .reading)
-challenge-clear q r c e f = rw (← e, f)
-
-pub challenge-not : (q r : ChallengeAnswer) (e : Refusal) → r ≡ q → r .reading ≡ ChallengeRefused e → Not e ≡ chalVerdict (q .reading)
-challenge-not q r e p f = rw (← p, f)
+-- ---- the AUTHENTICATE's verdict, by what its reading is known to be
 
 pub authenticate-taken : (q r : AuthenticateAnswer) (a : Authenticate) (v : Verdict) → r ≡ q → r .reading ≡ AuthenticateTaken a →
     v ≡ after (checked (a .«mic_present»)) (Not NoMic) Clear → v ≡ authenticateVerdict (q .reading)

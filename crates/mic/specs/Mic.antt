@@ -10,10 +10,9 @@ use Rattle.wire.specs.declared.check.Verdict.the-variants.{Clear, Refused as No
 use Rattle.wire.specs.declared.refusal.Refusal.the-variants.{WrongSessionKey, NoMic}
 use Rattle.wire.specs.Check.{checked, after, onClear}
 use Rattle.wire.specs.Number.{standsAt}
-use Rattle.verdict.specs.Verdict.{negoVerdict, chalVerdict}
+use Rattle.head.specs.declared.Kind.the-variants.{Negotiate, Challenge}
+use Rattle.verdict.specs.Verdict.{readAs}
 use Rattle.hmac_md5.specs.Hmac.{hmac}
-use Rattle.negotiate.specs.Negotiate.{readNegotiate}
-use Rattle.challenge.specs.Challenge.{readChallenge}
 use Rattle.authenticate.specs.declared.Reading.{Reading as AuthenticateReading}
 use Rattle.authenticate.specs.declared.Reading.the-variants.{Taken as AuthenticateTaken, Refused as AuthenticateRefused}
 use Rattle.authenticate.specs.Authenticate.{readAuthenticate}
@@ -42,8 +41,8 @@ authenticateVerdict (AuthenticateRefused e) = Not e
 unfoldable pub checkMessages : ℕ → List ℕ → List ℕ → List ℕ → Verdict
 checkMessages n nego chal auth =
     after (keyHolds n) (Not WrongSessionKey) (
-    onClear Not (negoVerdict (readNegotiate nego)) (
-    onClear Not (chalVerdict (readChallenge chal .reading))
+    onClear Not (readAs Negotiate nego) (
+    onClear Not (readAs Challenge chal)
     (authenticateVerdict (readAuthenticate auth .reading))))
 
 -- sixteen bytes, which are zeros where there is a refusal

@@ -6,14 +6,13 @@ ghost use Rattle.wire.specs.declared.check.Verdict.the-variants.{Clear, Refused
 ghost use Rattle.wire.specs.declared.refusal.Refusal.the-variants.{NoMic};
 ghost use Rattle.wire.specs.Check.{checked, after};
 ghost use Rattle.wire.specs.Number.{standsAt};
-ghost use Rattle.negotiate.specs.Negotiate.{readNegotiate};
-ghost use Rattle.challenge.specs.Challenge.{readChallenge};
 ghost use Rattle.authenticate.specs.Authenticate.{readAuthenticate};
 ghost use Rattle.md5.specs.State.{taken};
 ghost use Rattle.hmac_md5.specs.Hmac.{begun};
-ghost use Rattle.verdict.specs.Verdict.{negoVerdict, chalVerdict};
 ghost use Rattle.mic.specs.Mic.{zeroed, micOf, authenticateVerdict, checkMessages, workOut, checkMic};
+use head::Kind;
 use md5::state::State;
+use verdict::read_as;
 use wire::check::Checked;
 use wire::check::Verdict;
 use wire::check::check;
@@ -29,26 +28,6 @@ pub struct Worked {
 pub enum Checking {
     Compared(bool),
     Refused(Refusal),
-}
-
-fn negotiate_verdict(nego: &[u8]) -> Verdict
-    ensures { λ r. ⌜ r ≡ negoVerdict (readNegotiate (now (nego .entry))) ⌝ }
-{
-    let reading = negotiate::read(nego);
-    match reading {
-        negotiate::Reading::Taken(_) => Verdict::Clear,
-        negotiate::Reading::Refused(e) => Verdict::Refused(e),
-    }
-}
-
-fn challenge_verdict(chal: &[u8]) -> Verdict
-    ensures { λ r. ⌜ r ≡ chalVerdict (readChallenge (now (chal .entry)) .reading) ⌝ }
-{
-    let reading = challenge::read(chal).reading;
-    match reading {
-        challenge::Reading::Taken(_) => Verdict::Clear,
-        challenge::Reading::Refused(e) => Verdict::Refused(e),
-    }
 }
 
 // The AUTHENTICATE's reading refusals, and then check 56.
@@ -79,11 +58,11 @@ fn check_messages(size: usize, nego: &[u8], chal: &[u8], auth: &[u8]) -> Verdict
     let Checked::Held = check(size == 16) else {
         return Verdict::Refused(Refusal::WrongSessionKey);
     };
-    let first = negotiate_verdict(nego);
+    let first = read_as(Kind::Negotiate, nego);
     let Verdict::Clear = first else {
         return first;
     };
-    let second = challenge_verdict(chal);
+    let second = read_as(Kind::Challenge, chal);
     let Verdict::Clear = second else {
         return second;
     };

@@ -40,7 +40,7 @@ fn fields_at(msg: &[u8], flags: NegotiateFlags) -> Fields
 }
 
 // Check 6, over both fields of a message of `n` bytes.
-pub fn check_ends(f: Fields, n: u64) -> Verdict
+fn check_ends(f: Fields, n: u64) -> Verdict
     ensures { λ r. ⌜ r ≡ checkEnds n f ⌝ }
 {
     let Checked::Held = f.domain.ends_inside(n) else {
@@ -53,7 +53,7 @@ pub fn check_ends(f: Fields, n: u64) -> Verdict
 }
 
 // Check 7, over both fields.
-pub fn check_begins(f: Fields) -> Verdict
+fn check_begins(f: Fields) -> Verdict
     ensures { λ r. ⌜ r ≡ checkBegins f ⌝ }
 {
     let Checked::Held = f.domain.begins_after(32) else {
@@ -66,7 +66,7 @@ pub fn check_begins(f: Fields) -> Verdict
 }
 
 // Checks 6 and 7 on the fields of a message of `n` bytes.
-pub fn check_fields(f: Fields, n: u64) -> Verdict
+fn check_fields(f: Fields, n: u64) -> Verdict
     ensures { λ r. ⌜ r ≡ checkFields n f ⌝ }
 {
     let ends = check_ends(f, n);

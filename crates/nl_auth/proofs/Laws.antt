@@ -1,8 +1,7 @@
 -- Laws of NL_AUTH's chain of checks.
 use Prim.Native.Nat.{ℕ, _≤_}
-use mathlib.Core.Path.{_≡_, sym, subst, _∙_}
-use mathlib.Core.Logic.{_⊎_, inl, inr}
-use mathlib.Core.Bool.{cond}
+use mathlib.Core.Path.{_≡_, sym, _∙_}
+use mathlib.Core.Bool.{Bool, cond}
 use mathlib.Core.List.{List}
 use lib.Dec.{leb, eqb}
 use lib.ListN.{length, getD}
@@ -23,7 +22,7 @@ use Rattle.nl_auth.specs.declared.string.NlString.{NlString}
 use Rattle.nl_auth.specs.declared.string.Scan.{Scan}
 use Rattle.nl_auth.specs.declared.string.Scan.the-variants.{Found, Missing}
 use Rattle.nl_auth_flags.specs.Flags.{known}
-use Rattle.nl_auth.specs.NlAuth.{onFound, IsFound, onNamed, flagsAt, typeHolds, responseHolds, readRequest, readResponse}
+use Rattle.nl_auth.specs.NlAuth.{stringUnder, onFound, nameUnder, onNamed, scanRefusal, flagsAt, typeHolds, responseHolds, readRequest, readResponse}
 
 -- a string that was found: what follows decides; one that wasn't: its answer
 module _ {A : Type 0} (k r : Scan) (e : A) (x : NlString → ℕ → A) where
@@ -38,13 +37,19 @@ module _ (k r : NameScan) (x : NlString → ℕ → Reading) where
   pub name-found : (w : NlString) (n : ℕ) (y : Reading) → r ≡ k → r ≡ Named w n → y ≡ x w n → y ≡ onNamed k x
   name-found w n y p h z = simp (← p, h) z
 
-  pub name-refused : (e d : Refusal) → r ≡ k → r ≡ Not e → (r ≡ Not d) ⊎ IsFound r → Refused d ≡ onNamed k x
-  name-refused e d p h (inl q) = simp (← p, q)
-  name-refused e d p h (inr q) = absurd (subst IsFound h q)
+  pub name-refused : (e d : Refusal) → r ≡ k → r ≡ Not e → d ≡ scanRefusal r → Refused d ≡ onNamed k x
+  name-refused e d p h q = simp (← p, q, h)
 
-pub ruleset request = (chain, string-found, string-missing)
+-- the string of a bit d, whose question was answered by b
+pub string-asked : (s : List ℕ) (at : ℕ) (b d : Bool) (r : Scan) → b ≡ d → r ≡ stringUnder b s at → r ≡ stringUnder d s at
+string-asked s at b d r q e = rw (← q) e
 
-pub ruleset names = (chain, name-found, name-refused)
+pub name-asked : (s : List ℕ) (at n : ℕ) (b d : Bool) (r : NameScan) → b ≡ d → r ≡ nameUnder b s at n → r ≡ nameUnder d s at n
+name-asked s at n b d r q e = rw (← q) e
+
+pub ruleset request = (chain, string-found, string-missing, string-asked)
+
+pub ruleset names = (chain, name-found, name-refused, name-asked)
 
 pub flags-is : (s : List ℕ) (v : ℕ) (r : NlAuthFlags) → v ≡ u32At s 4 → r ≡ known (record { bits = v }) → r ≡ flagsAt s
 flags-is s v r p q = q ∙ simp p

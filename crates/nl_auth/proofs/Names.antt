@@ -12,6 +12,7 @@ use borrow.Author.Tests.{le-leb, lt-leb}
 use mir.Syntax.{w8, w16, w64}
 use mir.Val.{Fits}
 use Rattle.wire.specs.declared.refusal.Refusal.{Refusal}
+use Rattle.wire.specs.declared.refusal.Refusal.the-variants.{TooLong}
 use Rattle.dns_name.specs.declared.Fault.{Fault}
 use Rattle.dns_name.specs.declared.Name.{Name}
 use Rattle.dns_name.specs.declared.Reading.{Reading}
@@ -21,15 +22,24 @@ use Rattle.dns_name.proofs.Exact.{next-inside, next-after, few-jumps}
 use Rattle.nl_auth.specs.declared.string.NlString.{NlString}
 use Rattle.nl_auth.specs.declared.name.NameScan.{NameScan}
 use Rattle.nl_auth.specs.declared.name.NameScan.the-variants.{Found, Refused as Not}
-use Rattle.nl_auth.specs.NlAuth.{IsFound, noString, stringBytes, stringStart, bufferOf, inBuffer, refusalIn, nameString, onName, nameAt, nameUnder}
+use Rattle.nl_auth.specs.NlAuth.{noString, stringBytes, stringStart, bufferOf, inBuffer, refusalIn, readingRefusal, nameString, onName, nameAt, nameUnder, scanRefusal}
 
 -- what a variant tells
 pub refusal-is : (e v : Fault) (n : ℕ) (r : Refusal) → e ≡ v → r ≡ refusalIn v n → r ≡ refusalIn e n
 refusal-is e v n r p q = rw p q
 
+pub of-fault : (v : Reading) (e : Fault) (n : ℕ) (r : Refusal) → v ≡ Refused e → r ≡ refusalIn e n → r ≡ readingRefusal v n
+of-fault v e n r h q = rw h q
+
+pub of-none : (v : Reading) (m : Name) (n : ℕ) → v ≡ Taken m → TooLong ≡ readingRefusal v n
+of-none v m n h = rw h
+
 -- what a scan was found to be
-pub is-found : (v : NameScan) (w : NlString) (n : ℕ) → v ≡ Found w n → IsFound v
-is-found v w n h = subst IsFound (sym h) tt
+pub scan-refused : (v : NameScan) (e : Refusal) → v ≡ Not e → e ≡ scanRefusal v
+scan-refused v e h = rw h
+
+pub scan-found : (v : NameScan) (w : NlString) (n : ℕ) → v ≡ Found w n → TooLong ≡ scanRefusal v
+scan-found v w n h = rw h
 
 -- the buffer, as it is lent
 pub buffer-whole : (s : List ℕ) → take (length s - 8) (drop 8 s) ≡ bufferOf s
@@ -62,21 +72,21 @@ module _ (s : List ℕ) (at : ℕ) (r : Reading) (e : r ≡ readName (take (leng
     unfolding nameAt
     name-taken n = simp (← whole, h)
 
-  pub name-faulty : (f : Fault) (n : ℕ) (d : Refusal) → r ≡ Refused f → d ≡ refusalIn f n → Not d ≡ nameAt s at n
+  pub name-faulty : (f : Fault) (n : ℕ) (d : Refusal) → r ≡ Refused f → d ≡ readingRefusal r n → Not d ≡ nameAt s at n
   unfolding nameAt
-  name-faulty f n d h q = simp (← whole, h, q)
+  name-faulty f n d h q = simp (← whole, q, h)
 
 pub ruleset named = (end-fits, end-behind, len-fits, jumps-fit, name-taken, name-faulty)
 
--- the string of a bit d, by what the bit was told to be
-module _ (s : List ℕ) (at n : ℕ) (b d : Bool) (q : b ≡ d) where
-  pub under-set : (r : NameScan) → b ≡ true → r ≡ nameAt s at n → r ≡ nameUnder d s at n
+-- the string of a bit, by what it was told to be
+module _ (s : List ℕ) (at n : ℕ) (set : Bool) where
+  pub under-set : (r : NameScan) → set ≡ true → r ≡ nameAt s at n → r ≡ nameUnder set s at n
   unfolding nameUnder
-  under-set r h e = rw (← q, h) e
+  under-set r h e = rw h e
 
-  pub under-clear : b ≡ false → Found noString at ≡ nameUnder d s at n
+  pub under-clear : set ≡ false → Found noString at ≡ nameUnder set s at n
   unfolding nameUnder
-  under-clear h = rw (← q, h)
+  under-clear h = rw h
 
 pub ruleset under = (under-set, under-clear)
 

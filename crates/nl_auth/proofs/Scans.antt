@@ -55,15 +55,15 @@ module _ (s : List ℕ) (at n : ℕ) (e : n ≡ beforeZero (take (length s - at)
   unfolding stringAt
   missing h = simp (← count, le-ltb n (length (drop at s)) (rw (rest s at) at h))
 
--- the string of a bit d, by what the bit was told to be
-module _ (s : List ℕ) (at : ℕ) (b d : Bool) (q : b ≡ d) where
-  pub under-set : (r : Scan) → b ≡ true → r ≡ stringAt s at → r ≡ stringUnder d s at
+-- the string of a bit, by what it was told to be
+module _ (s : List ℕ) (at : ℕ) (set : Bool) where
+  pub under-set : (r : Scan) → set ≡ true → r ≡ stringAt s at → r ≡ stringUnder set s at
   unfolding stringUnder
-  under-set r h e = rw (← q, h) e
+  under-set r h e = rw h e
 
-  pub under-clear : b ≡ false → Found noString at ≡ stringUnder d s at
+  pub under-clear : set ≡ false → Found noString at ≡ stringUnder set s at
   unfolding stringUnder
-  under-clear h = rw (← q, h)
+  under-clear h = rw h
 
 pub ruleset scanned = (found, missing, under-set, under-clear)
 

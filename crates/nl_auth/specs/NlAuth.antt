@@ -92,6 +92,10 @@ abbrev pub onName : {A : Type 0} → NameReading → (Name → A) → (Fault →
 onName (Read m) x f = x m
 onName (Faulty e) x f = f e
 
+-- the refusal of a name in string n; of one that was taken, which has no fault, 1
+abbrev pub readingRefusal : NameReading → ℕ → Refusal
+readingRefusal r n = onName r (λ m. TooLong) (λ e. refusalIn e n)
+
 -- string n from a place of the message on
 unfoldable pub nameAt : List ℕ → ℕ → ℕ → NameScan
 nameAt s at n =
@@ -101,14 +105,15 @@ nameAt s at n =
 unfoldable pub nameUnder : Bool → List ℕ → ℕ → ℕ → NameScan
 nameUnder set s at n = cond set (nameAt s at n) (Named noString at)
 
-abbrev pub IsFound : NameScan → Type 0
-IsFound (Named string next) = Unit
-IsFound (Not e) = ⊥
-
 -- a string's own refusal, and else what x makes of the string
 abbrev pub onNamed : NameScan → (NlString → ℕ → Reading) → Reading
 onNamed (Named string next) x = x string next
 onNamed (Not e) x = Refused e
+
+-- a string's own refusal; of one that was found, which has none, 1
+abbrev pub scanRefusal : NameScan → Refusal
+scanRefusal (Named string next) = TooLong
+scanRefusal (Not e) = e
 
 -- the labels of a string that was taken
 abbrev pub labelsOf : List ℕ → NlString → List (List ℕ)

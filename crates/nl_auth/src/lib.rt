@@ -80,15 +80,15 @@ fn read_utf8(
     requires { ⌜ (8 ≤ at) × ((at ≤ length (now msg)) × (length (now msg) ≤ 65535)) ⌝ }
     ensures { λ r. ⌜ r ≡ readUtf8 flags (now (msg .entry)) «nb_domain» «nb_computer» at ⌝ }
 {
-    let c = name_under(msg, at, flags, NlAuthFlags::DNS_DOMAIN, 3);
+    let c = name_under(msg, at, flags.dns_domain(), 3);
     let NameScan::Found(dns_domain, at) = c else {
         return Reading::Refused(c.refusal());
     };
-    let d = name_under(msg, at, flags, NlAuthFlags::DNS_HOST, 4);
+    let d = name_under(msg, at, flags.dns_host(), 4);
     let NameScan::Found(dns_host, at) = d else {
         return Reading::Refused(d.refusal());
     };
-    let e = name_under(msg, at, flags, NlAuthFlags::UTF8_COMPUTER, 5);
+    let e = name_under(msg, at, flags.utf8_computer(), 5);
     let NameScan::Found(utf8_computer, at) = e else {
         return Reading::Refused(e.refusal());
     };
@@ -116,10 +116,10 @@ fn read_request(msg: &[u8], flags: NlAuthFlags) -> Reading
     let Checked::Held = flags.strings_hold() else {
         return Reading::Refused(Refusal::NoStrings);
     };
-    let Scan::Found(nb_domain, at) = string_under(msg, 8, flags, NlAuthFlags::NB_DOMAIN) else {
+    let Scan::Found(nb_domain, at) = string_under(msg, 8, flags.nb_domain()) else {
         return Reading::Refused(Refusal::Unterminated(1));
     };
-    let Scan::Found(nb_computer, at) = string_under(msg, at, flags, NlAuthFlags::NB_COMPUTER) else {
+    let Scan::Found(nb_computer, at) = string_under(msg, at, flags.nb_computer()) else {
         return Reading::Refused(Refusal::Unterminated(2));
     };
     read_utf8(msg, flags, nb_domain, nb_computer, at)

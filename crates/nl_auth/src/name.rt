@@ -1,18 +1,13 @@
 // Strings C, D and E: names by RFC 1035 in the buffer, which starts at byte 8 of the message.
 ghost use mathlib.Core.Path.{_≡_};
-ghost use mathlib.Core.Logic.{_⊎_};
-ghost use Prim.Native.Nat.{_≤_, _<_, min};
+ghost use Prim.Native.Nat.{_≤_, min};
 ghost use lib.ListN.{length};
-ghost use Rattle.wire.specs.Number.{has};
 ghost use Rattle.field.specs.Field.{PartAt};
-ghost use Rattle.nl_auth.specs.declared.name.NameScan.the-variants.{Refused};
-ghost use Rattle.nl_auth.specs.NlAuth.{bufferOf, inBuffer, IsFound, refusalIn, nameAt, nameUnder};
+ghost use Rattle.nl_auth.specs.NlAuth.{bufferOf, inBuffer, refusalIn, readingRefusal, nameAt, nameUnder, scanRefusal};
 use crate::string::NlString;
 use dns_name::Fault;
 use dns_name::Reading;
 use dns_name::read_name;
-use nl_auth_flags::NlAuthFlags;
-use wire::number::has;
 use wire::refusal::Refusal;
 
 // The buffer of a message; of one that is too short for it, the empty part at its end.
@@ -44,9 +39,9 @@ pub enum NameScan {
 }
 
 impl NameScan {
-    // The refusal of a string that was refused; callers ask for it only then.
+    // The refusal of a string that was refused; of one that was found, which has none, 1.
     pub(crate) fn refusal(self) -> Refusal
-        ensures { λ r. ⌜ (self ≡ Refused r) ⊎ IsFound self ⌝ }
+        ensures { λ r. ⌜ r ≡ scanRefusal self ⌝ }
     {
         match self {
             NameScan::Refused(e) => e,
@@ -68,31 +63,40 @@ fn refusal_in(e: Fault, n: u8) -> Refusal
     }
 }
 
+// The same of a name that was refused; of one that was taken, which has no fault, 1.
+fn reading_refusal(reading: Reading, n: u8) -> Refusal
+    ensures { λ r. ⌜ r ≡ readingRefusal reading n ⌝ }
+{
+    match reading {
+        Reading::Refused(e) => refusal_in(e, n),
+        Reading::Taken(_) => Refusal::TooLong,
+    }
+}
+
 // String `n`, whose name starts at `at`.
 fn name_at(msg: &[u8], at: usize, n: u8) -> NameScan
     requires { ⌜ (8 ≤ at) × ((at ≤ length (now msg)) × (length (now msg) ≤ 65535)) ⌝ }
     ensures { λ r. ⌜ r ≡ nameAt (now (msg .entry)) at n ⌝ }
 {
-    match read_name(&msg[8..], at - 8) {
-        Reading::Taken(m) => {
-            let end = 8 + m.next;
-            let string = NlString {
-                offset: at as u32,
-                len: (end - at) as u16,
-                jumps: m.jumps as u8,
-            };
-            NameScan::Found(string, end)
-        }
-        Reading::Refused(e) => NameScan::Refused(refusal_in(e, n)),
-    }
+    let reading = read_name(&msg[8..], at - 8);
+    let Reading::Taken(m) = reading else {
+        return NameScan::Refused(reading_refusal(reading, n));
+    };
+    let end = 8 + m.next;
+    let string = NlString {
+        offset: at as u32,
+        len: (end - at) as u16,
+        jumps: m.jumps as u8,
+    };
+    NameScan::Found(string, end)
 }
 
 // The string `n` of a bit, which stands at `at` if the bit is set.
-pub(crate) fn name_under(msg: &[u8], at: usize, flags: NlAuthFlags, mask: u32, n: u8) -> NameScan
-    requires { ⌜ (0 < mask) × ((8 ≤ at) × ((at ≤ length (now msg)) × (length (now msg) ≤ 65535))) ⌝ }
-    ensures { λ r. ⌜ r ≡ nameUnder (has (flags .bits) mask) (now (msg .entry)) at n ⌝ }
+pub(crate) fn name_under(msg: &[u8], at: usize, set: bool, n: u8) -> NameScan
+    requires { ⌜ (8 ≤ at) × ((at ≤ length (now msg)) × (length (now msg) ≤ 65535)) ⌝ }
+    ensures { λ r. ⌜ r ≡ nameUnder set (now (msg .entry)) at n ⌝ }
 {
-    if has(flags.bits, mask) {
+    if set {
         return name_at(msg, at, n);
     }
     let none = NlString {

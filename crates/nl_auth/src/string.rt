@@ -1,12 +1,9 @@
 // One string of an NL_AUTH message, and strings A and B: the bytes up to the first zero byte.
 ghost use mathlib.Core.Path.{_≡_};
-ghost use Prim.Native.Nat.{_≤_, _<_};
+ghost use Prim.Native.Nat.{_≤_};
 ghost use lib.ListN.{length};
-ghost use Rattle.wire.specs.Number.{has};
 ghost use Rattle.field.specs.Field.{PartAt};
 ghost use Rattle.nl_auth.specs.NlAuth.{stringBytes, stringStart, beforeZero, stringAt, stringUnder};
-use nl_auth_flags::NlAuthFlags;
-use wire::number::has;
 
 // Where a string stands in its message, and how many jumps were taken in reading it. One that isn't there has 0 in all three.
 pub struct NlString {
@@ -69,11 +66,11 @@ fn string_at(msg: &[u8], at: usize) -> Scan
 }
 
 // The string of a bit, which stands at `at` if the bit is set.
-pub(crate) fn string_under(msg: &[u8], at: usize, flags: NlAuthFlags, mask: u32) -> Scan
-    requires { ⌜ (0 < mask) × (at ≤ length (now msg)) × (length (now msg) ≤ 65535) ⌝ }
-    ensures { λ r. ⌜ r ≡ stringUnder (has (flags .bits) mask) (now (msg .entry)) at ⌝ }
+pub(crate) fn string_under(msg: &[u8], at: usize, set: bool) -> Scan
+    requires { ⌜ (at ≤ length (now msg)) × (length (now msg) ≤ 65535) ⌝ }
+    ensures { λ r. ⌜ r ≡ stringUnder set (now (msg .entry)) at ⌝ }
 {
-    if has(flags.bits, mask) {
+    if set {
         return string_at(msg, at);
     }
     let none = NlString {

@@ -1,12 +1,9 @@
 // The text of an NL_AUTH string, as the message's line has it.
 ghost use mathlib.Core.Path.{_≡_};
-ghost use mathlib.Core.Bool.{_&&_};
-ghost use Prim.Native.Nat.{_-_, _<_};
-ghost use lib.Dec.{eqb};
+ghost use Prim.Native.Nat.{_-_};
 ghost use lib.ListN.{length};
 ghost use Rattle.place.specs.Place.{Wrote};
 ghost use Rattle.place.specs.Written.{bytesAnswer, bytesAfter};
-ghost use Rattle.wire.specs.Number.{has};
 ghost use Rattle.word.specs.Words.{Room};
 ghost use Rattle.nl_auth_text.specs.StringText.{oemText, utf8Text, utf8Numbered, stringText, textAnswer, textAfter};
 use dns_name_text::name_size;
@@ -15,13 +12,11 @@ use nl_auth::Reading;
 use nl_auth::name::buffer;
 use nl_auth::name::in_buffer;
 use nl_auth::string::NlString;
-use nl_auth_flags::NlAuthFlags;
 use place::Place;
 use place::written::Written;
 use place::written::room_after;
 use place::written::room_holds;
 use wire::check::Checked;
-use wire::number::has;
 use wire::refusal::Refusal;
 use word::name::put_name;
 use word::name::room_after_name;
@@ -95,26 +90,19 @@ fn write_utf8(out: &mut [u8], msg: &[u8], string: NlString) -> Written
     Written::Length(p.at)
 }
 
-// Whether string `n` is asked for, and there.
-fn is_asked(which: u32, n: u32, flags: NlAuthFlags, mask: u32) -> bool
-    requires { ⌜ 0 < mask ⌝ }
-    ensures { λ r. ⌜ r ≡ (eqb which n && has (flags .bits) mask) ⌝ }
-{
-    (which == n) & has(flags.bits, mask)
-}
-
+// The one that is asked for, if it is there.
 fn write_utf8_numbered(out: &mut [u8], msg: &[u8], m: NlAuth, which: u32) -> Written
     ensures answer { λ r. ⌜ r ≡ bytesAnswer (utf8Numbered (now (msg .entry)) m which) (now (out .entry)) ⌝ }
     ensures content { λ _. ⌜ now (out .exit) ≡ bytesAfter (utf8Numbered (now (msg .entry)) m which) (now (out .entry)) ⌝ }
 {
     let s = m.strings;
-    if is_asked(which, 3, m.flags, NlAuthFlags::DNS_DOMAIN) {
+    if (which == 3) & m.flags.dns_domain() {
         return write_utf8(out, msg, s.dns_domain);
     }
-    if is_asked(which, 4, m.flags, NlAuthFlags::DNS_HOST) {
+    if (which == 4) & m.flags.dns_host() {
         return write_utf8(out, msg, s.dns_host);
     }
-    if is_asked(which, 5, m.flags, NlAuthFlags::UTF8_COMPUTER) {
+    if (which == 5) & m.flags.utf8_computer() {
         return write_utf8(out, msg, s.utf8_computer);
     }
     Written::Length(0)
@@ -125,10 +113,10 @@ fn write_numbered(out: &mut [u8], msg: &[u8], m: NlAuth, which: u32) -> Written
     ensures content { λ _. ⌜ now (out .exit) ≡ bytesAfter (stringText (now (msg .entry)) m which) (now (out .entry)) ⌝ }
 {
     let s = m.strings;
-    if is_asked(which, 1, m.flags, NlAuthFlags::NB_DOMAIN) {
+    if (which == 1) & m.flags.nb_domain() {
         return write_oem(out, msg, s.nb_domain);
     }
-    if is_asked(which, 2, m.flags, NlAuthFlags::NB_COMPUTER) {
+    if (which == 2) & m.flags.nb_computer() {
         return write_oem(out, msg, s.nb_computer);
     }
     write_utf8_numbered(out, msg, m, which)

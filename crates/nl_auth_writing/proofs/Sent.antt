@@ -2,7 +2,7 @@
 use Prim.Native.Nat.{ℕ, _+_, _-_, _^_, _≤_, _<_, min}
 use mathlib.Core.Path.{_≡_, refl, sym, ap, _∙_}
 use mathlib.Core.Bool.{Bool, true, false, not}
-use mathlib.Core.List.{List, [], _∷_}
+use mathlib.Core.List.{List, [], _∷_, _++_, append-assoc}
 use native.Mathlib.Nat.{add-zero}
 use native.Mathlib.Omega.{arith}
 use lib.Dec.{leb, ltb}
@@ -31,11 +31,11 @@ use Rattle.nl_auth.specs.NlAuth.{beforeZero}
 use Rattle.dns_name_writing.specs.Writing.{nameBytes, textHolds, codedHolds}
 use Rattle.nl_auth_writing.specs.Writing.{headBytes, stringBytes, bytesUnder, nameUnder, utf8Bytes, requestBytes, responseBytes, noZero, checkZeros, labelsUnder, checkLabels, codedUnder, checkCoded, checkNames, checkRequest, requestAnswer, requestOut}
 
--- the string of a bit d that was told to be set
-module _ (s : List ℕ) (b d : Bool) (q : b ≡ d) (h : b ≡ true) where
+-- the string of a bit that was told to be set
+module _ (s : List ℕ) (d : Bool) (h : d ≡ true) where
   set-bytes : bytesUnder d s ≡ stringBytes s
   unfolding bytesUnder
-  set-bytes = rw (← q, h)
+  set-bytes = rw h
 
   set-length : length (bytesUnder d s) ≡ length s + 1
   unfolding stringBytes
@@ -51,13 +51,13 @@ module _ (s : List ℕ) (b d : Bool) (q : b ≡ d) (h : b ≡ true) where
   set-size n m r e f = omega (arith, set-length)
 
   pub set-zero : (n : ℕ) (r : Checked) → n ≡ beforeZero s → r ≡ checked (not (ltb n (length s))) → r ≡ noZero (d, s)
-  set-zero n r e f = f ∙ simp (← q, h, e)
+  set-zero n r e f = f ∙ simp (h, e)
 
 -- and of one that was told to be clear
-module _ (s : List ℕ) (b d : Bool) (q : b ≡ d) (h : b ≡ false) where
+module _ (s : List ℕ) (d : Bool) (h : d ≡ false) where
   clear-bytes : bytesUnder d s ≡ []
   unfolding bytesUnder
-  clear-bytes = rw (← q, h)
+  clear-bytes = rw h
 
   pub clear-wrote : (l : List ℕ) (i : ℕ) → Wrote l l i i (bytesUnder d s)
   clear-wrote l i = rw clear-bytes (nothing l i)
@@ -66,13 +66,13 @@ module _ (s : List ℕ) (b d : Bool) (q : b ≡ d) (h : b ≡ false) where
   clear-size n l = simp (clear-bytes, add-zero) (omega arith)
 
   pub clear-zero : Held ≡ noZero (d, s)
-  clear-zero = simp (← q, h)
+  clear-zero = simp h
 
--- the name of a bit d that was told to be set
-module _ (s : List ℕ) (b d : Bool) (q : b ≡ d) (h : b ≡ true) where
+-- the name of a bit that was told to be set
+module _ (s : List ℕ) (d : Bool) (h : d ≡ true) where
   set-name : nameUnder d s ≡ nameBytes s
   unfolding nameUnder
-  set-name = rw (← q, h)
+  set-name = rw h
 
   pub set-name-room : (l : List ℕ) (at : ℕ) → at + length (nameUnder d s) ≤ length l → 0 + length (nameBytes s) ≤ length (take (length l - at) (drop at l))
   set-name-room l at r = simp (length-take, length-drop) (omega (arith, ap length set-name))
@@ -88,21 +88,21 @@ module _ (s : List ℕ) (b d : Bool) (q : b ≡ d) (h : b ≡ true) where
 
   pub set-labels : (r : Checked) → r ≡ textHolds s → r ≡ labelsUnder (d, s)
   unfolding labelsUnder
-  set-labels r e = rw (← q, h) e
+  set-labels r e = rw h e
 
   pub set-held : labelsUnder (d, s) ≡ Held → textHolds s ≡ Held
   unfolding labelsUnder
-  set-held e = rw (← q, h) at e
+  set-held e = rw h at e
 
   pub set-coded : (r : Checked) → r ≡ codedHolds s → r ≡ codedUnder (d, s)
   unfolding codedUnder
-  set-coded r e = rw (← q, h) e
+  set-coded r e = rw h e
 
 -- and of one that was told to be clear
-module _ (s : List ℕ) (b d : Bool) (q : b ≡ d) (h : b ≡ false) where
+module _ (s : List ℕ) (d : Bool) (h : d ≡ false) where
   clear-name : nameUnder d s ≡ []
   unfolding nameUnder
-  clear-name = rw (← q, h)
+  clear-name = rw h
 
   pub clear-name-wrote : (l : List ℕ) (i : ℕ) → Wrote l l i i (nameUnder d s)
   clear-name-wrote l i = rw clear-name (nothing l i)
@@ -112,11 +112,25 @@ module _ (s : List ℕ) (b d : Bool) (q : b ≡ d) (h : b ≡ false) where
 
   pub clear-labels : Held ≡ labelsUnder (d, s)
   unfolding labelsUnder
-  clear-labels = rw (← q, h)
+  clear-labels = rw h
 
   pub clear-coded : Held ≡ codedUnder (d, s)
   unfolding codedUnder
-  clear-coded = rw (← q, h)
+  clear-coded = rw h
+
+-- the string of a bit d, whose question was answered by b
+module _ (s : List ℕ) (b d : Bool) (q : b ≡ d) where
+  pub asked-zero : (r : Checked) → r ≡ noZero (b, s) → r ≡ noZero (d, s)
+  asked-zero r e = rw (← q) e
+
+  pub asked-labels : (r : Checked) → r ≡ labelsUnder (b, s) → r ≡ labelsUnder (d, s)
+  asked-labels r e = rw (← q) e
+
+  pub asked-coded : (r : Checked) → r ≡ codedUnder (b, s) → r ≡ codedUnder (d, s)
+  asked-coded r e = rw (← q) e
+
+  pub asked-held : labelsUnder (d, s) ≡ Held → labelsUnder (b, s) ≡ Held
+  asked-held e = rw q e
 
 -- check 50 held for each of C, D and E
 first-held : (k : Checked) (e : Refusal) (x : Verdict) → after k (Refused e) x ≡ Clear → (k ≡ Held) × (x ≡ Clear)
@@ -156,15 +170,64 @@ module _ (flags : NlAuthFlags) (a b c d e : List ℕ) where
   unfolding requestBytes utf8Bytes
   length-request = simp (length-append, length-head)
 
-  -- the strings' lengths, counted one by one
-  pub size-is : (k l m n r : ℕ) →
-      k ≡ min 65536 (8 + length (bytesUnder (nbDomain flags) a)) →
-      l ≡ min 65536 (k + length (bytesUnder (nbComputer flags) b)) →
-      m ≡ min 65536 (l + length (nameUnder (dnsDomain flags) c)) →
-      n ≡ min 65536 (m + length (nameUnder (dnsHost flags) d)) →
-      r ≡ min 65536 (n + length (nameUnder (utf8Computer flags) e)) →
-      r ≡ min 65536 (length (requestBytes flags a b c d e))
-  size-is k l m n r p q s t u = omega (arith, length-request)
+  -- its strings, by the answers v to z to their bits' questions
+  module _ (v w x y z : Bool) (p : v ≡ nbDomain flags) (q : w ≡ nbComputer flags) (r : x ≡ dnsDomain flags) (s : y ≡ dnsHost flags) (t : z ≡ utf8Computer flags) where
+    answered-size : requestSize ≡ 8 + (length (bytesUnder v a) + (length (bytesUnder w b) + (length (nameUnder x c) + (length (nameUnder y d) + length (nameUnder z e)))))
+    answered-size = rw (p, q, r, s, t)
+
+    -- their lengths, counted one by one
+    pub size-is : (k l m n o : ℕ) →
+        k ≡ min 65536 (8 + length (bytesUnder v a)) →
+        l ≡ min 65536 (k + length (bytesUnder w b)) →
+        m ≡ min 65536 (l + length (nameUnder x c)) →
+        n ≡ min 65536 (m + length (nameUnder y d)) →
+        o ≡ min 65536 (n + length (nameUnder z e)) →
+        o ≡ min 65536 (length (requestBytes flags a b c d e))
+    size-is k l m n o f g h i j = omega (arith, length-request, answered-size)
+
+-- strings after one another, by the answers to their bits' questions: room for each, and what they come to
+module _ (flags : NlAuthFlags) (a b l : List ℕ) (i : ℕ) (room : i + (length (bytesUnder (nbDomain flags) a) + length (bytesUnder (nbComputer flags) b)) ≤ length l)
+    (v : Bool) (p : v ≡ nbDomain flags) where
+  pub room-a : i + length (bytesUnder v a) ≤ length l
+  room-a = rw p (omega arith)
+
+  module _ (k : List ℕ) (j : ℕ) (u : Wrote l k i j (bytesUnder v a)) (w : Bool) (q : w ≡ nbComputer flags) where
+    pub room-b : j + length (bytesUnder w b) ≤ length k
+    room-b = rw q (omega (arith, (rw p at u) .place, kept l k _ i j u))
+
+    module _ (m : List ℕ) (n : ℕ) (x : Wrote k m j n (bytesUnder w b)) where
+      pub oem-wrote : Wrote l m i n (bytesUnder (nbDomain flags) a ++ bytesUnder (nbComputer flags) b)
+      oem-wrote = rw (← p, ← q) (and-then l k m _ _ i j n u x)
+
+      pub oem-next : n ≡ i + (length (bytesUnder (nbDomain flags) a) + length (bytesUnder (nbComputer flags) b))
+      oem-next = omega (arith, (rw p at u) .place, (rw q at x) .place)
+
+module _ (flags : NlAuthFlags) (c d e l : List ℕ) (i : ℕ)
+    (room : i + (length (nameUnder (dnsDomain flags) c) + (length (nameUnder (dnsHost flags) d) + length (nameUnder (utf8Computer flags) e))) ≤ length l)
+    (x : Bool) (p : x ≡ dnsDomain flags) where
+  pub room-c : i + length (nameUnder x c) ≤ length l
+  room-c = rw p (omega arith)
+
+  module _ (k : List ℕ) (j : ℕ) (u : Wrote l k i j (nameUnder x c)) (y : Bool) (q : y ≡ dnsHost flags) where
+    pub room-d : j + length (nameUnder y d) ≤ length k
+    room-d = rw q (omega (arith, (rw p at u) .place, kept l k _ i j u))
+
+    module _ (m : List ℕ) (n : ℕ) (v : Wrote k m j n (nameUnder y d)) (z : Bool) (s : z ≡ utf8Computer flags) where
+      pub room-e : n + length (nameUnder z e) ≤ length m
+      room-e = rw s (omega (arith, (rw p at u) .place, (rw q at v) .place, kept l k _ i j u, kept k m _ j n v))
+
+      pub names-wrote : (o : List ℕ) (r : ℕ) → Wrote m o n r (nameUnder z e) → Wrote l o i r (utf8Bytes flags c d e)
+      unfolding utf8Bytes
+      names-wrote o r w = rw (← p, ← q, ← s) (and-then l k o _ _ i j r u (and-then k m o _ _ j n r v w))
+
+-- the head, the OEM strings and the UTF-8 strings
+pub request-wrote : (flags : NlAuthFlags) (a b c d e l h k m : List ℕ) (i j n : ℕ) → Wrote l h 0 i (headBytes 0 flags) →
+    Wrote h k i j (bytesUnder (nbDomain flags) a ++ bytesUnder (nbComputer flags) b) → Wrote k m j n (utf8Bytes flags c d e) →
+    Wrote l m 0 n (requestBytes flags a b c d e)
+unfolding requestBytes
+request-wrote flags a b c d e l h k m i j n u v w =
+    and-then l h m _ _ 0 i n u
+    (rw (← append-assoc (bytesUnder (nbDomain flags) a) (bytesUnder (nbComputer flags) b) (utf8Bytes flags c d e)) (and-then h k m _ _ i j n v w))
 
 -- ---- the checks
 

@@ -56,23 +56,20 @@ responseBytes = headBytes 1 noFlags ++ (0 ∷ [])
 
 -- ---- the checks
 
+-- strings C to E with their bits, C first
+abbrev pub names : NlAuthFlags → List ℕ → List ℕ → List ℕ → List (ℕ × (Bool × List ℕ))
+names flags c d e = (3, (dnsDomain flags, c)) ∷ (4, (dnsHost flags, d)) ∷ (5, (utf8Computer flags, e)) ∷ []
+
 -- check 34 at one string: a set bit's string holds no zero byte
 abbrev pub noZero : Bool × List ℕ → Checked
 noZero x = checked (not (x .0 && holdsZero (x .1)))
 
--- check 34, A first
-unfoldable pub checkZeros : NlAuthFlags → List ℕ → List ℕ → List ℕ → List ℕ → List ℕ → Verdict
-checkZeros flags a b c d e =
-    overAll noZero ZeroInString
-    ((1, (nbDomain flags, a)) ∷
-    (2, (nbComputer flags, b)) ∷
-    (3, (dnsDomain flags, c)) ∷
-    (4, (dnsHost flags, d)) ∷
-    (5, (utf8Computer flags, e)) ∷ [])
+-- check 34, A first, and its part over C to E
+unfoldable pub checkNameZeros : NlAuthFlags → List ℕ → List ℕ → List ℕ → Verdict
+checkNameZeros flags c d e = overAll noZero ZeroInString (names flags c d e)
 
--- strings C to E with their bits, C first
-abbrev pub names : NlAuthFlags → List ℕ → List ℕ → List ℕ → List (ℕ × (Bool × List ℕ))
-names flags c d e = (3, (dnsDomain flags, c)) ∷ (4, (dnsHost flags, d)) ∷ (5, (utf8Computer flags, e)) ∷ []
+unfoldable pub checkZeros : NlAuthFlags → List ℕ → List ℕ → List ℕ → List ℕ → List ℕ → Verdict
+checkZeros flags a b c d e = overAll noZero ZeroInString ((1, (nbDomain flags, a)) ∷ (2, (nbComputer flags, b)) ∷ names flags c d e)
 
 -- check 50 at one string: the labels of a set bit's string have 1 to 63 bytes
 unfoldable pub labelsUnder : Bool × List ℕ → Checked

@@ -1,14 +1,14 @@
 // NL_AUTH_MESSAGE (MS-NRPC 2.2.1.3.1): writing. The strings of bits A to E are lent as `a` to `e`;
 // C, D and E are texts, written as names by RFC 1035.
 ghost use mathlib.Core.Path.{_≡_};
-ghost use Prim.Native.Nat.{_+_, _≤_, _<_, min};
+ghost use mathlib.Core.List.{_++_};
+ghost use Prim.Native.Nat.{_+_, _≤_, min};
 ghost use lib.ListN.{length};
 ghost use Rattle.wire.specs.declared.check.Checked.the-variants.{Held};
 ghost use Rattle.wire.specs.declared.check.Verdict.the-variants.{Clear};
 ghost use Rattle.place.specs.Place.{Wrote};
-ghost use Rattle.wire.specs.Number.{has};
 ghost use Rattle.nl_auth_flags.specs.Flags.{nbDomain, nbComputer, dnsDomain, dnsHost, utf8Computer, known};
-ghost use Rattle.nl_auth_writing.specs.Writing.{headBytes, stringBytes, bytesUnder, nameUnder, utf8Bytes, requestBytes, noZero, checkZeros, labelsUnder, checkLabels, codedUnder, checkCoded, checkNames, checkRequest, requestAnswer, requestOut, responseAnswer, responseOut};
+ghost use Rattle.nl_auth_writing.specs.Writing.{headBytes, stringBytes, bytesUnder, nameUnder, utf8Bytes, requestBytes, noZero, checkNameZeros, checkZeros, labelsUnder, checkLabels, codedUnder, checkCoded, checkNames, checkRequest, requestAnswer, requestOut, responseAnswer, responseOut};
 use dns_name_writing::coded_holds;
 use dns_name_writing::coded_size;
 use dns_name_writing::put_name;
@@ -24,48 +24,52 @@ use place::written::size_holds;
 use wire::check::Checked;
 use wire::check::Verdict;
 use wire::check::check;
-use wire::number::has;
 use wire::refusal::Refusal;
 
-// Check 34 at the string of a bit. Where the bit is clear the string isn't looked at.
-fn no_zero(flags: NlAuthFlags, mask: u32, string: &[u8]) -> Checked
-    requires { ⌜ 0 < mask ⌝ }
-    ensures { λ r. ⌜ r ≡ noZero (has (flags .bits) mask, now (string .entry)) ⌝ }
+// Check 34 at the string of a bit. Where the bit isn't set the string isn't looked at.
+fn no_zero(set: bool, string: &[u8]) -> Checked
+    ensures { λ r. ⌜ r ≡ noZero (set, now (string .entry)) ⌝ }
 {
-    if has(flags.bits, mask) {
+    if set {
         return check(!(before_zero(string) < string.len()));
     }
     Checked::Held
+}
+
+// Check 34 over C to E.
+fn check_name_zeros(flags: NlAuthFlags, c: &[u8], d: &[u8], e: &[u8]) -> Verdict
+    ensures { λ r. ⌜ r ≡ checkNameZeros flags (now (c .entry)) (now (d .entry)) (now (e .entry)) ⌝ }
+{
+    let Checked::Held = no_zero(flags.dns_domain(), c) else {
+        return Verdict::Refused(Refusal::ZeroInString(3));
+    };
+    let Checked::Held = no_zero(flags.dns_host(), d) else {
+        return Verdict::Refused(Refusal::ZeroInString(4));
+    };
+    let Checked::Held = no_zero(flags.utf8_computer(), e) else {
+        return Verdict::Refused(Refusal::ZeroInString(5));
+    };
+    Verdict::Clear
 }
 
 // Check 34, A first.
 fn check_zeros(flags: NlAuthFlags, a: &[u8], b: &[u8], c: &[u8], d: &[u8], e: &[u8]) -> Verdict
     ensures { λ r. ⌜ r ≡ checkZeros flags (now (a .entry)) (now (b .entry)) (now (c .entry)) (now (d .entry)) (now (e .entry)) ⌝ }
 {
-    let Checked::Held = no_zero(flags, NlAuthFlags::NB_DOMAIN, a) else {
+    let Checked::Held = no_zero(flags.nb_domain(), a) else {
         return Verdict::Refused(Refusal::ZeroInString(1));
     };
-    let Checked::Held = no_zero(flags, NlAuthFlags::NB_COMPUTER, b) else {
+    let Checked::Held = no_zero(flags.nb_computer(), b) else {
         return Verdict::Refused(Refusal::ZeroInString(2));
     };
-    let Checked::Held = no_zero(flags, NlAuthFlags::DNS_DOMAIN, c) else {
-        return Verdict::Refused(Refusal::ZeroInString(3));
-    };
-    let Checked::Held = no_zero(flags, NlAuthFlags::DNS_HOST, d) else {
-        return Verdict::Refused(Refusal::ZeroInString(4));
-    };
-    let Checked::Held = no_zero(flags, NlAuthFlags::UTF8_COMPUTER, e) else {
-        return Verdict::Refused(Refusal::ZeroInString(5));
-    };
-    Verdict::Clear
+    check_name_zeros(flags, c, d, e)
 }
 
 // Check 50 at the string of a bit.
-fn labels_under(flags: NlAuthFlags, mask: u32, text: &[u8]) -> Checked
-    requires { ⌜ 0 < mask ⌝ }
-    ensures { λ r. ⌜ r ≡ labelsUnder (has (flags .bits) mask, now (text .entry)) ⌝ }
+fn labels_under(set: bool, text: &[u8]) -> Checked
+    ensures { λ r. ⌜ r ≡ labelsUnder (set, now (text .entry)) ⌝ }
 {
-    if has(flags.bits, mask) {
+    if set {
         return text_holds(text);
     }
     Checked::Held
@@ -75,24 +79,23 @@ fn labels_under(flags: NlAuthFlags, mask: u32, text: &[u8]) -> Checked
 fn check_labels(flags: NlAuthFlags, c: &[u8], d: &[u8], e: &[u8]) -> Verdict
     ensures { λ r. ⌜ r ≡ checkLabels flags (now (c .entry)) (now (d .entry)) (now (e .entry)) ⌝ }
 {
-    let Checked::Held = labels_under(flags, NlAuthFlags::DNS_DOMAIN, c) else {
+    let Checked::Held = labels_under(flags.dns_domain(), c) else {
         return Verdict::Refused(Refusal::WrongLabel(3));
     };
-    let Checked::Held = labels_under(flags, NlAuthFlags::DNS_HOST, d) else {
+    let Checked::Held = labels_under(flags.dns_host(), d) else {
         return Verdict::Refused(Refusal::WrongLabel(4));
     };
-    let Checked::Held = labels_under(flags, NlAuthFlags::UTF8_COMPUTER, e) else {
+    let Checked::Held = labels_under(flags.utf8_computer(), e) else {
         return Verdict::Refused(Refusal::WrongLabel(5));
     };
     Verdict::Clear
 }
 
 // Check 53 at the string of a bit.
-fn coded_under(flags: NlAuthFlags, mask: u32, text: &[u8]) -> Checked
-    requires { ⌜ 0 < mask ⌝ }
-    ensures { λ r. ⌜ r ≡ codedUnder (has (flags .bits) mask, now (text .entry)) ⌝ }
+fn coded_under(set: bool, text: &[u8]) -> Checked
+    ensures { λ r. ⌜ r ≡ codedUnder (set, now (text .entry)) ⌝ }
 {
-    if has(flags.bits, mask) {
+    if set {
         return coded_holds(text);
     }
     Checked::Held
@@ -102,13 +105,13 @@ fn coded_under(flags: NlAuthFlags, mask: u32, text: &[u8]) -> Checked
 fn check_coded(flags: NlAuthFlags, c: &[u8], d: &[u8], e: &[u8]) -> Verdict
     ensures { λ r. ⌜ r ≡ checkCoded flags (now (c .entry)) (now (d .entry)) (now (e .entry)) ⌝ }
 {
-    let Checked::Held = coded_under(flags, NlAuthFlags::DNS_DOMAIN, c) else {
+    let Checked::Held = coded_under(flags.dns_domain(), c) else {
         return Verdict::Refused(Refusal::NameTooLong(3));
     };
-    let Checked::Held = coded_under(flags, NlAuthFlags::DNS_HOST, d) else {
+    let Checked::Held = coded_under(flags.dns_host(), d) else {
         return Verdict::Refused(Refusal::NameTooLong(4));
     };
-    let Checked::Held = coded_under(flags, NlAuthFlags::UTF8_COMPUTER, e) else {
+    let Checked::Held = coded_under(flags.utf8_computer(), e) else {
         return Verdict::Refused(Refusal::NameTooLong(5));
     };
     Verdict::Clear
@@ -126,22 +129,22 @@ fn check_names(flags: NlAuthFlags, c: &[u8], d: &[u8], e: &[u8]) -> Verdict
 }
 
 // A length so far, and with string A or B.
-fn size_with(n: usize, flags: NlAuthFlags, mask: u32, string: &[u8]) -> usize
-    requires { ⌜ (n ≤ 65536) × (0 < mask) ⌝ }
-    ensures { λ r. ⌜ r ≡ min 65536 (n + length (bytesUnder (has (flags .bits) mask) (now (string .entry)))) ⌝ }
+fn size_with(n: usize, set: bool, string: &[u8]) -> usize
+    requires { ⌜ n ≤ 65536 ⌝ }
+    ensures { λ r. ⌜ r ≡ min 65536 (n + length (bytesUnder set (now (string .entry)))) ⌝ }
 {
-    if has(flags.bits, mask) {
+    if set {
         return add_capped(add_capped(n, string.len()), 1);
     }
     n
 }
 
 // The same with string C, D or E.
-fn size_with_name(n: usize, flags: NlAuthFlags, mask: u32, text: &[u8]) -> usize
-    requires { ⌜ (n ≤ 65536) × (0 < mask) ⌝ }
-    ensures { λ r. ⌜ r ≡ min 65536 (n + length (nameUnder (has (flags .bits) mask) (now (text .entry)))) ⌝ }
+fn size_with_name(n: usize, set: bool, text: &[u8]) -> usize
+    requires { ⌜ n ≤ 65536 ⌝ }
+    ensures { λ r. ⌜ r ≡ min 65536 (n + length (nameUnder set (now (text .entry)))) ⌝ }
 {
-    if has(flags.bits, mask) {
+    if set {
         return add_capped(n, coded_size(text));
     }
     n
@@ -151,11 +154,11 @@ fn size_with_name(n: usize, flags: NlAuthFlags, mask: u32, text: &[u8]) -> usize
 fn request_size(flags: NlAuthFlags, a: &[u8], b: &[u8], c: &[u8], d: &[u8], e: &[u8]) -> usize
     ensures { λ r. ⌜ r ≡ min 65536 (length (requestBytes flags (now (a .entry)) (now (b .entry)) (now (c .entry)) (now (d .entry)) (now (e .entry)))) ⌝ }
 {
-    let n = size_with(8, flags, NlAuthFlags::NB_DOMAIN, a);
-    let n = size_with(n, flags, NlAuthFlags::NB_COMPUTER, b);
-    let n = size_with_name(n, flags, NlAuthFlags::DNS_DOMAIN, c);
-    let n = size_with_name(n, flags, NlAuthFlags::DNS_HOST, d);
-    size_with_name(n, flags, NlAuthFlags::UTF8_COMPUTER, e)
+    let n = size_with(8, flags.nb_domain(), a);
+    let n = size_with(n, flags.nb_computer(), b);
+    let n = size_with_name(n, flags.dns_domain(), c);
+    let n = size_with_name(n, flags.dns_host(), d);
+    size_with_name(n, flags.utf8_computer(), e)
 }
 
 // Checks 14, 34, 50, 53, 30 and 33 of a request, for an output of `room` bytes.
@@ -212,11 +215,11 @@ fn put_string(out: &mut [u8], string: &[u8]) -> Place
 }
 
 // The string of a bit at its place: its writer is lent the output from there on.
-fn put_under(place: Place, out: &mut [u8], flags: NlAuthFlags, mask: u32, string: &[u8]) -> Place
-    requires { ⌜ (0 < mask) × (place .at + length (bytesUnder (has (flags .bits) mask) (now string)) ≤ length (now out)) ⌝ }
-    ensures { λ r. ⌜ Wrote (now (out .entry)) (now (out .exit)) (place .at) (r .at) (bytesUnder (has (flags .bits) mask) (now (string .entry))) ⌝ }
+fn put_under(place: Place, out: &mut [u8], set: bool, string: &[u8]) -> Place
+    requires { ⌜ place .at + length (bytesUnder set (now string)) ≤ length (now out) ⌝ }
+    ensures { λ r. ⌜ Wrote (now (out .entry)) (now (out .exit)) (place .at) (r .at) (bytesUnder set (now (string .entry))) ⌝ }
 {
-    if has(flags.bits, mask) {
+    if set {
         let at = place.at;
         let end = put_string(&mut out[at..], string);
         return Place { at: at + end.at };
@@ -225,16 +228,26 @@ fn put_under(place: Place, out: &mut [u8], flags: NlAuthFlags, mask: u32, string
 }
 
 // The same of string C, D or E, whose labels check 50 let pass.
-fn put_name_under(place: Place, out: &mut [u8], flags: NlAuthFlags, mask: u32, text: &[u8]) -> Place
-    requires { ⌜ (0 < mask) × (labelsUnder (has (flags .bits) mask, now text) ≡ Held) × (place .at + length (nameUnder (has (flags .bits) mask) (now text)) ≤ length (now out)) ⌝ }
-    ensures { λ r. ⌜ Wrote (now (out .entry)) (now (out .exit)) (place .at) (r .at) (nameUnder (has (flags .bits) mask) (now (text .entry))) ⌝ }
+fn put_name_under(place: Place, out: &mut [u8], set: bool, text: &[u8]) -> Place
+    requires { ⌜ (labelsUnder (set, now text) ≡ Held) × (place .at + length (nameUnder set (now text)) ≤ length (now out)) ⌝ }
+    ensures { λ r. ⌜ Wrote (now (out .entry)) (now (out .exit)) (place .at) (r .at) (nameUnder set (now (text .entry))) ⌝ }
 {
-    if has(flags.bits, mask) {
+    if set {
         let at = place.at;
         let end = put_name(Place { at: 0 }, &mut out[at..], text);
         return Place { at: at + end.at };
     }
     place
+}
+
+// The OEM strings, A and B.
+fn put_oem(place: Place, out: &mut [u8], flags: NlAuthFlags, a: &[u8], b: &[u8]) -> Place
+    requires { ⌜ place .at + (length (bytesUnder (nbDomain flags) (now a)) + length (bytesUnder (nbComputer flags) (now b))) ≤ length (now out) ⌝ }
+    ensures next { λ r. ⌜ r .at ≡ place .at + (length (bytesUnder (nbDomain flags) (now (a .entry))) + length (bytesUnder (nbComputer flags) (now (b .entry)))) ⌝ }
+    ensures { λ r. ⌜ Wrote (now (out .entry)) (now (out .exit)) (place .at) (r .at) (bytesUnder (nbDomain flags) (now (a .entry)) ++ bytesUnder (nbComputer flags) (now (b .entry))) ⌝ }
+{
+    let place = put_under(place, out, flags.nb_domain(), a);
+    put_under(place, out, flags.nb_computer(), b)
 }
 
 // The UTF-8 strings, C to E.
@@ -243,9 +256,9 @@ fn put_utf8(place: Place, out: &mut [u8], flags: NlAuthFlags, c: &[u8], d: &[u8]
     requires { ⌜ place .at + (length (nameUnder (dnsDomain flags) (now c)) + (length (nameUnder (dnsHost flags) (now d)) + length (nameUnder (utf8Computer flags) (now e)))) ≤ length (now out) ⌝ }
     ensures { λ r. ⌜ Wrote (now (out .entry)) (now (out .exit)) (place .at) (r .at) (utf8Bytes flags (now (c .entry)) (now (d .entry)) (now (e .entry))) ⌝ }
 {
-    let place = put_name_under(place, out, flags, NlAuthFlags::DNS_DOMAIN, c);
-    let place = put_name_under(place, out, flags, NlAuthFlags::DNS_HOST, d);
-    put_name_under(place, out, flags, NlAuthFlags::UTF8_COMPUTER, e)
+    let place = put_name_under(place, out, flags.dns_domain(), c);
+    let place = put_name_under(place, out, flags.dns_host(), d);
+    put_name_under(place, out, flags.utf8_computer(), e)
 }
 
 // A request whose checks held.
@@ -263,8 +276,7 @@ fn put_request(
     ensures { λ r. ⌜ Wrote (now (out .entry)) (now (out .exit)) 0 (r .at) (requestBytes flags (now (a .entry)) (now (b .entry)) (now (c .entry)) (now (d .entry)) (now (e .entry))) ⌝ }
 {
     let place = put_head(out, NlAuth::REQUEST, flags);
-    let place = put_under(place, out, flags, NlAuthFlags::NB_DOMAIN, a);
-    let place = put_under(place, out, flags, NlAuthFlags::NB_COMPUTER, b);
+    let place = put_oem(place, out, flags, a, b);
     put_utf8(place, out, flags, c, d, e)
 }
 

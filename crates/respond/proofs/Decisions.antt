@@ -1,29 +1,31 @@
 -- Laws of the decision on a challenge.
-use mathlib.Core.Path.{_≡_, sym, _∙_}
+use mathlib.Core.Path.{_≡_, refl, sym, _∙_}
 use mathlib.Core.Bool.{Bool, false, _||_, _&&_, not}
 use mathlib.Core.List.{List}
-use mathlib.Core.Logic.{_⊎_, inl, inr}
 use Prim.Native.Nat.{ℕ}
 use Rattle.wire.specs.declared.check.Checked.{Checked}
 use Rattle.wire.specs.declared.check.Checked.the-variants.{Held}
 use Rattle.negotiate_flags.specs.declared.NegotiateFlags.{NegotiateFlags}
 use Rattle.wire.specs.declared.refusal.Refusal.{Refusal}
+use Rattle.wire.specs.declared.refusal.Refusal.the-variants.{TooLong}
 use Rattle.wire.specs.Check.{checked}
 use Rattle.negotiate_flags.specs.Flags.{negotiate128}
 use Rattle.wire.proofs.Laws.{chain}
 use Rattle.challenge.specs.declared.Challenge.{Challenge}
 use Rattle.challenge.specs.declared.Reading.{Reading}
-use Rattle.challenge.specs.declared.Reading.the-variants.{Taken, Refused as Unread}
-use Rattle.challenge.proofs.Laws.{reading-told}
+use Rattle.challenge.specs.declared.Reading.the-variants.{Taken}
+use Rattle.challenge.specs.declared.FullChallenge.{FullChallenge}
+use Rattle.challenge.specs.declared.FullReading.{FullReading}
+use Rattle.challenge.specs.declared.FullReading.the-variants.{Taken as FullTaken, Refused as Unread}
+use Rattle.challenge.proofs.Laws.{full-reads, full-holds, refusal-alone, full-there}
 use Rattle.target_info.specs.declared.ServerNames.{ServerNames}
-use Rattle.target_info.specs.declared.Timestamp.{Timestamp}
-use Rattle.challenge.specs.Challenge.{readingOf}
+use Rattle.challenge.specs.Challenge.{readingOf, infoOf, fullReadingOf, fullRefusal}
 use Rattle.target_info.specs.TargetInfo.{timestampIn, serverNamesIn}
 use Rattle.respond.specs.declared.decision.Settings.{Settings}
 use Rattle.respond.specs.declared.decision.Decision.{Decision}
 use Rattle.respond.specs.declared.decision.Decided.{Decided}
 use Rattle.respond.specs.declared.decision.Decided.the-variants.{Taken as Answerable, Refused}
-use Rattle.respond.specs.Decision.{defaults, benchSettings, strengthHolds, serverNamesHold, decisionOn, onDecided}
+use Rattle.respond.specs.Decision.{defaults, benchSettings, strengthHolds, serverNamesHold, decisionOn, onDecided, decidedRefusal}
 use Rattle.respond.proofs.Domains.{on-taken}
 
 -- the defaults with another word on 128-bit
@@ -48,24 +50,32 @@ pub of-list : (settings : Settings) (l m : List ℕ) (k : Checked) → l ≡ m �
     k ≡ serverNamesHold settings (serverNamesIn m)
 of-list settings l m k e h = rw (← e) h
 
-pub decided-is : (w : NegotiateFlags) (t : Timestamp) (l m : List ℕ) → l ≡ m → t ≡ timestampIn l →
-    Answerable (record { flags = w; timestamp = t }) ≡ Answerable (record { flags = w; timestamp = timestampIn m })
-decided-is w t l m e h = rw (h, e)
+-- the challenge that was read, and what the reader found in its list
+module _ (s : List ℕ) (f : FullChallenge) (h : fullReadingOf s ≡ FullTaken f) where
+  pub read-as : readingOf s ≡ Taken (f .challenge)
+  read-as = full-reads s (fullReadingOf s) refl f h
 
-pub ruleset decision = (chain, on-taken, of-list, decided-is)
+  pub decided-is : (w : NegotiateFlags) → Answerable (record { flags = w; timestamp = f .contents .timestamp })
+      ≡ Answerable (record { flags = w; timestamp = timestampIn (infoOf s (f .challenge)) })
+  decided-is w = simp (full-holds s (fullReadingOf s) refl f h)
+
+pub ruleset decision = (chain, on-taken, of-list, read-as, decided-is)
 
 -- the reading of a challenge that was taken, and of one that was not
 pub taken-as : (s : List ℕ) (r : Reading) (c : Challenge) → r ≡ readingOf s → r ≡ Taken c → readingOf s ≡ Taken c
 taken-as s r c e h = sym e ∙ h
 
-pub undecided : (settings : Settings) (s : List ℕ) (r : Reading) (e d : Refusal) → r ≡ readingOf s → r ≡ Unread e →
-    (r ≡ Unread d) ⊎ ((c : Challenge) × (r ≡ Taken c)) → Refused d ≡ decisionOn settings s
+pub full-as : (s : List ℕ) (r : FullReading) (f : FullChallenge) → r ≡ fullReadingOf s → r ≡ FullTaken f → fullReadingOf s ≡ FullTaken f
+full-as s r f e h = sym e ∙ h
+
+pub undecided : (settings : Settings) (s : List ℕ) (r : FullReading) (e d : Refusal) → r ≡ fullReadingOf s → r ≡ Unread e →
+    d ≡ fullRefusal r → Refused d ≡ decisionOn settings s
 unfolding decisionOn
-undecided settings s r e d p h q = simp (← p, reading-told r e d h q)
+undecided settings s r e d p h q = simp (← refusal-alone s r p e h, q, ← full-there r e h)
 
 -- what follows the decision on a challenge that was not taken
-pub unread-stops : {A : Type 0} (settings : Settings) (s : List ℕ) (f : Refusal → A) (r : Reading) (e d : Refusal) (x : Decision → A) (y : A) →
-    r ≡ readingOf s → r ≡ Unread e → (r ≡ Unread d) ⊎ ((c : Challenge) × (r ≡ Taken c)) → y ≡ f d →
+pub unread-stops : {A : Type 0} (settings : Settings) (s : List ℕ) (f : Refusal → A) (r : FullReading) (e d : Refusal) (x : Decision → A) (y : A) →
+    r ≡ fullReadingOf s → r ≡ Unread e → d ≡ fullRefusal r → y ≡ f d →
     y ≡ onDecided f (decisionOn settings s) x
 unread-stops settings s f r e d x y p h q z = z ∙ simp (← undecided settings s r e d p h q)
 
@@ -74,10 +84,15 @@ pub with-decided : {A : Type 0} (f : Refusal → A) (k r : Decided) (d : Decisio
     r ≡ k → r ≡ Answerable d → y ≡ x d → y ≡ onDecided f k x
 with-decided f k r d x y p h q = simp (← p, h) q
 
-decided-told : (r : Decided) (e d : Refusal) → r ≡ Refused e → (r ≡ Refused d) ⊎ ((a : Decision) × (r ≡ Answerable a)) → r ≡ Refused d
-decided-told r e d h (inl q) = q
-decided-told r e d h (inr q) = let no : Refused e ≡ Answerable (q .0) = sym h ∙ q .1 in cc
+-- the refusal of a challenge that was refused, and what stands for that of one that was not
+pub refusal-there : (r : Decided) (e : Refusal) → r ≡ Refused e → e ≡ decidedRefusal r
+unfolding decidedRefusal
+refusal-there r e h = simp h
+
+pub refusal-none : (r : Decided) (d : Decision) → r ≡ Answerable d → TooLong ≡ decidedRefusal r
+unfolding decidedRefusal
+refusal-none r d h = simp h
 
 pub decision-stops : {A : Type 0} (f : Refusal → A) (k r : Decided) (e d : Refusal) (x : Decision → A) (y : A) →
-    r ≡ k → r ≡ Refused e → (r ≡ Refused d) ⊎ ((a : Decision) × (r ≡ Answerable a)) → y ≡ f d → y ≡ onDecided f k x
-decision-stops f k r e d x y p h q z = z ∙ simp (← p, decided-told r e d h q)
+    r ≡ k → r ≡ Refused e → d ≡ decidedRefusal r → y ≡ f d → y ≡ onDecided f k x
+decision-stops f k r e d x y p h q z = z ∙ simp (← p, h, q, ← refusal-there r e h)

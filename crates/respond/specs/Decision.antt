@@ -5,7 +5,7 @@ use Prim.Native.Nat.{ℕ}
 use Rattle.wire.specs.declared.check.Checked.{Checked}
 use Rattle.negotiate_flags.specs.declared.NegotiateFlags.{NegotiateFlags}
 use Rattle.wire.specs.declared.refusal.Refusal.{Refusal}
-use Rattle.wire.specs.declared.refusal.Refusal.the-variants.{No128Bit, NoServerNames}
+use Rattle.wire.specs.declared.refusal.Refusal.the-variants.{TooLong, No128Bit, NoServerNames}
 use Rattle.av_id.specs.AvId.{implies}
 use Rattle.wire.specs.Check.{checked, after}
 use Rattle.negotiate_flags.specs.Flags.{negotiate128}
@@ -53,3 +53,7 @@ decisionOn settings s =
 abbrev pub onDecided : {A : Type 0} → (Refusal → A) → Decided → (Decision → A) → A
 onDecided refuse (Taken d) x = x d
 onDecided refuse (Refused e) x = refuse e
+
+-- the refusal of a challenge that was refused; of one that was not, which has none, 1
+unfoldable pub decidedRefusal : Decided → Refusal
+decidedRefusal r = onDecided (λ e. e) r (λ d. TooLong)

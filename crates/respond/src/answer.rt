@@ -9,8 +9,8 @@ use crate::decision::Settings;
 use crate::decision::decide_on;
 use crate::domain::domain_of;
 use authenticate_writing::write;
-use challenge::Reading;
-use challenge::read;
+use challenge::FullReading;
+use challenge::read_full;
 use negotiate_flags::NegotiateFlags;
 use place::written::Written;
 use target_info::Timestamp;
@@ -156,14 +156,15 @@ pub fn respond<'a>(
     ensures answer { λ r. ⌜ r ≡ respondAnswer (length (now (out .entry))) (now (challenge .entry)) settings clock (now (version .entry)) (now (mic .entry)) (now (lm .entry)) (now (nt .entry)) (now (domain .entry)) (now (user .entry)) (now (workstation .entry)) (now (key .entry)) ⌝ }
     ensures content { λ _. ⌜ now (out .exit) ≡ respondOut (now (out .entry)) (now (challenge .entry)) settings (now (version .entry)) (now (mic .entry)) (now (lm .entry)) (now (nt .entry)) (now (domain .entry)) (now (user .entry)) (now (workstation .entry)) (now (key .entry)) ⌝ }
 {
-    let reading = read(challenge).reading;
-    let Reading::Taken(c) = reading else {
+    let reading = read_full(challenge);
+    let FullReading::Taken(f) = reading else {
         return Answered::Refused(reading.refusal());
     };
-    let decided = decide_on(settings, challenge, c);
+    let decided = decide_on(settings, challenge, f);
     let Decided::Taken(d) = decided else {
         return Answered::Refused(decided.refusal());
     };
+    let c = f.challenge;
     let domain = domain_of(domain, challenge, c);
     send(
         out,

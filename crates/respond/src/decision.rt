@@ -1,22 +1,18 @@
 // The decision on a challenge: what the settings want of it, and what of it decides the answer.
 ghost use mathlib.Core.Path.{_≡_};
-ghost use mathlib.Core.Logic.{_⊎_};
 ghost use Rattle.wire.specs.declared.check.Verdict.the-variants.{Clear};
 ghost use Rattle.av_pairs.specs.AvPairs.{checkPairs};
-ghost use Rattle.challenge.specs.declared.Reading.the-variants.{Taken as Read};
-ghost use Rattle.challenge.specs.Challenge.{readingOf};
+ghost use Rattle.challenge.specs.declared.FullReading.the-variants.{Taken as Read};
+ghost use Rattle.challenge.specs.Challenge.{fullReadingOf};
 ghost use Rattle.target_info.specs.TargetInfo.{serverNamesIn};
-ghost use Rattle.respond.specs.declared.decision.Decision.{Decision};
-ghost use Rattle.respond.specs.declared.decision.Decided.the-variants.{Taken, Refused};
-ghost use Rattle.respond.specs.Decision.{defaults, benchSettings, oldServerSettings, strengthHolds, serverNamesHold, decisionOn};
-use challenge::Challenge;
-use challenge::Reading;
-use challenge::read;
+ghost use Rattle.respond.specs.Decision.{defaults, benchSettings, oldServerSettings, strengthHolds, serverNamesHold, decisionOn, decidedRefusal};
+use challenge::FullChallenge;
+use challenge::FullReading;
+use challenge::read_full;
 use negotiate_flags::NegotiateFlags;
 use target_info::ServerNames;
 use target_info::Timestamp;
 use target_info::server_names_in;
-use target_info::timestamp_in;
 use wire::check::Checked;
 use wire::check::check;
 use wire::refusal::Refusal;
@@ -40,6 +36,7 @@ pub enum Decided {
 }
 
 impl Settings {
+    // The settings of whoever gives none.
     pub fn defaults() -> Settings
         ensures { λ r. ⌜ r ≡ defaults ⌝ }
     {
@@ -52,7 +49,7 @@ impl Settings {
     }
 
     // The defaults but for 128-bit, which the bench asks for or not.
-    pub fn for_bench(demand_128: bool) -> Settings
+    pub(crate) fn for_bench(demand_128: bool) -> Settings
         ensures { λ r. ⌜ r ≡ benchSettings demand_128 ⌝ }
     {
         let mut settings = Settings::defaults();
@@ -61,7 +58,7 @@ impl Settings {
     }
 
     // The defaults but for 128-bit, which an old server doesn't offer.
-    pub fn for_old_server() -> Settings
+    pub(crate) fn for_old_server() -> Settings
         ensures { λ r. ⌜ r ≡ oldServerSettings ⌝ }
     {
         let mut settings = Settings::defaults();
@@ -70,14 +67,14 @@ impl Settings {
     }
 
     // Check 20.
-    pub fn strength_holds(self, flags: NegotiateFlags) -> Checked
+    fn strength_holds(self, flags: NegotiateFlags) -> Checked
         ensures { λ r. ⌜ r ≡ strengthHolds self flags ⌝ }
     {
         check(!self.demand_128 | flags.negotiate_128())
     }
 
     // Check 21.
-    pub fn server_names_hold(self, names: ServerNames) -> Checked
+    fn server_names_hold(self, names: ServerNames) -> Checked
         ensures { λ r. ⌜ r ≡ serverNamesHold self names ⌝ }
     {
         check(
@@ -98,11 +95,12 @@ fn names_hold(settings: Settings, list: &[u8]) -> Checked
     Checked::Held
 }
 
-// Checks 20 and 21 on a challenge that was taken as `c`.
-pub(crate) fn decide_on(settings: Settings, challenge: &[u8], c: Challenge) -> Decided
-    requires { ⌜ readingOf (now challenge) ≡ Read c ⌝ }
+// Checks 20 and 21 on a challenge that was taken as `f`.
+pub(crate) fn decide_on(settings: Settings, challenge: &[u8], f: FullChallenge) -> Decided
+    requires { ⌜ fullReadingOf (now challenge) ≡ Read f ⌝ }
     ensures { λ r. ⌜ r ≡ decisionOn settings (now (challenge .entry)) ⌝ }
 {
+    let c = f.challenge;
     let flags = c.flags;
     let Checked::Held = settings.strength_holds(flags) else {
         return Decided::Refused(Refusal::No128Bit);
@@ -111,9 +109,11 @@ pub(crate) fn decide_on(settings: Settings, challenge: &[u8], c: Challenge) -> D
     let Checked::Held = names_hold(settings, list) else {
         return Decided::Refused(Refusal::NoServerNames);
     };
+    let contents = f.contents;
+    let timestamp = contents.timestamp;
     Decided::Taken(Decision {
         flags: flags,
-        timestamp: timestamp_in(list),
+        timestamp: timestamp,
     })
 }
 
@@ -121,17 +121,17 @@ pub(crate) fn decide_on(settings: Settings, challenge: &[u8], c: Challenge) -> D
 pub fn decide(settings: Settings, challenge: &[u8]) -> Decided
     ensures { λ r. ⌜ r ≡ decisionOn settings (now (challenge .entry)) ⌝ }
 {
-    let reading = read(challenge).reading;
-    let Reading::Taken(c) = reading else {
+    let reading = read_full(challenge);
+    let FullReading::Taken(f) = reading else {
         return Decided::Refused(reading.refusal());
     };
-    decide_on(settings, challenge, c)
+    decide_on(settings, challenge, f)
 }
 
 impl Decided {
-    // The refusal of a challenge that was refused; callers ask for it only then.
-    pub fn refusal(self) -> Refusal
-        ensures { λ r. ⌜ (self ≡ Refused r) ⊎ ((d : Decision) × (self ≡ Taken d)) ⌝ }
+    // The refusal of a challenge that was refused; of one that was not, which has none, 1. Callers ask for it only of the first.
+    pub(crate) fn refusal(self) -> Refusal
+        ensures { λ r. ⌜ r ≡ decidedRefusal self ⌝ }
     {
         match self {
             Decided::Refused(e) => e,

@@ -2,23 +2,21 @@
 use Prim.Native.Nat.{ℕ, _+_, _%_, _≤_, min}
 use mathlib.Core.Path.{_≡_, refl, sym, ap, _∙_}
 use mathlib.Core.Bool.{Bool, true, false, _&&_, not, cond}
-use mathlib.Core.Logic.{_⊎_}
 use mathlib.Core.List.{List, [], _∷_, _++_, append-nil, append-assoc}
 use native.Mathlib.Omega.{arith}
 use borrow.Author.Tests.{eqb-true, eqb-false, eq-eqb, ne-eqb, leb-true, leb-false, lt-leb}
 use lib.Dec.{eqb, leb}
 use lib.ListN.{length, length-append}
 use Rattle.av_id.specs.AvId.{isFlags, isTimestamp}
-use Rattle.av_pairs.specs.AvPairs.{Valued, valuesOf}
-use Rattle.challenge.specs.declared.Answer.{Answer}
-use Rattle.challenge.specs.declared.Challenge.{Challenge}
-use Rattle.challenge.specs.declared.Reading.{Reading}
-use Rattle.challenge.specs.declared.Reading.the-variants.{Taken, Refused as Unread}
-use Rattle.challenge.specs.Challenge.{readingOf, readChallenge, infoOf}
-use Rattle.challenge.proofs.Laws.{reading-told}
+use Rattle.av_pairs.specs.AvPairs.{checkPairs, Valued, valuesOf}
+use Rattle.challenge.specs.declared.FullChallenge.{FullChallenge}
+use Rattle.challenge.specs.declared.FullReading.{FullReading}
+use Rattle.challenge.specs.declared.FullReading.the-variants.{Taken, Refused as Unread}
+use Rattle.challenge.specs.Challenge.{fullReadingOf, fullRefusal, infoOf}
+use Rattle.challenge.proofs.Laws.{full-reads, full-there, refusal-alone, info-clear}
 use Rattle.place.specs.declared.written.Written.{Written}
 use Rattle.place.specs.declared.written.Written.the-variants.{Length, Refused}
-use Rattle.place.specs.Place.{Wrote, le16, le32}
+use Rattle.place.specs.Place.{Wrote, le32}
 use Rattle.place.specs.Written.{answered, outAfter}
 use Rattle.place.proofs.Laws.{and-then, nothing, kept as same-length}
 use Rattle.place.proofs.Numbers.{length-le32}
@@ -27,14 +25,10 @@ use Rattle.wire.specs.declared.check.Verdict.{Verdict}
 use Rattle.wire.specs.declared.check.Verdict.the-variants.{Clear, Refused as Not}
 use Rattle.wire.specs.declared.refusal.Refusal.{Refusal}
 use Rattle.wire.specs.declared.refusal.Refusal.the-variants.{TooLongToWrite, OddNameToWrite, NoRoom}
-use Rattle.wire.specs.Check.{checked, after}
+use Rattle.wire.specs.Check.{checked, after, verdictRefusal}
 use Rattle.wire.proofs.Laws.{after-clear}
 use Rattle.response_pairs.specs.ResponsePairs.{pairWith, hasPair, isNone, kept, dueBits, bitsDue, withBits, addsFlags, addedPairs, pairsBack, pairsFor, pairBytes, bytesOf, listBytes, listWith, listFor, checkList, listAnswer, listOut, writeAnswer, writeOut}
 use Rattle.response_pairs.proofs.Fits.{values-fit, kept-fit, length-pair, bytes-append, bits-size}
-
-pub end-is : (l k : List ℕ) (i q : ℕ) → Wrote l k i q (le32 0) → Wrote l k i q (pairBytes (pairWith 0 []))
-unfolding pairBytes le32 le16
-end-is l k i q w = w
 
 -- ---- the added pairs
 
@@ -255,7 +249,7 @@ module _ (bits : ℕ) (info name bind : List ℕ) (unverified : Bool) (d : bits 
   check-for : r ≡ checkList (length out) name (length (listFor info name unverified bind))
   check-for = rw list-is (check-is bits info name bind n g (length out) r e)
 
-  pub list-refused : (p q : Refusal) → r ≡ Not p → (r ≡ Not q) ⊎ (r ≡ Clear) → Refused q ≡ listAnswer (length out) info name unverified bind
+  pub list-refused : (p q : Refusal) → r ≡ Not p → q ≡ verdictRefusal r → Refused q ≡ listAnswer (length out) info name unverified bind
   unfolding listAnswer
   list-refused p q h w = refused _ r p check-for h _ q w
 
@@ -277,25 +271,26 @@ module _ (bits : ℕ) (info name bind : List ℕ) (unverified : Bool) (d : bits 
 
 -- ---- after the reading
 
-module _ (s name bind : List ℕ) (unverified : Bool) (a : Answer) (e : a ≡ readChallenge s) where
-  reads : readingOf s ≡ a .reading
-  unfolding readChallenge
-  reads = ap (λ (x : Answer). x .reading) (sym e)
-
-  module _ (f : Refusal) (h : a .reading ≡ Unread f) where
-    pub reading-refused : (room : ℕ) (g : Refusal) → (a .reading ≡ Unread g) ⊎ ((c : Challenge) × (a .reading ≡ Taken c)) → Refused g ≡ writeAnswer room s name unverified bind
+module _ (s name bind : List ℕ) (unverified : Bool) (a : FullReading) (e : a ≡ fullReadingOf s) where
+  module _ (f : Refusal) (h : a ≡ Unread f) where
+    pub reading-refused : (room : ℕ) (g : Refusal) → g ≡ fullRefusal a → Refused g ≡ writeAnswer room s name unverified bind
     unfolding writeAnswer
-    reading-refused room g q = simp (reads, reading-told (a .reading) f g h q)
+    reading-refused room g q = simp (← refusal-alone s a e f h, q, ← full-there a f h)
 
     pub reading-untouched : (out : List ℕ) → out ≡ writeOut out s name unverified bind
     unfolding writeOut
-    reading-untouched out = simp (reads, h)
+    reading-untouched out = simp (← refusal-alone s a e f h)
 
-  module _ (c : Challenge) (h : a .reading ≡ Taken c) (l : List ℕ) (i : l ≡ infoOf s c) where
+  module _ (f : FullChallenge) (h : a ≡ Taken f) (l : List ℕ) (i : l ≡ infoOf s (f .challenge)) where
     pub reading-taken : (room : ℕ) (x : Written) → x ≡ listAnswer room l name unverified bind → x ≡ writeAnswer room s name unverified bind
     unfolding writeAnswer
-    reading-taken room x q = q ∙ simp (reads, h, i)
+    reading-taken room x q = q ∙ simp (full-reads s a e f h, i)
 
     pub reading-stored : (out k : List ℕ) → k ≡ listOut out l name unverified bind → k ≡ writeOut out s name unverified bind
     unfolding writeOut
-    reading-stored out k q = q ∙ simp (reads, h, i)
+    reading-stored out k q = q ∙ simp (full-reads s a e f h, i)
+
+-- the pairs of a challenge that was taken were checked
+pub taken-clear : (s : List ℕ) (a : FullReading) (f : FullChallenge) (l : List ℕ) →
+    a ≡ fullReadingOf s → a ≡ Taken f → l ≡ infoOf s (f .challenge) → checkPairs l ≡ Clear
+taken-clear s a f l e h i = info-clear s l (f .challenge) (full-reads s a e f h) i

@@ -6,7 +6,7 @@ use lib.Bits.{bitOr}
 use lib.Dec.{eqb}
 use lib.ListN.{length}
 use Rattle.av_id.specs.declared.AvId.{AvId}
-use Rattle.av_id.specs.AvId.{isFlags, isTimestamp, isTargetName, isChannelBindings}
+use Rattle.av_id.specs.AvId.{endId, flagsId, targetNameId, channelBindingsId, isFlags, isTimestamp, isTargetName, isChannelBindings}
 use Rattle.av_pairs.specs.AvPairs.{Valued, valuesOf}
 use Rattle.challenge.specs.Challenge.{readingOf, onTaken, infoOf}
 use Rattle.place.specs.declared.written.Written.{Written}
@@ -39,9 +39,16 @@ abbrev pub kept : List Valued → List Valued
 kept [] = []
 kept (p ∷ ps) = cond (leftOut (p .0)) (kept ps) (p ∷ kept ps)
 
--- the bits due: 0x2 with a timestamp, 0x4 with a name that the caller marks unverified; an empty name is no name
+-- the bits of a flags pair (MsvAvFlags, MS-NLMP 2.2.2.1) that an answer sets: a MIC is provided, the target name is not verified
+abbrev pub micProvided : ℕ
+micProvided = 0x2
+
+abbrev pub unverifiedTargetName : ℕ
+unverifiedTargetName = 0x4
+
+-- the bits due: one with a timestamp, one with a name that the caller marks unverified; an empty name is no name
 unfoldable pub dueBits : Bool → Bool → ℕ
-dueBits timestamp unverified = cond timestamp 0x2 0 + cond unverified 0x4 0
+dueBits timestamp unverified = cond timestamp micProvided 0 + cond unverified unverifiedTargetName 0
 
 unfoldable pub bitsDue : List ℕ → List ℕ → Bool → ℕ
 bitsDue info name unverified = dueBits (hasPair isTimestamp (valuesOf info)) (unverified && not (isNone name))
@@ -49,7 +56,7 @@ bitsDue info name unverified = dueBits (hasPair isTimestamp (valuesOf info)) (un
 -- these bits set in the first flags pair, and nothing cleared
 abbrev pub flagsSet : ℕ → List Valued → List Valued
 flagsSet bits [] = []
-flagsSet bits (p ∷ ps) = cond (isFlags (p .0)) (pairWith 6 (le32 (bitOr (u32At (p .1) 0) bits)) ∷ ps) (p ∷ flagsSet bits ps)
+flagsSet bits (p ∷ ps) = cond (isFlags (p .0)) (pairWith flagsId (le32 (bitOr (u32At (p .1) 0) bits)) ∷ ps) (p ∷ flagsSet bits ps)
 
 -- where no bit is due, no pair is touched
 abbrev pub withBits : ℕ → List Valued → List Valued
@@ -61,7 +68,7 @@ addsFlags bits ps = not (eqb bits 0) && not (hasPair isFlags ps)
 
 -- the added pairs, "in the order 6, 10, 9"
 unfoldable pub addedPairs : Bool → ℕ → List ℕ → List ℕ → List Valued
-addedPairs adds bits name bindings = cond adds (pairWith 6 (le32 bits) ∷ []) [] ++ (pairWith 10 bindings ∷ pairWith 9 name ∷ [])
+addedPairs adds bits name bindings = cond adds (pairWith flagsId (le32 bits) ∷ []) [] ++ (pairWith channelBindingsId bindings ∷ pairWith targetNameId name ∷ [])
 
 -- the pairs that go back for those that came in, with these bits due
 unfoldable pub pairsBack : ℕ → List Valued → List ℕ → List ℕ → List Valued
@@ -81,7 +88,7 @@ bytesOf [] = []
 bytesOf (p ∷ ps) = pairBytes p ++ bytesOf ps
 
 unfoldable pub listBytes : List Valued → List ℕ
-listBytes ps = bytesOf ps ++ pairBytes (pairWith 0 [])
+listBytes ps = bytesOf ps ++ pairBytes (pairWith endId [])
 
 -- the list for TargetInfo's bytes, with these bits due, and with those that are
 unfoldable pub listWith : ℕ → List ℕ → List ℕ → List ℕ → List ℕ

@@ -1,19 +1,23 @@
 // The pair list that goes back in the answer (source document 004): the challenge's pairs, with pairs 6, 10 and 9 as they are due.
+pub mod av_flags;
+
 ghost use mathlib.Core.Path.{_≡_};
-ghost use mathlib.Core.Bool.{true, _&&_, not, cond};
+ghost use mathlib.Core.Bool.{true, cond};
 ghost use mathlib.Core.List.{[], _∷_};
 ghost use Prim.Native.Nat.{_+_, _≤_, min};
 ghost use lib.Dec.{eqb};
 ghost use lib.ListN.{length};
-ghost use Rattle.av_id.specs.AvId.{isFlags, isTimestamp};
-ghost use Rattle.av_pairs.specs.AvPairs.{valueIn, valuesOf};
+ghost use Rattle.av_id.specs.AvId.{endId, flagsId, isFlags, isTimestamp};
+ghost use Rattle.wire.specs.declared.check.Verdict.the-variants.{Clear};
+ghost use Rattle.av_pairs.specs.AvPairs.{checkPairs, valueIn, valuesOf};
 ghost use Rattle.place.specs.Place.{Wrote, le32};
-ghost use Rattle.response_pairs.specs.ResponsePairs.{pairWith, hasPair, leftOut, kept, dueBits, bitsDue, withBits, addsFlags, addedPairs, pairBytes, bytesOf, listBytes, listWith, checkList, listAnswer, listOut, writeAnswer, writeOut};
+ghost use Rattle.response_pairs.specs.ResponsePairs.{pairWith, hasPair, leftOut, kept, bitsDue, withBits, addsFlags, addedPairs, pairBytes, bytesOf, listBytes, listWith, checkList, listAnswer, listOut, writeAnswer, writeOut};
+use crate::av_flags::AvFlags;
 use av_id::AvId;
 use av_pairs::AvPair;
 use av_pairs::Found;
-use challenge::Reading;
-use challenge::read;
+use challenge::FullReading;
+use challenge::read_full;
 use place::Place;
 use place::written::Written;
 use place::written::add_capped;
@@ -29,7 +33,7 @@ use wire::refusal::Refusal;
 
 // What the walk over a list finds: the size of the pairs that are kept, as it is counted for check 30, and whether a timestamp
 // and a flags pair are there.
-pub struct Seen {
+struct Seen {
     pub size: usize,
     pub timestamp: bool,
     pub flags: bool,
@@ -37,7 +41,7 @@ pub struct Seen {
 
 // The list that is to be written: its size, as it is counted for check 30, the bits that are due, and whether a flags pair is
 // added for them.
-pub struct Plan {
+struct Plan {
     pub size: usize,
     pub bits: u32,
     pub adds: bool,
@@ -61,6 +65,7 @@ fn kept_size(id: AvId, len: u16) -> usize
 
 // Goes over a list once.
 fn look_over(list: &[u8]) -> Seen
+    requires { ⌜ checkPairs (now list) ≡ Clear ⌝ }
     ensures size { λ r. ⌜ r .size ≡ min 65536 (length (bytesOf (kept (valuesOf (now (list .entry)))))) ⌝ }
     ensures timestamp { λ r. ⌜ r .timestamp ≡ hasPair isTimestamp (valuesOf (now (list .entry))) ⌝ }
     ensures flags { λ r. ⌜ r .flags ≡ hasPair isFlags (valuesOf (now (list .entry))) ⌝ }
@@ -85,23 +90,6 @@ fn look_over(list: &[u8]) -> Seen
     seen
 }
 
-fn one_bit(on: bool, mask: u32) -> u32
-    requires { ⌜ mask ≤ 4 ⌝ }
-    ensures { λ r. ⌜ (r ≡ cond on mask 0) × (r ≤ 4) ⌝ }
-{
-    if on {
-        return mask;
-    }
-    0
-}
-
-// The bits due: with a timestamp, and with a name that is marked unverified.
-fn due_bits(timestamp: bool, unverified: bool) -> u32
-    ensures { λ r. ⌜ r ≡ dueBits timestamp unverified ⌝ }
-{
-    one_bit(timestamp, 0x2) + one_bit(unverified, 0x4)
-}
-
 // A pair's head and value.
 fn put_pair(place: Place, out: &mut [u8], id: u16, value: &[u8]) -> Place
     requires { ⌜ (length (now value) ≤ 65535) × (place .at + (4 + length (now value)) ≤ length (now out)) ⌝ }
@@ -115,18 +103,19 @@ fn put_pair(place: Place, out: &mut [u8], id: u16, value: &[u8]) -> Place
 // A flags pair with these bits.
 fn put_flags(place: Place, out: &mut [u8], bits: u32) -> Place
     requires { ⌜ place .at + 8 ≤ length (now out) ⌝ }
-    ensures { λ r. ⌜ Wrote (now (out .entry)) (now (out .exit)) (place .at) (r .at) (pairBytes (pairWith 6 (le32 bits))) ⌝ }
+    ensures { λ r. ⌜ Wrote (now (out .entry)) (now (out .exit)) (place .at) (r .at) (pairBytes (pairWith flagsId (le32 bits))) ⌝ }
 {
     let place = place.put_u16(out, AvId::FLAGS);
     let place = place.put_u16(out, 4);
     place.put_u32(out, bits)
 }
 
+// The end pair, which has no value.
 fn put_end(place: Place, out: &mut [u8]) -> Place
     requires { ⌜ place .at + 4 ≤ length (now out) ⌝ }
-    ensures { λ r. ⌜ Wrote (now (out .entry)) (now (out .exit)) (place .at) (r .at) (pairBytes (pairWith 0 [])) ⌝ }
+    ensures { λ r. ⌜ Wrote (now (out .entry)) (now (out .exit)) (place .at) (r .at) (pairBytes (pairWith endId [])) ⌝ }
 {
-    place.put_u32(out, 0)
+    put_pair(place, out, AvId::END, b"")
 }
 
 // A pair of the list as it goes back, if it does, with the bits that are still due: from the start of the lent part on.
@@ -168,7 +157,7 @@ fn bits_after(bits: u32, id: AvId) -> u32
 
 // Writes the pairs of a list that are kept, from the start of the output on.
 fn put_kept(out: &mut [u8], list: &[u8], due: u32) -> Place
-    requires { ⌜ length (bytesOf (withBits due (kept (valuesOf (now list))))) ≤ length (now out) ⌝ }
+    requires { ⌜ (checkPairs (now list) ≡ Clear) × (length (bytesOf (withBits due (kept (valuesOf (now list))))) ≤ length (now out)) ⌝ }
     ensures { λ r. ⌜ Wrote (now (out .entry)) (now (out .exit)) 0 (r .at) (bytesOf (withBits due (kept (valuesOf (now (list .entry)))))) ⌝ }
 {
     let mut at: usize = 0;
@@ -188,7 +177,7 @@ fn put_kept(out: &mut [u8], list: &[u8], due: u32) -> Place
 // The added flags pair, if one is.
 fn put_added_flags(place: Place, out: &mut [u8], adds: bool, bits: u32) -> Place
     requires { ⌜ place .at + cond adds 8 0 ≤ length (now out) ⌝ }
-    ensures { λ r. ⌜ Wrote (now (out .entry)) (now (out .exit)) (place .at) (r .at) (bytesOf (cond adds (pairWith 6 (le32 bits) ∷ []) [])) ⌝ }
+    ensures { λ r. ⌜ Wrote (now (out .entry)) (now (out .exit)) (place .at) (r .at) (bytesOf (cond adds (pairWith flagsId (le32 bits) ∷ []) [])) ⌝ }
 {
     if adds {
         return put_flags(place, out, bits);
@@ -238,16 +227,17 @@ fn list_size(list: &[u8], size: usize, adds: bool, name: &[u8], bindings: &[u8])
 
 // What the list for TargetInfo's bytes will be.
 fn plan_for(list: &[u8], name: &[u8], unverified: bool, bindings: &[u8]) -> Plan
+    requires { ⌜ checkPairs (now list) ≡ Clear ⌝ }
     ensures bits { λ r. ⌜ r .bits ≡ bitsDue (now (list .entry)) (now (name .entry)) unverified ⌝ }
     ensures adds { λ r. ⌜ r .adds ≡ addsFlags (r .bits) (valuesOf (now (list .entry))) ⌝ }
     ensures size { λ r. ⌜ r .size ≡ min 65536 (length (listWith (r .bits) (now (list .entry)) (now (name .entry)) (now (bindings .entry)))) ⌝ }
 {
     let seen = look_over(list);
-    let bits = due_bits(seen.timestamp, unverified & !(name.len() == 0));
-    let adds = !(bits == 0) & !seen.flags;
+    let due = AvFlags::due(seen.timestamp, unverified & !(name.len() == 0));
+    let adds = !(due.bits == 0) & !seen.flags;
     Plan {
         size: list_size(list, seen.size, adds, name, bindings),
-        bits: bits,
+        bits: due.bits,
         adds: adds,
     }
 }
@@ -277,7 +267,7 @@ fn put_list(
     name: &[u8],
     bindings: &[u8],
 ) -> Place
-    requires { ⌜ (adds ≡ addsFlags bits (valuesOf (now list))) × (length (listWith bits (now list) (now name) (now bindings)) ≤ 65535) × (length (listWith bits (now list) (now name) (now bindings)) ≤ length (now out)) ⌝ }
+    requires { ⌜ (checkPairs (now list) ≡ Clear) × (adds ≡ addsFlags bits (valuesOf (now list))) × (length (listWith bits (now list) (now name) (now bindings)) ≤ 65535) × (length (listWith bits (now list) (now name) (now bindings)) ≤ length (now out)) ⌝ }
     ensures { λ r. ⌜ Wrote (now (out .entry)) (now (out .exit)) 0 (r .at) (listWith bits (now (list .entry)) (now (name .entry)) (now (bindings .entry))) ⌝ }
 {
     if list.len() == 0 {
@@ -295,6 +285,7 @@ fn write_list(
     unverified: bool,
     bindings: &[u8],
 ) -> Written
+    requires { ⌜ checkPairs (now list) ≡ Clear ⌝ }
     ensures answer { λ r. ⌜ r ≡ listAnswer (length (now (out .entry))) (now (list .entry)) (now (name .entry)) unverified (now (bindings .entry)) ⌝ }
     ensures content { λ _. ⌜ now (out .exit) ≡ listOut (now (out .entry)) (now (list .entry)) (now (name .entry)) unverified (now (bindings .entry)) ⌝ }
 {
@@ -318,11 +309,11 @@ pub fn write(
     ensures answer { λ r. ⌜ r ≡ writeAnswer (length (now (out .entry))) (now (challenge .entry)) (now («target_name» .entry)) unverified (now (bindings .entry)) ⌝ }
     ensures content { λ _. ⌜ now (out .exit) ≡ writeOut (now (out .entry)) (now (challenge .entry)) (now («target_name» .entry)) unverified (now (bindings .entry)) ⌝ }
 {
-    let answer = read(challenge);
-    let reading = answer.reading;
-    let Reading::Taken(c) = reading else {
+    let reading = read_full(challenge);
+    let FullReading::Taken(f) = reading else {
         return Written::Refused(reading.refusal());
     };
+    let c = f.challenge;
     write_list(
         out,
         c.fields.target_info.bytes(challenge),

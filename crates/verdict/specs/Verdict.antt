@@ -1,6 +1,11 @@
 -- A message read as a kind: all its checks held, or the refusal of the first that failed.
+use Prim.Native.Nat.{ℕ, _+_, _^_, _≤_, _<_}
+use mathlib.Core.Path.{_≡_}
+use mathlib.Core.Bool.{Bool, true, _&&_, not}
 use mathlib.Core.List.{List}
-use Prim.Native.Nat.{ℕ}
+use lib.Dec.{leb, eqb}
+use Rattle.wire.specs.declared.refusal.Refusal.{Refusal}
+use Rattle.wire.specs.Refusal.{numberOf, fieldOf, placeOf}
 use Rattle.wire.specs.declared.check.Verdict.{Verdict}
 use Rattle.wire.specs.declared.check.Verdict.the-variants.{Clear, Refused as Not}
 use Rattle.head.specs.declared.Kind.{Kind}
@@ -31,3 +36,33 @@ abbrev pub readAs : Kind → List ℕ → Verdict
 readAs Negotiate s = negoVerdict (readNegotiate s)
 readAs Challenge s = chalVerdict (readChallenge s .reading)
 readAs Authenticate s = authVerdict (readAuthenticate s .reading)
+
+-- a refusal's pair place
+abbrev pub placeIn : Verdict → ℕ
+placeIn Clear = 0
+placeIn (Not e) = placeOf e
+
+-- ---- what is known of a refusal of a message of n bytes
+
+-- the fixed part of each kind
+abbrev pub fixedOf : Kind → ℕ
+fixedOf Negotiate = 32
+fixedOf Challenge = 48
+fixedOf Authenticate = 64
+
+-- the message has its fixed part where a field is given
+pub record FixedPart (fixed field n : ℕ) : Type 0 where
+  pub there : (field ≡ 0 → ⊥) → fixed ≤ n
+
+-- checks 10, 12 and 13 fail at a pair, 11 where there is none
+abbrev pub hasPair : ℕ → Bool
+hasPair number = leb 10 number && leb number 13 && not (eqb number 11)
+
+-- the place has 32 bits, and a pair's id and length number stand there
+pub record Placed (e : Refusal) (n : ℕ) : Type 0 where
+  pub short : placeOf e < 2 ^ 32
+  pub there : hasPair (numberOf e) ≡ true → placeOf e + 4 ≤ n
+
+pub record Known (fixed : ℕ) (e : Refusal) (n : ℕ) : Type 0 where
+  pub fixed-part : FixedPart fixed (fieldOf e) n
+  pub placed : Placed e n

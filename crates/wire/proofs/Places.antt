@@ -1,6 +1,6 @@
 -- Laws of a refusal's place: where it is moved, and where there is none.
 use Prim.Native.Nat.{ℕ, _+_, _^_, _≤_, _<_}
-use mathlib.Core.Path.{_≡_, refl}
+use mathlib.Core.Path.{_≡_, refl, sym, ap, _∙_}
 use mathlib.Core.List.{List, [], _∷_}
 use native.Mathlib.Omega.{arith}
 use mir.Syntax.{w64}
@@ -37,184 +37,87 @@ pub ruleset moving = (fits-10, fits-11, fits-12, fits-13)
 abbrev placeless : List ℕ
 placeless = 0 ∷ 1 ∷ 2 ∷ 3 ∷ 4 ∷ 5 ∷ 6 ∷ 7 ∷ 8 ∷ 13 ∷ 14 ∷ 15 ∷ 16 ∷ 17 ∷ 18 ∷ 19 ∷ 20 ∷ 21 ∷ 22 ∷ 23 ∷ 24 ∷ 25 ∷ 26 ∷ 27 ∷ 28 ∷ 29 ∷ 30 ∷ 31 ∷ 32 ∷ []
 
+-- every refusal has no place and stays as it is, or is one of 10 to 13, whose place alone moves
+data Place : Refusal → Type 0 where
+  none : (e : Refusal) → ((10 ≤ numberOf e) × (numberOf e ≤ 13) → ⊥) → ((n : ℕ) → movedBy n e ≡ e) → placeOf e ≡ 0 → Place e
+  some : (e : Refusal) → (10 ≤ numberOf e) × (numberOf e ≤ 13) →
+      ((n : ℕ) → (placeOf (movedBy n e) ≡ n + placeOf e) × (numberOf (movedBy n e) ≡ numberOf e) × (fieldOf (movedBy n e) ≡ fieldOf e)) →
+      (OneOf placeless (tagOf the-type e) → ⊥) → Place e
+
+place : (e : Refusal) → Place e
+place TooLong = none TooLong (λ h. omega (arith, h .0, h .1)) (λ n. refl) refl
+place TooShort = none TooShort (λ h. omega (arith, h .0, h .1)) (λ n. refl) refl
+place WrongSignature = none WrongSignature (λ h. omega (arith, h .0, h .1)) (λ n. refl) refl
+place WrongType = none WrongType (λ h. omega (arith, h .0, h .1)) (λ n. refl) refl
+place NoCharset = none NoCharset (λ h. omega (arith, h .0, h .1)) (λ n. refl) refl
+place (PastEnd f) = none (PastEnd f) (λ h. omega (arith, h .0, h .1)) (λ n. refl) refl
+place (InFixedPart f) = none (InFixedPart f) (λ h. omega (arith, h .0, h .1)) (λ n. refl) refl
+place (OddName f) = none (OddName f) (λ h. omega (arith, h .0, h .1)) (λ n. refl) refl
+place (NameOverSecret f) = none (NameOverSecret f) (λ h. omega (arith, h .0, h .1)) (λ n. refl) refl
+place (PairPastEnd at) = some (PairPastEnd at) (omega arith, omega arith) (λ n. (refl, refl, refl)) (miss placeless 9 tt)
+place (PairMissing at) = some (PairMissing at) (omega arith, omega arith) (λ n. (refl, refl, refl)) (miss placeless 10 tt)
+place (WrongEndPair at) = some (WrongEndPair at) (omega arith, omega arith) (λ n. (refl, refl, refl)) (miss placeless 11 tt)
+place (WrongPairSize at) = some (WrongPairSize at) (omega arith, omega arith) (λ n. (refl, refl, refl)) (miss placeless 12 tt)
+place NoStrings = none NoStrings (λ h. omega (arith, h .0, h .1)) (λ n. refl) refl
+place (Unterminated f) = none (Unterminated f) (λ h. omega (arith, h .0, h .1)) (λ n. refl) refl
+place BytesLeft = none BytesLeft (λ h. omega (arith, h .0, h .1)) (λ n. refl) refl
+place WrongResponse = none WrongResponse (λ h. omega (arith, h .0, h .1)) (λ n. refl) refl
+place No128Bit = none No128Bit (λ h. omega (arith, h .0, h .1)) (λ n. refl) refl
+place NoServerNames = none NoServerNames (λ h. omega (arith, h .0, h .1)) (λ n. refl) refl
+place TooLongToWrite = none TooLongToWrite (λ h. omega (arith, h .0, h .1)) (λ n. refl) refl
+place (OddNameToWrite f) = none (OddNameToWrite f) (λ h. omega (arith, h .0, h .1)) (λ n. refl) refl
+place WrongKey = none WrongKey (λ h. omega (arith, h .0, h .1)) (λ n. refl) refl
+place NoRoom = none NoRoom (λ h. omega (arith, h .0, h .1)) (λ n. refl) refl
+place (ZeroInString f) = none (ZeroInString f) (λ h. omega (arith, h .0, h .1)) (λ n. refl) refl
+place (WrongLabel f) = none (WrongLabel f) (λ h. omega (arith, h .0, h .1)) (λ n. refl) refl
+place (PlaceNotBefore f) = none (PlaceNotBefore f) (λ h. omega (arith, h .0, h .1)) (λ n. refl) refl
+place (TooManyJumps f) = none (TooManyJumps f) (λ h. omega (arith, h .0, h .1)) (λ n. refl) refl
+place (NameTooLong f) = none (NameTooLong f) (λ h. omega (arith, h .0, h .1)) (λ n. refl) refl
+place PlaceOutside = none PlaceOutside (λ h. omega (arith, h .0, h .1)) (λ n. refl) refl
+place WrongSessionKey = none WrongSessionKey (λ h. omega (arith, h .0, h .1)) (λ n. refl) refl
+place NoMic = none NoMic (λ h. omega (arith, h .0, h .1)) (λ n. refl) refl
+place WrongScheme = none WrongScheme (λ h. omega (arith, h .0, h .1)) (λ n. refl) refl
+place WrongBase64 = none WrongBase64 (λ h. omega (arith, h .0, h .1)) (λ n. refl) refl
+
 pub stays : (e : Refusal) (n : ℕ) → OneOf placeless (tagOf the-type e) → e ≡ movedBy n e
-stays TooLong n m = refl
-stays TooShort n m = refl
-stays WrongSignature n m = refl
-stays WrongType n m = refl
-stays NoCharset n m = refl
-stays (PastEnd f) n m = refl
-stays (InFixedPart f) n m = refl
-stays (OddName f) n m = refl
-stays (NameOverSecret f) n m = refl
-stays (PairPastEnd at) n m = absurd (miss placeless 9 tt m)
-stays (PairMissing at) n m = absurd (miss placeless 10 tt m)
-stays (WrongEndPair at) n m = absurd (miss placeless 11 tt m)
-stays (WrongPairSize at) n m = absurd (miss placeless 12 tt m)
-stays NoStrings n m = refl
-stays (Unterminated f) n m = refl
-stays BytesLeft n m = refl
-stays WrongResponse n m = refl
-stays No128Bit n m = refl
-stays NoServerNames n m = refl
-stays TooLongToWrite n m = refl
-stays (OddNameToWrite f) n m = refl
-stays WrongKey n m = refl
-stays NoRoom n m = refl
-stays (ZeroInString f) n m = refl
-stays (WrongLabel f) n m = refl
-stays (PlaceNotBefore f) n m = refl
-stays (TooManyJumps f) n m = refl
-stays (NameTooLong f) n m = refl
-stays PlaceOutside n m = refl
-stays WrongSessionKey n m = refl
-stays NoMic n m = refl
-stays WrongScheme n m = refl
-stays WrongBase64 n m = refl
+stays e n m = go (place e) where
+  go : Place e → e ≡ movedBy n e
+  go (none e out same z) = sym (same n)
+  go (some e there moved tagged) = absurd (tagged m)
+
+pub no-place : (e : Refusal) (n : ℕ) → n ≡ 0 → OneOf placeless (tagOf the-type e) → n ≡ placeOf e
+no-place e n h m = go (place e) where
+  go : Place e → n ≡ placeOf e
+  go (none e out same z) = h ∙ sym z
+  go (some e there moved tagged) = absurd (tagged m)
 
 -- a place moves by no more
 pub moved-place : (n : ℕ) (e : Refusal) → placeOf (movedBy n e) ≤ n + placeOf e
-moved-place n TooLong = omega arith
-moved-place n TooShort = omega arith
-moved-place n WrongSignature = omega arith
-moved-place n WrongType = omega arith
-moved-place n NoCharset = omega arith
-moved-place n (PastEnd f) = omega arith
-moved-place n (InFixedPart f) = omega arith
-moved-place n (OddName f) = omega arith
-moved-place n (NameOverSecret f) = omega arith
-moved-place n (PairPastEnd at) = omega arith
-moved-place n (PairMissing at) = omega arith
-moved-place n (WrongEndPair at) = omega arith
-moved-place n (WrongPairSize at) = omega arith
-moved-place n NoStrings = omega arith
-moved-place n (Unterminated f) = omega arith
-moved-place n BytesLeft = omega arith
-moved-place n WrongResponse = omega arith
-moved-place n No128Bit = omega arith
-moved-place n NoServerNames = omega arith
-moved-place n TooLongToWrite = omega arith
-moved-place n (OddNameToWrite f) = omega arith
-moved-place n WrongKey = omega arith
-moved-place n NoRoom = omega arith
-moved-place n (ZeroInString f) = omega arith
-moved-place n (WrongLabel f) = omega arith
-moved-place n (PlaceNotBefore f) = omega arith
-moved-place n (TooManyJumps f) = omega arith
-moved-place n (NameTooLong f) = omega arith
-moved-place n PlaceOutside = omega arith
-moved-place n WrongSessionKey = omega arith
-moved-place n NoMic = omega arith
-moved-place n WrongScheme = omega arith
-moved-place n WrongBase64 = omega arith
+moved-place n e = go (place e) where
+  go : Place e → placeOf (movedBy n e) ≤ n + placeOf e
+  go (none e out same z) = rw (same n) (omega arith)
+  go (some e there moved tagged) = omega (arith, moved n .0)
 
 -- its number and field stay
 pub moved-number : (n : ℕ) (e : Refusal) → (numberOf (movedBy n e) ≡ numberOf e) × (fieldOf (movedBy n e) ≡ fieldOf e)
-moved-number n TooLong = (refl, refl)
-moved-number n TooShort = (refl, refl)
-moved-number n WrongSignature = (refl, refl)
-moved-number n WrongType = (refl, refl)
-moved-number n NoCharset = (refl, refl)
-moved-number n (PastEnd f) = (refl, refl)
-moved-number n (InFixedPart f) = (refl, refl)
-moved-number n (OddName f) = (refl, refl)
-moved-number n (NameOverSecret f) = (refl, refl)
-moved-number n (PairPastEnd at) = (refl, refl)
-moved-number n (PairMissing at) = (refl, refl)
-moved-number n (WrongEndPair at) = (refl, refl)
-moved-number n (WrongPairSize at) = (refl, refl)
-moved-number n NoStrings = (refl, refl)
-moved-number n (Unterminated f) = (refl, refl)
-moved-number n BytesLeft = (refl, refl)
-moved-number n WrongResponse = (refl, refl)
-moved-number n No128Bit = (refl, refl)
-moved-number n NoServerNames = (refl, refl)
-moved-number n TooLongToWrite = (refl, refl)
-moved-number n (OddNameToWrite f) = (refl, refl)
-moved-number n WrongKey = (refl, refl)
-moved-number n NoRoom = (refl, refl)
-moved-number n (ZeroInString f) = (refl, refl)
-moved-number n (WrongLabel f) = (refl, refl)
-moved-number n (PlaceNotBefore f) = (refl, refl)
-moved-number n (TooManyJumps f) = (refl, refl)
-moved-number n (NameTooLong f) = (refl, refl)
-moved-number n PlaceOutside = (refl, refl)
-moved-number n WrongSessionKey = (refl, refl)
-moved-number n NoMic = (refl, refl)
-moved-number n WrongScheme = (refl, refl)
-moved-number n WrongBase64 = (refl, refl)
+moved-number n e = go (place e) where
+  go : Place e → (numberOf (movedBy n e) ≡ numberOf e) × (fieldOf (movedBy n e) ≡ fieldOf e)
+  go (none e out same z) = (ap numberOf (same n), ap fieldOf (same n))
+  go (some e there moved tagged) = (moved n .1, moved n .2)
 
 -- and where there is a place, it moves
 pub moved-at : (n : ℕ) (e : Refusal) → (10 ≤ numberOf e) × (numberOf e ≤ 13) → placeOf (movedBy n e) ≡ n + placeOf e
-moved-at n TooLong h = absurd (omega (arith, h .0, h .1))
-moved-at n TooShort h = absurd (omega (arith, h .0, h .1))
-moved-at n WrongSignature h = absurd (omega (arith, h .0, h .1))
-moved-at n WrongType h = absurd (omega (arith, h .0, h .1))
-moved-at n NoCharset h = absurd (omega (arith, h .0, h .1))
-moved-at n (PastEnd f) h = absurd (omega (arith, h .0, h .1))
-moved-at n (InFixedPart f) h = absurd (omega (arith, h .0, h .1))
-moved-at n (OddName f) h = absurd (omega (arith, h .0, h .1))
-moved-at n (NameOverSecret f) h = absurd (omega (arith, h .0, h .1))
-moved-at n (PairPastEnd at) h = refl
-moved-at n (PairMissing at) h = refl
-moved-at n (WrongEndPair at) h = refl
-moved-at n (WrongPairSize at) h = refl
-moved-at n NoStrings h = absurd (omega (arith, h .0, h .1))
-moved-at n (Unterminated f) h = absurd (omega (arith, h .0, h .1))
-moved-at n BytesLeft h = absurd (omega (arith, h .0, h .1))
-moved-at n WrongResponse h = absurd (omega (arith, h .0, h .1))
-moved-at n No128Bit h = absurd (omega (arith, h .0, h .1))
-moved-at n NoServerNames h = absurd (omega (arith, h .0, h .1))
-moved-at n TooLongToWrite h = absurd (omega (arith, h .0, h .1))
-moved-at n (OddNameToWrite f) h = absurd (omega (arith, h .0, h .1))
-moved-at n WrongKey h = absurd (omega (arith, h .0, h .1))
-moved-at n NoRoom h = absurd (omega (arith, h .0, h .1))
-moved-at n (ZeroInString f) h = absurd (omega (arith, h .0, h .1))
-moved-at n (WrongLabel f) h = absurd (omega (arith, h .0, h .1))
-moved-at n (PlaceNotBefore f) h = absurd (omega (arith, h .0, h .1))
-moved-at n (TooManyJumps f) h = absurd (omega (arith, h .0, h .1))
-moved-at n (NameTooLong f) h = absurd (omega (arith, h .0, h .1))
-moved-at n PlaceOutside h = absurd (omega (arith, h .0, h .1))
-moved-at n WrongSessionKey h = absurd (omega (arith, h .0, h .1))
-moved-at n NoMic h = absurd (omega (arith, h .0, h .1))
-moved-at n WrongScheme h = absurd (omega (arith, h .0, h .1))
-moved-at n WrongBase64 h = absurd (omega (arith, h .0, h .1))
+moved-at n e h = go (place e) where
+  go : Place e → placeOf (movedBy n e) ≡ n + placeOf e
+  go (none e out same z) = absurd (out h)
+  go (some e there moved tagged) = moved n .0
 
 -- only 10 to 13 have one
 pub placeless-number : (e : Refusal) → ((10 ≤ numberOf e) × (numberOf e ≤ 13) → ⊥) → placeOf e ≡ 0
-placeless-number TooLong h = refl
-placeless-number TooShort h = refl
-placeless-number WrongSignature h = refl
-placeless-number WrongType h = refl
-placeless-number NoCharset h = refl
-placeless-number (PastEnd f) h = refl
-placeless-number (InFixedPart f) h = refl
-placeless-number (OddName f) h = refl
-placeless-number (NameOverSecret f) h = refl
-placeless-number (PairPastEnd at) h = absurd (h (omega arith, omega arith))
-placeless-number (PairMissing at) h = absurd (h (omega arith, omega arith))
-placeless-number (WrongEndPair at) h = absurd (h (omega arith, omega arith))
-placeless-number (WrongPairSize at) h = absurd (h (omega arith, omega arith))
-placeless-number NoStrings h = refl
-placeless-number (Unterminated f) h = refl
-placeless-number BytesLeft h = refl
-placeless-number WrongResponse h = refl
-placeless-number No128Bit h = refl
-placeless-number NoServerNames h = refl
-placeless-number TooLongToWrite h = refl
-placeless-number (OddNameToWrite f) h = refl
-placeless-number WrongKey h = refl
-placeless-number NoRoom h = refl
-placeless-number (ZeroInString f) h = refl
-placeless-number (WrongLabel f) h = refl
-placeless-number (PlaceNotBefore f) h = refl
-placeless-number (TooManyJumps f) h = refl
-placeless-number (NameTooLong f) h = refl
-placeless-number PlaceOutside h = refl
-placeless-number WrongSessionKey h = refl
-placeless-number NoMic h = refl
-placeless-number WrongScheme h = refl
-placeless-number WrongBase64 h = refl
+placeless-number e h = go (place e) where
+  go : Place e → placeOf e ≡ 0
+  go (none e out same z) = z
+  go (some e there moved tagged) = absurd (h there)
 
 -- ---- refusals without a place
 

@@ -65,17 +65,15 @@ pub struct Field<'a> {
 }
 
 /// "Each field's place and bytes": the `len` bytes of `message` from `offset`
-/// on. Where the message doesn't reach so far it is no field of it: refused 6,
-/// with no field's number.
+/// on. "A nonempty field ends past the message" is refused 6, with no field's
+/// number; "an empty field's offset is ignored".
 pub fn field_bytes(message: &[u8], offset: u32, len: u16) -> Result<&[u8], Refusal> {
     let head = Head {
         len,
         max_len: 0,
         offset,
     };
-    head.slice_of(message)
-        .map(|field| field.bytes)
-        .ok_or(Reason::FieldPastEnd.of_message())
+    head.locate(message, 0).map(|field| field.bytes)
 }
 
 impl Field<'_> {

@@ -629,15 +629,15 @@ fn the_timestamp_is_little_endian() {
 }
 
 #[test]
-fn a_field_has_its_own_bytes_or_does_not_fit() {
+fn a_field_has_its_own_bytes_or_ends_past_the_message() {
     let message = b"0123456789";
     assert_eq!(field_bytes(message, 2, 3), Ok(&b"234"[..]));
     assert_eq!(field_bytes(message, 0, 10), Ok(&message[..]));
     assert_eq!(field_bytes(message, 9, 1), Ok(&b"9"[..]));
-    for offset in [0, 5, 10] {
+    for offset in [0, 5, 10, 11, MOST] {
         assert_eq!(field_bytes(message, offset, 0), Ok(&b""[..]));
     }
-    for (offset, len) in [(0, 11), (9, 2), (10, 1), (11, 0), (MOST, 2), (MOST, 0xFFFF)] {
+    for (offset, len) in [(0, 11), (9, 2), (10, 1), (11, 1), (MOST, 2), (MOST, 0xFFFF)] {
         let refusal = field_bytes(message, offset, len).expect_err("it does not fit");
         assert_eq!((refusal.number(), refusal.field), (6, 0));
     }

@@ -24,19 +24,19 @@ use ghost.Atoms.{Atoms, sem}
 use contract.Monad.{Fun, fact}
 use contract.Running.{givenOf, tables, tablesOf}
 use types.Kit.{Given, Item, ‵, raw, _⊛_, ⋆, some, later, runs, anyQ, atRet, Sq, _$_, _∵_, !, qed, by, move, drop, use1, use2, split, split3, join, pick, rewrite, fsplit, fsplit3, fjoin, suffices, frame, await, done}
-use types.Part.{whole as all-of, sub, look-in}
-use types.Run.{look, look-raw, store, store-raw, init, forget, stop, hop, fld, from, load, lit, of-opd, bin, and-then, no-more, assigns, assigns-last, land, first, blocks, stays, leaves-loop, returns, enter, alloc1, alloc0, params1, pass1, pass0, free1, free0, exec, Below, again, loops}
+use types.Part.{whole as all-of, sub, look-in, store-in}
+use types.Run.{look, store, init, forget, stop, hop, fld, from, load, lit, of-opd, bin, and-then, no-more, assigns, assigns-last, land, first, blocks, stays, leaves-loop, returns, enter, alloc1, alloc0, params1, pass1, pass0, free1, free0, exec, Below, again, loops}
 use sound.WpLaws.{fmOf, WpFn-mono}
 use denote.RattleType.{RattleType, owns}
 use denote.Shadow.{pureI}
 use denote.Laws.{Is, shows}
-use denote.Memory.{mem, pointee}
+use denote.Memory.{mem, cellAt, pointee}
 use denote.Builtin.{u8, usize}
 use denote.Plain.{uint-makes, uint-lawful}
 use denote.Ref.{RefT, now}
 use denote.Slice.{sliceTy, sliceVal, MutSlice, ShrSlice, heres, Room, slice-vals, shr-slice-tells, mut-slice-tells, shr-slice-copy, at-slice, codedHoleys}
 use denote.Lend.{Held}
-use denote.Index.{place-is, row, elem-out, elem-put, opens-slice, closes-slice}
+use denote.Index.{place, place-is, row, elem-out, elem-put, opens-slice, closes-slice}
 use denote.Signature.{plain}
 use denote.Steps.{only, owned, peeks, heard, nothing}
 use denote.Enum.Laws as EL
@@ -51,21 +51,23 @@ use denote.Triple.Walked.{Stays, stay-none-slice, stay-slice, walkOf, AllGo, goe
 use denote.Exit.{yes}
 use native.Mathlib.Omega.{arith}
 use Rattle.head.specs.Head.{lengthHolds}
-use Rattle.batch.specs.Batch.{answerOf, answered, bufferVerdict, toFill, filled}
+use Rattle.batch.specs.Batch.{answerTo, answered, bufferVerdict, toFill, filled}
 use Rattle.wire.specs.declared.check.Verdict.{Verdict}
-use Rattle.wire.specs.declared.check.Verdict.the-variants.{Clear}
-use Rattle.head.specs.declared.Kind.the-variants.{Negotiate}
+use Rattle.batch.specs.declared.Answer.{Answer as Three}
 use Rattle.batch.specs.declared.Entry.{Entry}
 use Rattle.batch.proofs.Says.{says-both}
 use Rattle.batch.proofs.Fill.{fillTo, fill-length, fill-next, filled-is, count-le}
+use Rattle.batch.proofs.Laws.{entry-is}
+use Rattle.batch.proofs.Answer as N
+use Rattle.batch.proofs.Answer.Laws as N′
 use Rattle.batch.proofs.Entry as E
 use Rattle.batch.proofs.Entry.Laws as E′
 use Rattle.wire.proofs.check.Verdict as Said
 use Rattle.wire.proofs.check.Verdict.Laws as Said′
-use Rattle.batch.proofs.answered as answer
-use Rattle.batch.proofs.answered.Symbol as answer-def
-use Rattle.batch.proofs.answered.Symbol.{name as #batch·answered}
-use Rattle.batch.proofs.answered.Met as answer-thm
+use Rattle.batch.proofs.answer_to as answer
+use Rattle.batch.proofs.answer_to.Symbol as answer-def
+use Rattle.batch.proofs.answer_to.Symbol.{name as #batch·answer-to}
+use Rattle.batch.proofs.answer_to.Met as answer-thm
 use Rattle.batch.proofs.to_fill as count
 use Rattle.batch.proofs.to_fill.Symbol as count-def
 use Rattle.batch.proofs.to_fill.Symbol.{name as #batch·to-fill}
@@ -83,6 +85,9 @@ use Rattle.batch.proofs.check_messages.Code.Mir as code-mir
 abbrev R : RattleType
 R = E.the-row
 
+abbrev Q : RattleType
+Q = N.the-row
+
 abbrev S : RattleType
 S = Said.the-row
 
@@ -97,7 +102,7 @@ entries-ty = sliceTy (tyRef (named 1) mut (pointee (R .written)))
 
 -- what stands past the end
 abbrev none : Entry
-none = record { start = 0; length = 0; mark = Negotiate; answer = answerOf Clear }
+none = record { start = 0; length = 0; mark = 0; answer = record { number = 0; field = 0; place = 0 } }
 
 abbrev stayed : Stays (f.ended .signature .params) (f.ended .kept)
 stayed = (stay-none-slice (0 ∷ []) tt (plain (λ _. u8)) yes, (stay-slice (1 ∷ []) tt (plain (λ _. R)), tt))
@@ -115,7 +120,7 @@ module _ {M : Type 1} (𝓤 : URA M) (H : Heap 𝓤) (A : Atoms 𝓤) (at-mem : 
 
   -- the three callees at their keys
   abbrev Known : Calls 𝓤 H → Type 1
-  Known C = Triple 𝓤 (C #batch·answered) Answer × (Triple 𝓤 (C #batch·to-fill) Count × Triple 𝓤 (C #batch·check-buffer) AsWhole)
+  Known C = Triple 𝓤 (C #batch·answer-to) Answer × (Triple 𝓤 (C #batch·to-fill) Count × Triple 𝓤 (C #batch·check-buffer) AsWhole)
 
 module _ {M : Type 1} (𝓤 : URA M) (H : Heap 𝓤) (A : Atoms 𝓤) (W : Given 𝓤 H A) (at-mem : Memory → SProp 𝓤) (run : Routine → Fun 𝓤)
     (κ κ′ : Lft) (q q′ : Share) (s : RefT (List ℕ)) (b o : ℕ) (γ : GName) (xs : List Entry) where
@@ -171,8 +176,8 @@ module _ {M : Type 1} (𝓤 : URA M) (H : Heap 𝓤) (A : Atoms 𝓤) (W : Given
   asked-a : (e : Entry) (v : Val) → ent 𝓤 (sep 𝓤 (A .lft κ q) (sem 𝓤 H A (owns (ShrSlice (named 0) κ u8 ∷ R ∷ []) (s, (e, tt)) (s-val ∷ [], (v ∷ [], tt))))) (Answer 𝓤 H A at-mem run .pre (to-a e v))
   asked-a e v = qed W (‵ (flft κ q) ∷ ‵ (owns (ShrSlice (named 0) κ u8 ∷ R ∷ []) (s, (e, tt)) (s-val ∷ [], (v ∷ [], tt))) ∷ []) ∵ nothing ! $ move ! (1 ∷ 0 ∷ []) $ join ! $ join ! $ frame ! $ done !
 
-  said-a : (e r : Entry) → ent 𝓤 (ensured 𝓤 H A answer.ended (answer.clauses 𝓤 H A at-mem run) (κ, tt) (s, (e, tt)) tt r) (fact 𝓤 (r ≡ to-answer e))
-  said-a e r = exE 𝓤 _ (λ ws. snd∗ 𝓤 (sem 𝓤 H A (lasts answer.ended (κ, tt) (s, (e, tt)) ws)) (fact 𝓤 (r ≡ to-answer e)))
+  said-a : (e : Entry) (r : Three) → ent 𝓤 (ensured 𝓤 H A answer.ended (answer.clauses 𝓤 H A at-mem run) (κ, tt) (s, (e, tt)) tt r) (fact 𝓤 (r ≡ answerTo (now s) e))
+  said-a e r = exE 𝓤 _ (λ ws. snd∗ 𝓤 (sem 𝓤 H A (lasts answer.ended (κ, tt) (s, (e, tt)) ws)) (fact 𝓤 (r ≡ answerTo (now s) e)))
 
   abbrev to-c : Count 𝓤 H A at-mem run .Ghost
   to-c = (((κ, tt), (q, tt), tt, (s, (n, tt)), (s-val ∷ [], (vint w64 n ∷ [], tt))), tt)
@@ -202,7 +207,7 @@ module _ {M : Type 1} (𝓤 : URA M) (H : Heap 𝓤) (A : Atoms 𝓤) (W : Given
   Nearer-wf : WellFounded Nearer
   Nearer-wf = InvImage·wf (λ (i : Upto). c - i .0) (Nat·lt-wfRel .wf)
 
-  module _ (𝓣 : Tables 𝓤 H) (known : Known 𝓤 H A at-mem run (𝓣 .C)) (room : Room R n) (l₀ l₁ l₂ l₃ l₄ l₅ l₆ l₇ l₈ l₉ l₁₀ l₁₁ : ℕ) where
+  module _ (𝓣 : Tables 𝓤 H) (known : Known 𝓤 H A at-mem run (𝓣 .C)) (room : Room R n) (l₀ l₁ l₂ l₃ l₄ l₅ l₆ l₇ l₈ l₉ l₁₀ l₁₁ l₁₂ : ℕ) where
     abbrev C : Calls 𝓤 H
     C = 𝓣 .C
 
@@ -210,13 +215,13 @@ module _ {M : Type 1} (𝓤 : URA M) (H : Heap 𝓤) (A : Atoms 𝓤) (W : Given
     Λ = 𝓣 .Λ
 
     abbrev En : Env 𝓤 H
-    En = (Said′.mir, l₀) ∷ (bytes-ty, l₁) ∷ (entries-ty, l₂) ∷ (word, l₃) ∷ (word, l₄) ∷ (E′.mir, l₅) ∷ (word, l₆) ∷ (tyBool, l₇) ∷ (word, l₈) ∷ (tyPtr, l₉) ∷ (E′.mir, l₁₀) ∷ (tyPtr, l₁₁) ∷ []
+    En = (Said′.mir, l₀) ∷ (bytes-ty, l₁) ∷ (entries-ty, l₂) ∷ (word, l₃) ∷ (word, l₄) ∷ (word, l₅) ∷ (tyBool, l₆) ∷ (N′.mir, l₇) ∷ (word, l₈) ∷ (tyPtr, l₉) ∷ (E′.mir, l₁₀) ∷ (word, l₁₁) ∷ (tyPtr, l₁₂) ∷ []
 
     -- the invariant: the first i entries have their answers
     abbrev At : Upto → List (Item 𝓤)
     At i = ‵ (row R fullShare (fillTo to-answer (i .0) xs) b o) ∷ ‵ (fobor κ′ q′ (Held R n b o γ)) ∷ ‵ (fobs γ (codedHoleys R .code (heres R xs))) ∷ ‵ (fauth γ (codedHoleys R .code (heres R xs))) ∷ ‵ (flft κ q) ∷ ‵ Own-s
-        ∷ ‵ (froom tyPtr l₁₁ 0) ∷ ‵ (fdies tyPtr l₁₁) ∷ ‵ (froom E′.mir l₁₀ 0) ∷ ‵ (fdies E′.mir l₁₀) ∷ ‵ (froom tyPtr l₉ 0) ∷ ‵ (fdies tyPtr l₉) ∷ ‵ (froom word l₈ 0) ∷ ‵ (fdies word l₈)
-        ∷ ‵ (froom tyBool l₇ 0) ∷ ‵ (fdies tyBool l₇) ∷ ‵ (froom word l₆ 0) ∷ ‵ (fdies word l₆) ∷ ‵ (froom E′.mir l₅ 0) ∷ ‵ (fdies E′.mir l₅)
+        ∷ ‵ (froom tyPtr l₁₂ 0) ∷ ‵ (fdies tyPtr l₁₂) ∷ ‵ (froom word l₁₁ 0) ∷ ‵ (fdies word l₁₁) ∷ ‵ (froom E′.mir l₁₀ 0) ∷ ‵ (fdies E′.mir l₁₀) ∷ ‵ (froom tyPtr l₉ 0) ∷ ‵ (fdies tyPtr l₉) ∷ ‵ (froom word l₈ 0) ∷ ‵ (fdies word l₈)
+        ∷ ‵ (froom N′.mir l₇ 0) ∷ ‵ (fdies N′.mir l₇) ∷ ‵ (froom tyBool l₆ 0) ∷ ‵ (fdies tyBool l₆) ∷ ‵ (froom word l₅ 0) ∷ ‵ (fdies word l₅)
         ∷ ‵ (fat fullShare word l₄ 0 (vint w64 (i .0))) ∷ ‵ (fdies word l₄) ∷ ‵ (fat fullShare word l₃ 0 (vint w64 c)) ∷ ‵ (fdies word l₃)
         ∷ ‵ (fat fullShare entries-ty l₂ 0 (sliceVal (b, o) n)) ∷ ‵ (fdies entries-ty l₂) ∷ ‵ (fat fullShare bytes-ty l₁ 0 s-val) ∷ ‵ (fdies bytes-ty l₁) ∷ ‵ (froom Said′.mir l₀ 0) ∷ ‵ (fdies Said′.mir l₀) ∷ []
 
@@ -231,38 +236,52 @@ module _ {M : Type 1} (𝓤 : URA M) (H : Heap 𝓤) (A : Atoms 𝓤) (W : Given
       abbrev e : Entry
       e = getD zs (i .0) none
 
+      -- it with an answer
+      abbrev with-answer : Three → Entry
+      with-answer r = record { start = e .start; length = e .length; mark = e .mark; answer = r }
+
+      written : (r : Three) (u : Val) → Is Q r (u ∷ []) → Is Q r (LL.vals N.the-type N′.the-laws r)
+      written r u is = subst (Is Q r) (LL.tells N.the-type N′.the-laws r (u ∷ []) is) is
+
+      made : (r : Three) → Is Q r (LL.vals N.the-type N′.the-laws r) → Is R e (LL.vals E.the-type E′.the-laws e) → Is R (with-answer r) (LL.vals E.the-type E′.the-laws (with-answer r))
+      made r is was = let w = LL.owed E.the-type E′.the-laws e _ was in LL.owes E.the-type E′.the-laws (with-answer r) (w .0, (w .1 .0, (w .1 .1 .0, (is, tt))))
+
       -- a turn that fills one entry
       more : i .0 < c → ltb (i .0) c ≡ true → Sq W (At i) (runs C Λ En code-mir.turn-1 (anyQ (Turned i)))
       unfolding afterTurn
       more l t =
-          assigns ! (bin ! (load ! (from ! (stop !)) (look ! 20 refl)) (load ! (from ! (stop !)) (look ! 22 refl)) tt) (from ! (stop !)) (init ! 14 refl (tt, tt)) $
-          rewrite ! 14 (λ (y : Bool). ‵ (fat fullShare tyBool l₇ 0 (vbool y))) t refl $ stays ! (load ! (from ! (stop !)) (look ! 14 refl)) $
-          assigns ! (bin ! (load ! (from ! (stop !)) (look ! 20 refl)) (lit ! tt) (record { fits = bytes-fit })) (from ! (stop !)) (init ! 12 refl (tt, record { fits = bytes-fit })) $
-          assigns ! (bin ! (load ! (from ! (fld ! refl (stop !))) (look-in ! 24 (sub ! 0 refl (all-of !)))) (load ! (from ! (stop !)) (look ! 12 refl)) tt) (from ! (stop !)) (init ! 10 refl (tt, tt)) $
-          rewrite ! 10 (λ (p : ℕ). ‵ (fat fullShare tyPtr l₉ 0 (vptr b p))) (sym (place-is 32 o (i .0))) refl $
+          assigns ! (bin ! (load ! (from ! (stop !)) (look ! 22 refl)) (load ! (from ! (stop !)) (look ! 24 refl)) tt) (from ! (stop !)) (init ! 18 refl (tt, tt)) $
+          rewrite ! 18 (λ (y : Bool). ‵ (fat fullShare tyBool l₆ 0 (vbool y))) t refl $ stays ! (load ! (from ! (stop !)) (look ! 18 refl)) $
+          assigns ! (bin ! (load ! (from ! (stop !)) (look ! 22 refl)) (lit ! tt) (record { fits = bytes-fit })) (from ! (stop !)) (init ! 14 refl (tt, record { fits = bytes-fit })) $
+          assigns ! (bin ! (load ! (from ! (fld ! refl (stop !))) (look-in ! 26 (sub ! 0 refl (all-of !)))) (load ! (from ! (stop !)) (look ! 14 refl)) tt) (from ! (stop !)) (init ! 12 refl (tt, tt)) $
+          rewrite ! 12 (λ (p : ℕ). ‵ (fat fullShare tyPtr l₉ 0 (vptr b p))) (sym (place-is 32 o (i .0))) refl $
           elem-out ! R (Is R) (shows 𝓤 H A R) (LL.vals E.the-type E′.the-laws) (LL.tells E.the-type E′.the-laws) fullShare zs (i .0) none b o l′ (λ g.
-          -- [entries[i]; what it owns; the others; the open borrow; obs; auth; the token; buffer's; _11 at 8; …; _1 at 28; room for _0]
-          assigns ! (of-opd ! (load ! (from ! (hop ! (look ! 12 refl) (stop !))) (look-raw ! 0 refl))) (from ! (stop !)) (init ! 10 refl (LL.lawful E.the-type E′.the-laws 𝓤 H A W .typed e _ g .0)) $
-          assigns ! (of-opd ! (load ! (from ! (stop !)) (look ! 10 refl))) (from ! (stop !)) (init ! 20 refl (LL.lawful E.the-type E′.the-laws 𝓤 H A W .typed e _ g .0)) $
+          -- [list[i]; what it owns; the others; the open borrow; obs; auth; the token; buffer's; _12 at 8; …; _1 at 30; room for _0]
+          use1 W (‵ (fat fullShare E′.mir b (place 32 o (i .0)) (LL.val E.the-type E′.the-laws e))) (W .laws .raw-at fullShare E′.mir b (place 32 o (i .0)) (LL.val E.the-type E′.the-laws e)) $
+          assigns ! (of-opd ! (load ! (from ! (hop ! (look ! 14 refl) (stop !))) (look ! 0 refl))) (from ! (stop !)) (init ! 12 refl (LL.lawful E.the-type E′.the-laws 𝓤 H A W .typed e _ g .0)) $
           -- the call, on a copy of the buffer's reference
           move ! (7 ∷ []) $ use1 W (‵ Own-s ⊛ ‵ Own-s) (shr-slice-copy 𝓤 H A W (named 0) κ u8 .twice s (s-val ∷ [])) $ split ! $
           nothing ! $ move ! (4 ∷ 0 ∷ []) $ fjoin ! $ move ! (1 ∷ 0 ∷ []) $ fjoin ! $ move ! (7 ∷ 0 ∷ []) $ use2 W (raw (Answer 𝓤 H A at-mem run .pre (to-a e (LL.val E.the-type E′.the-laws e)))) (asked-a e _) $
-          -- [what `answered` asks; buffer's; entries[i]; the others; the open borrow; obs; auth; _11 at 7; …]
-          calls-at ! (fmOf 𝓤 H (W .laws) 𝓣) (Answer 𝓤 H A at-mem run) (known .0) (to-a e (LL.val E.the-type E′.the-laws e)) (and-then ! (load ! (from ! (stop !)) (look ! 27 refl)) (and-then ! (load ! (from ! (stop !)) (look ! 19 refl)) (no-more !))) (λ u.
-          use1 W (later (some (λ (r : Entry). ((‵ (flft κ q) ⊛ ‵ ftrue) ⊛ ‵ (R .own r (u ∷ []))) ⊛ raw (ensured 𝓤 H A answer.ended (answer.clauses 𝓤 H A at-mem run) (κ, tt) (s, (e, tt)) tt r)))) (id⊢ 𝓤 _) $ await ! tt $ pick ! (λ r.
-          split ! $ move ! (1 ∷ []) $ use1 W (raw (fact 𝓤 (r ≡ to-answer e))) (said-a e r) $ heard ! (r ≡ to-answer e) (λ is-answer. split ! $ move ! (1 ∷ []) $
-          peeks ! R (Is R) (shows 𝓤 H A R) r (u ∷ []) (λ is.
-          -- [what the result owns; the token; buffer's; entries[i]; the others; the open borrow; obs; auth; _11 at 8; …]
-          land ! (from ! (stop !)) (store ! 10 refl (LL.lawful E.the-type E′.the-laws 𝓤 H A W .typed r _ is .0)) $
-          assigns ! (bin ! (load ! (from ! (stop !)) (look ! 22 refl)) (lit ! tt) (record { fits = bytes-fit })) (from ! (stop !)) (store ! 14 refl (tt, record { fits = bytes-fit })) $
-          assigns ! (bin ! (load ! (from ! (fld ! refl (stop !))) (look-in ! 26 (sub ! 0 refl (all-of !)))) (load ! (from ! (stop !)) (look ! 14 refl)) tt) (from ! (stop !)) (init ! 8 refl (tt, tt)) $
-          rewrite ! 8 (λ (p : ℕ). ‵ (fat fullShare tyPtr l₁₁ 0 (vptr b p))) (sym (place-is 32 o (i .0))) refl $
-          assigns ! (of-opd ! (load ! (from ! (stop !)) (look ! 10 refl))) (from ! (hop ! (look ! 8 refl) (stop !))) (store-raw ! 3 refl (LL.lawful E.the-type E′.the-laws 𝓤 H A W .typed r _ is .0)) $
-          move ! (3 ∷ 0 ∷ 4 ∷ []) $ elem-put ! R fullShare zs (i .0) r (u ∷ []) b o l′ $
-          -- [the entries; the token; buffer's; the open borrow; obs; auth; _11 at 6; …]
-          assigns-last ! (bin ! (load ! (from ! (stop !)) (look ! 20 refl)) (lit ! tt) (record { fits = next-fits })) (from ! (stop !)) (store ! 20 refl (tt, record { fits = next-fits })) $
-          forget ! 6 refl $ forget ! 8 refl $ forget ! 10 refl $ forget ! 12 refl $ forget ! 14 refl $ forget ! 18 refl $
-          rewrite ! 0 (λ (ws : List Entry). ‵ (row R fullShare ws b o)) (fill-next to-answer (i .0) xs none r within is-answer) refl $
+          -- [what `answer_to` asks; buffer's; list[i]; the others; the open borrow; obs; auth; _12 at 7; …]
+          calls-at ! (fmOf 𝓤 H (W .laws) 𝓣) (Answer 𝓤 H A at-mem run) (known .0) (to-a e (LL.val E.the-type E′.the-laws e)) (and-then ! (load ! (from ! (stop !)) (look ! 29 refl)) (and-then ! (load ! (from ! (stop !)) (look ! 11 refl)) (no-more !))) (λ u.
+          use1 W (later (some (λ (r : Three). ((‵ (flft κ q) ⊛ ‵ ftrue) ⊛ ‵ (Q .own r (u ∷ []))) ⊛ raw (ensured 𝓤 H A answer.ended (answer.clauses 𝓤 H A at-mem run) (κ, tt) (s, (e, tt)) tt r)))) (id⊢ 𝓤 _) $ await ! tt $ pick ! (λ r.
+          split ! $ move ! (1 ∷ []) $ use1 W (raw (fact 𝓤 (r ≡ answerTo (now s) e))) (said-a e r) $ heard ! (r ≡ answerTo (now s) e) (λ is-answer. split ! $ move ! (1 ∷ []) $
+          peeks ! Q (Is Q) (shows 𝓤 H A Q) r (u ∷ []) (λ is.
+          -- [what the result owns; the token; buffer's; list[i]; the others; the open borrow; obs; auth; _12 at 8; …]
+          land ! (from ! (stop !)) (init ! 18 refl (LL.lawful N.the-type N′.the-laws 𝓤 H A W .typed r _ is .0)) $
+          rewrite ! 18 (λ (v : Val). ‵ (fat fullShare N′.mir l₇ 0 v)) (ap only (LL.tells N.the-type N′.the-laws r _ is)) refl $
+          assigns ! (bin ! (load ! (from ! (stop !)) (look ! 24 refl)) (lit ! tt) (record { fits = bytes-fit })) (from ! (stop !)) (init ! 10 refl (tt, record { fits = bytes-fit })) $
+          assigns ! (bin ! (load ! (from ! (fld ! refl (stop !))) (look-in ! 28 (sub ! 0 refl (all-of !)))) (load ! (from ! (stop !)) (look ! 10 refl)) tt) (from ! (stop !)) (init ! 8 refl (tt, tt)) $
+          rewrite ! 8 (λ (p : ℕ). ‵ (fat fullShare tyPtr l₁₂ 0 (vptr b p))) (sym (place-is 32 o (i .0))) refl $
+          -- the store: field 3 of list[i], its answer, and no other
+          assigns ! (of-opd ! (load ! (from ! (stop !)) (look ! 18 refl))) (from ! (hop ! (look ! 8 refl) (fld ! refl (stop !)))) (store-in ! 3 (sub ! 3 refl (all-of !)) (LL.lawful N.the-type N′.the-laws 𝓤 H A W .typed r _ (written r u is) .0)) $
+          move ! (3 ∷ []) $ use1 W (‵ (cellAt fullShare (R .mir) (LL.vals E.the-type E′.the-laws (with-answer r)) b (place 32 o (i .0)))) (W .laws .at-raw fullShare E′.mir b (place 32 o (i .0)) (LL.val E.the-type E′.the-laws (with-answer r))) $
+          move ! (1 ∷ []) $ drop ! $ owned ! R (Is R) (LL.makes E.the-type E′.the-plain 𝓤 H A) (with-answer r) _ (made r (written r u is) g) $
+          move ! (1 ∷ 0 ∷ 4 ∷ []) $ elem-put ! R fullShare zs (i .0) (with-answer r) (LL.vals E.the-type E′.the-laws (with-answer r)) b o l′ $
+          -- [the list; the token; buffer's; the open borrow; obs; auth; _12 at 6; …]
+          assigns-last ! (bin ! (load ! (from ! (stop !)) (look ! 22 refl)) (lit ! tt) (record { fits = next-fits })) (from ! (stop !)) (store ! 22 refl (tt, record { fits = next-fits })) $
+          forget ! 6 refl $ forget ! 8 refl $ forget ! 10 refl $ forget ! 12 refl $ forget ! 14 refl $ forget ! 16 refl $ forget ! 18 refl $
+          rewrite ! 0 (λ (ws : List Entry). ‵ (row R fullShare ws b o)) (fill-next to-answer (i .0) xs none (with-answer r) within (entry-is (now s) e r is-answer)) refl $
           move ! (1 ∷ []) $ split ! $ move ! (1 ∷ []) $ drop ! $ move ! (1 ∷ 3 ∷ 4 ∷ 5 ∷ 0 ∷ 2 ∷ []) $ again ! Nearer At i (i .0 + 1, add-one-le l) (add-one-dec c (i .0) l))))))
         where
           within : i .0 < n
@@ -281,20 +300,20 @@ module _ {M : Type 1} (𝓤 : URA M) (H : Heap 𝓤) (A : Atoms 𝓤) (W : Given
       ends : c ≤ i .0 → ltb (i .0) c ≡ false → Sq W (At i) (runs C Λ En code-mir.turn-1 (anyQ (Turned i)))
       unfolding afterTurn
       ends l t =
-          assigns ! (bin ! (load ! (from ! (stop !)) (look ! 20 refl)) (load ! (from ! (stop !)) (look ! 22 refl)) tt) (from ! (stop !)) (init ! 14 refl (tt, tt)) $
-          rewrite ! 14 (λ (y : Bool). ‵ (fat fullShare tyBool l₇ 0 (vbool y))) t refl $ leaves-loop ! (load ! (from ! (stop !)) (look ! 14 refl)) $ exec ! C Λ En code-mir.t-5 (atRet En Post) $
+          assigns ! (bin ! (load ! (from ! (stop !)) (look ! 22 refl)) (load ! (from ! (stop !)) (look ! 24 refl)) tt) (from ! (stop !)) (init ! 18 refl (tt, tt)) $
+          rewrite ! 18 (λ (y : Bool). ‵ (fat fullShare tyBool l₆ 0 (vbool y))) t refl $ leaves-loop ! (load ! (from ! (stop !)) (look ! 18 refl)) $ exec ! C Λ En code-mir.t-5 (atRet En Post) $
           rewrite ! 0 (λ (ws : List Entry). ‵ (row R fullShare ws b o)) (ap (λ (k : ℕ). fillTo to-answer k xs) (le-antisymm (i .1) l) ∙ filled-is to-answer (lengthHolds (now s)) xs) refl $ closes-slice ! tt R xs ys same-long b o $
-          -- [obs; the borrow; its token; the token; buffer's; _11 at 5; …]
+          -- [obs; the borrow; its token; the token; buffer's; _12 at 5; …]
           move ! (4 ∷ []) $ use1 W (‵ Own-s ⊛ ‵ Own-s) (shr-slice-copy 𝓤 H A W (named 0) κ u8 .twice s (s-val ∷ [])) $ split ! $
           nothing ! $ move ! (1 ∷ 0 ∷ []) $ fjoin ! $ move ! (5 ∷ 0 ∷ []) $ use2 W (raw (AsWhole 𝓤 H A at-mem run .pre to-w)) asked-w $
-          calls-at ! (fmOf 𝓤 H (W .laws) 𝓣) (AsWhole 𝓤 H A at-mem run) (known .1 .1) to-w (and-then ! (load ! (from ! (stop !)) (look ! 25 refl)) (no-more !)) (λ u.
+          calls-at ! (fmOf 𝓤 H (W .laws) 𝓣) (AsWhole 𝓤 H A at-mem run) (known .1 .1) to-w (and-then ! (load ! (from ! (stop !)) (look ! 27 refl)) (no-more !)) (λ u.
           use1 W (later (some (λ (r : Verdict). ((‵ (flft κ q) ⊛ ‵ ftrue) ⊛ ‵ (S .own r (u ∷ []))) ⊛ raw (ensured 𝓤 H A whole.ended (whole.clauses 𝓤 H A at-mem run) (κ, tt) (s, tt) tt r)))) (id⊢ 𝓤 _) $ await ! tt $ pick ! (λ r.
           split ! $ move ! (1 ∷ []) $ use1 W (raw (fact 𝓤 (r ≡ bufferVerdict (now s)))) (said-w r) $ heard ! (r ≡ bufferVerdict (now s)) (λ is-whole. split ! $ move ! (1 ∷ []) $
           peeks ! S (Is S) (shows 𝓤 H A S) r (u ∷ []) (λ is.
-          -- [the result; the token; buffer's; obs; the borrow; its token; _11 at 6; …]
-          land ! (from ! (stop !)) (init ! 28 refl (EL.lawful Said.the-type Said′.the-laws 𝓤 H A W tt .typed r _ is .0)) $
-          returns ! (look ! 28 refl) $ forget ! 14 refl $ forget ! 20 refl $ forget ! 22 refl $ forget ! 24 refl $ forget ! 26 refl $ forget ! 28 refl $
-          move ! (28 ∷ 29 ∷ []) $ free1 ! $ move ! (26 ∷ 27 ∷ []) $ free1 ! $ move ! (24 ∷ 25 ∷ []) $ free1 ! $ move ! (22 ∷ 23 ∷ []) $ free1 ! $ move ! (20 ∷ 21 ∷ []) $ free1 ! $ move ! (18 ∷ 19 ∷ []) $ free1 ! $
+          -- [the result; the token; buffer's; obs; the borrow; its token; _12 at 6; …]
+          land ! (from ! (stop !)) (init ! 30 refl (EL.lawful Said.the-type Said′.the-laws 𝓤 H A W tt .typed r _ is .0)) $
+          returns ! (look ! 30 refl) $ forget ! 18 refl $ forget ! 22 refl $ forget ! 24 refl $ forget ! 26 refl $ forget ! 28 refl $ forget ! 30 refl $
+          move ! (30 ∷ 31 ∷ []) $ free1 ! $ move ! (28 ∷ 29 ∷ []) $ free1 ! $ move ! (26 ∷ 27 ∷ []) $ free1 ! $ move ! (24 ∷ 25 ∷ []) $ free1 ! $ move ! (22 ∷ 23 ∷ []) $ free1 ! $ move ! (20 ∷ 21 ∷ []) $ free1 ! $ move ! (18 ∷ 19 ∷ []) $ free1 ! $
           move ! (16 ∷ 17 ∷ []) $ free1 ! $ move ! (14 ∷ 15 ∷ []) $ free1 ! $ move ! (12 ∷ 13 ∷ []) $ free1 ! $ move ! (10 ∷ 11 ∷ []) $ free1 ! $ move ! (8 ∷ 9 ∷ []) $ free1 ! $ move ! (6 ∷ 7 ∷ []) $ free1 ! $ free0 ! $ by ! (exits r u is-whole room)))))
 
       turns : Sq W (At i) (runs C Λ En code-mir.turn-1 (anyQ (Turned i)))
@@ -307,35 +326,35 @@ module _ {M : Type 1} (𝓤 : URA M) (H : Heap 𝓤) (A : Atoms 𝓤) (W : Given
     -- what the body begins with: the borrow is not yet opened
     abbrev Begun : List (Item 𝓤)
     Begun = ‵ (fobs γ (codedHoleys R .code (heres R xs))) ∷ ‵ (fbor κ′ (Held R n b o γ)) ∷ ‵ (flft κ′ q′) ∷ ‵ (flft κ q) ∷ ‵ Own-s
-        ∷ ‵ (froom tyPtr l₁₁ 0) ∷ ‵ (fdies tyPtr l₁₁) ∷ ‵ (froom E′.mir l₁₀ 0) ∷ ‵ (fdies E′.mir l₁₀) ∷ ‵ (froom tyPtr l₉ 0) ∷ ‵ (fdies tyPtr l₉) ∷ ‵ (froom word l₈ 0) ∷ ‵ (fdies word l₈)
-        ∷ ‵ (froom tyBool l₇ 0) ∷ ‵ (fdies tyBool l₇) ∷ ‵ (froom word l₆ 0) ∷ ‵ (fdies word l₆) ∷ ‵ (froom E′.mir l₅ 0) ∷ ‵ (fdies E′.mir l₅)
+        ∷ ‵ (froom tyPtr l₁₂ 0) ∷ ‵ (fdies tyPtr l₁₂) ∷ ‵ (froom word l₁₁ 0) ∷ ‵ (fdies word l₁₁) ∷ ‵ (froom E′.mir l₁₀ 0) ∷ ‵ (fdies E′.mir l₁₀) ∷ ‵ (froom tyPtr l₉ 0) ∷ ‵ (fdies tyPtr l₉) ∷ ‵ (froom word l₈ 0) ∷ ‵ (fdies word l₈)
+        ∷ ‵ (froom N′.mir l₇ 0) ∷ ‵ (fdies N′.mir l₇) ∷ ‵ (froom tyBool l₆ 0) ∷ ‵ (fdies tyBool l₆) ∷ ‵ (froom word l₅ 0) ∷ ‵ (fdies word l₅)
         ∷ ‵ (froom word l₄ 0) ∷ ‵ (fdies word l₄) ∷ ‵ (froom word l₃ 0) ∷ ‵ (fdies word l₃)
         ∷ ‵ (fat fullShare entries-ty l₂ 0 (sliceVal (b, o) n)) ∷ ‵ (fdies entries-ty l₂) ∷ ‵ (fat fullShare bytes-ty l₁ 0 s-val) ∷ ‵ (fdies bytes-ty l₁) ∷ ‵ (froom Said′.mir l₀ 0) ∷ ‵ (fdies Said′.mir l₀) ∷ []
 
     body : Sq W Begun (runs C Λ En code-mir.t-1 (atRet En Post))
     body =
-        assigns ! (of-opd ! (load ! (from ! (fld ! refl (stop !))) (look-in ! 23 (sub ! 1 refl (all-of !))))) (from ! (stop !)) (init ! 15 refl (tt, record { fits = room .0 })) $
+        assigns ! (of-opd ! (load ! (from ! (fld ! refl (stop !))) (look-in ! 25 (sub ! 1 refl (all-of !))))) (from ! (stop !)) (init ! 19 refl (tt, record { fits = room .0 })) $
         move ! (4 ∷ []) $ use1 W (‵ Own-s ⊛ ‵ Own-s) (shr-slice-copy 𝓤 H A W (named 0) κ u8 .twice s (s-val ∷ [])) $ split ! $
         nothing ! $ owned ! usize (Is usize) (uint-makes 𝓤 H A W w64) n _ (refl, room .0) $ fjoin ! $ move ! (1 ∷ 0 ∷ []) $ fjoin ! $ move ! (5 ∷ 0 ∷ []) $ use2 W (raw (Count 𝓤 H A at-mem run .pre to-c)) asked-c $
-        -- [what `to_fill` asks; buffer's; obs; the borrow; its token; _11 at 5; …]
-        calls-at ! (fmOf 𝓤 H (W .laws) 𝓣) (Count 𝓤 H A at-mem run) (known .1 .0) to-c (and-then ! (load ! (from ! (stop !)) (look ! 25 refl)) (and-then ! (load ! (from ! (stop !)) (look ! 15 refl)) (no-more !))) (λ u.
+        -- [what `to_fill` asks; buffer's; obs; the borrow; its token; _12 at 5; …]
+        calls-at ! (fmOf 𝓤 H (W .laws) 𝓣) (Count 𝓤 H A at-mem run) (known .1 .0) to-c (and-then ! (load ! (from ! (stop !)) (look ! 27 refl)) (and-then ! (load ! (from ! (stop !)) (look ! 19 refl)) (no-more !))) (λ u.
         use1 W (later (some (λ (r : ℕ). ((‵ (flft κ q) ⊛ ‵ ftrue) ⊛ ‵ (usize .own r (u ∷ []))) ⊛ raw (ensured 𝓤 H A count.ended (count.clauses 𝓤 H A at-mem run) (κ, tt) (s, (n, tt)) tt r)))) (id⊢ 𝓤 _) $ await ! tt $ pick ! (λ r.
         split ! $ move ! (1 ∷ []) $ use1 W (raw (fact 𝓤 (r ≡ c))) (said-c r) $ heard ! (r ≡ c) (λ is-count. split ! $ move ! (1 ∷ []) $
         peeks ! usize (Is usize) (shows 𝓤 H A usize) r (u ∷ []) (λ is.
-        land ! (from ! (stop !)) (init ! 22 refl (uint-lawful 𝓤 H A W w64 .typed r _ is .0)) $ rewrite ! 22 (λ (v : Val). ‵ (fat fullShare word l₃ 0 v)) (ap only (is .0) ∙ ap (vint w64) is-count) refl $
+        land ! (from ! (stop !)) (init ! 24 refl (uint-lawful 𝓤 H A W w64 .typed r _ is .0)) $ rewrite ! 24 (λ (v : Val). ‵ (fat fullShare word l₃ 0 v)) (ap only (is .0) ∙ ap (vint w64) is-count) refl $
         drop ! $ split ! $ move ! (1 ∷ []) $ drop ! $
-        -- [the token; buffer's; obs; the borrow; its token; _11 at 5; …]
-        assigns ! (of-opd ! (lit ! tt)) (from ! (stop !)) (init ! 19 refl (tt, record { fits = lit< tt })) $ forget ! 15 refl $ move ! (2 ∷ 3 ∷ 4 ∷ []) $ opens-slice ! tt R xs b o $
+        -- [the token; buffer's; obs; the borrow; its token; _12 at 5; …]
+        assigns ! (of-opd ! (lit ! tt)) (from ! (stop !)) (init ! 21 refl (tt, record { fits = lit< tt })) $ forget ! 19 refl $ move ! (2 ∷ 3 ∷ 4 ∷ []) $ opens-slice ! tt R xs b o $
         first ! $ blocks ! $ loops ! 𝓣 Nearer Nearer-wf At turns (0, zero-le)))))
 
   walk : (𝓣 : Tables 𝓤 H) → Known 𝓤 H A at-mem run (𝓣 .C) → Room u8 (length (s .now)) → Room R n
       → ent 𝓤 (onEntry 𝓤 H A f.signature (κ, (κ′, tt)) (q, (q′, tt)) (s, (x, tt)) at) (WpFn 𝓤 H (𝓣 .C) (𝓣 .Λ) code.function (s-val ∷ sliceVal (b, o) n ∷ []) Post)
   walk 𝓣 known s-room room =
       qed W ((‵ (flft κ q) ⊛ ‵ (flft κ′ q′) ⊛ ‵ ftrue) ∷ ‵ (owns (ShrSlice (named 0) κ u8 ∷ MutSlice (named 1) κ′ R ∷ []) (s, (x, tt)) at) ∷ []) ∵ enter ! (𝓣 .C) (𝓣 .Λ) code.function (s-val ∷ sliceVal (b, o) n ∷ []) _ $
-      alloc1 ! (λ l₀. alloc1 ! (λ l₁. alloc1 ! (λ l₂. alloc1 ! (λ l₃. alloc1 ! (λ l₄. alloc1 ! (λ l₅. alloc1 ! (λ l₆. alloc1 ! (λ l₇. alloc1 ! (λ l₈. alloc1 ! (λ l₉. alloc1 ! (λ l₁₀. alloc1 ! (λ l₁₁. alloc0 ! $ params1 ! $
-      pass1 ! (init ! 20 refl (tt, (tt, (record { fits = s-room .0 }, tt)))) $ pass1 ! (init ! 18 refl (tt, (tt, (record { fits = room .0 }, tt)))) $ pass0 ! $
-      move ! (25 ∷ []) $ fsplit ! $ move ! (1 ∷ []) $ fsplit ! $ fsplit3 ! $ drop ! $ move ! (28 ∷ []) $ split3 ! $ move ! (2 ∷ 5 ∷ []) $ drop ! $ drop ! $ move ! (2 ∷ 3 ∷ 1 ∷ 0 ∷ []) $
-      body 𝓣 known room l₀ l₁ l₂ l₃ l₄ l₅ l₆ l₇ l₈ l₉ l₁₀ l₁₁))))))))))))
+      alloc1 ! (λ l₀. alloc1 ! (λ l₁. alloc1 ! (λ l₂. alloc1 ! (λ l₃. alloc1 ! (λ l₄. alloc1 ! (λ l₅. alloc1 ! (λ l₆. alloc1 ! (λ l₇. alloc1 ! (λ l₈. alloc1 ! (λ l₉. alloc1 ! (λ l₁₀. alloc1 ! (λ l₁₁. alloc1 ! (λ l₁₂. alloc0 ! $ params1 ! $
+      pass1 ! (init ! 22 refl (tt, (tt, (record { fits = s-room .0 }, tt)))) $ pass1 ! (init ! 20 refl (tt, (tt, (record { fits = room .0 }, tt)))) $ pass0 ! $
+      move ! (27 ∷ []) $ fsplit ! $ move ! (1 ∷ []) $ fsplit ! $ fsplit3 ! $ drop ! $ move ! (30 ∷ []) $ split3 ! $ move ! (2 ∷ 5 ∷ []) $ drop ! $ drop ! $ move ! (2 ∷ 3 ∷ 1 ∷ 0 ∷ []) $
+      body 𝓣 known room l₀ l₁ l₂ l₃ l₄ l₅ l₆ l₇ l₈ l₉ l₁₀ l₁₁ l₁₂)))))))))))))
 
 module _ {M : Type 1} (𝓤 : URA M) (H : Heap 𝓤) (A : Atoms 𝓤) (W : Given 𝓤 H A) (at-mem : Memory → SProp 𝓤) (run : Routine → Fun 𝓤) (𝓣 : Tables 𝓤 H) (known : Known 𝓤 H A at-mem run (𝓣 .C)) where
   check-messages-walks : Walks 𝓤 H A f.ended stayed (WpFn 𝓤 H (𝓣 .C) (𝓣 .Λ) code.function) (f.clauses 𝓤 H A at-mem run)
@@ -354,7 +373,7 @@ check-messages-spec 𝓤 H 𝓜 𝓖 𝓡 =
     entered 𝓤 H (tripleOf 𝓤 H (𝓖 .A) f.signature (f.spec 𝓤 H (𝓖 .A) (𝓜 .mem) (𝓡 .run)))
     (tables 𝓤 H 𝓜 𝓡 code.env .C) (tables 𝓤 H 𝓜 𝓡 code.env .Λ) #batch·check-messages code.function (code.unfolded 𝓤 H 𝓜 𝓡)
     (check-messages-meets 𝓤 H (𝓖 .A) (givenOf 𝓤 H 𝓜 𝓖) (𝓜 .mem) (𝓡 .run) (tablesOf 𝓤 H 𝓜 (tables 𝓤 H 𝓜 𝓡 code.env)) (
-      cited 𝓤 H (Answer 𝓤 H (𝓖 .A) (𝓜 .mem) (𝓡 .run)) 𝓜 𝓡 code.env #batch·answered answer-def.routine code.calls-batch·answered (answer-thm.met 𝓤 H 𝓜 𝓖 𝓡),
+      cited 𝓤 H (Answer 𝓤 H (𝓖 .A) (𝓜 .mem) (𝓡 .run)) 𝓜 𝓡 code.env #batch·answer-to answer-def.routine code.calls-batch·answer-to (answer-thm.met 𝓤 H 𝓜 𝓖 𝓡),
       (
         cited 𝓤 H (Count 𝓤 H (𝓖 .A) (𝓜 .mem) (𝓡 .run)) 𝓜 𝓡 code.env #batch·to-fill count-def.routine code.calls-batch·to-fill (count-thm.met 𝓤 H 𝓜 𝓖 𝓡),
         cited 𝓤 H (AsWhole 𝓤 H (𝓖 .A) (𝓜 .mem) (𝓡 .run)) 𝓜 𝓡 code.env #batch·check-buffer whole-def.routine code.calls-batch·check-buffer (whole-thm.met 𝓤 H 𝓜 𝓖 𝓡),

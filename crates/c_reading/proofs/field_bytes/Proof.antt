@@ -1,4 +1,4 @@
--- `field_bytes` copies what the definition says, and refuses a record that doesn't fit.
+-- `field_bytes` copies what the definition says, and refuses a nonempty field that ends past the message.
 use borrow.Author.Needs.{needs}
 use Rattle.c_reading.proofs.FieldCopies.{unfit, copied}
 use Rattle.c_reading.proofs.field_bytes.Statement.{statement}

@@ -45,7 +45,7 @@ timestamp-is b = go (timestampIn b) refl where
   go (Time t) e = time-judged b t e
   go Nothing e = λ p. no-time-judged b e (p .0) (p .1)
 
-one-timestamp : (b : List ℕ) (t u : Timestamp) → TimestampIs b t → TimestampIs b u → t ≡ u
+pub one-timestamp : (b : List ℕ) (t u : Timestamp) → TimestampIs b t → TimestampIs b u → t ≡ u
 one-timestamp b (Time t) (Time u) p q =
     ap Time (p .2 ∙ ap (λ (x : ℕ). u64At b (x + 4)) (one-place b 7 (p .0) (q .0) 0 (p .1) (q .1)) ∙ sym (q .2))
 one-timestamp b (Time t) Nothing p q = absurd (q (p .0, p .1))

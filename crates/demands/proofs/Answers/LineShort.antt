@@ -14,7 +14,7 @@ use Rattle.wire.specs.declared.check.Checked.the-variants.{Held, Failed}
 use Rattle.wire.specs.declared.refusal.Refusal.{Refusal}
 use Rattle.wire.specs.declared.refusal.Refusal.the-variants.{NoRoom}
 use Rattle.wire.specs.Number.{u32At}
-use Rattle.wire.specs.Check.{after, onClear}
+use Rattle.wire.specs.Check.{after}
 use Rattle.wire.specs.Refusal.{numberOf, fieldOf, placeOf}
 use Rattle.place.specs.Written.{roomHolds}
 use Rattle.field.specs.declared.Field.{Field}
@@ -28,8 +28,7 @@ use Rattle.av_pairs.proofs.Walks.{few-pairs}
 use Rattle.challenge.specs.declared.Challenge.{Challenge}
 use Rattle.challenge.specs.declared.Reading.{Reading as ChallengeReading}
 use Rattle.challenge.specs.declared.Reading.the-variants.{Taken as ChallengeTaken, Refused as ChallengeRefused}
-use Rattle.challenge.specs.Challenge.{infoOf, checkInfo, readChallenge}
-use Rattle.challenge.proofs.Laws.{info-clear}
+use Rattle.challenge.specs.Challenge.{infoOf, readChallenge}
 use Rattle.head.specs.declared.Kind.{Kind}
 use Rattle.head.specs.declared.Kind.the-variants.{Negotiate as AsNegotiate, Challenge as AsChallenge, Authenticate as AsAuthenticate}
 use Rattle.head.specs.Head.{kindOf}
@@ -137,8 +136,8 @@ negotiate-short s = go (readNegotiate s) refl where
 -- ---- CHALLENGE
 
 chal-short : (s : List ℕ) (c : Challenge) → readChallenge s .reading ≡ ChallengeTaken c → length (chalLine s (ChallengeTaken c)) < 0x100000
-unfolding chalText readChallenge checkInfo
-chal-short s c h = rw (info-clear s (infoOf s c) c h refl) words-short where
+unfolding chalText
+chal-short s c h = words-short where
   n : length s ≤ 65535
   n = not-long (length s) (λ l. taken-as s c h .none 1 0 (refl, l))
 

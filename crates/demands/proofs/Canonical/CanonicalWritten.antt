@@ -3,7 +3,7 @@ use Prim.Native.Nat.{ℕ, _+_, _/_, _%_, _≤_, _<_}
 use mathlib.Core.Path.{_≡_, refl, sym, ap, _∙_, subst}
 use mathlib.Core.Logic.{_⊎_, inl, inr, ⊎-elim}
 use mathlib.Core.Bool.{Bool, true, false, cond}
-use mathlib.Core.List.{List, [], _∷_}
+use mathlib.Core.List.{List}
 use native.Mathlib.Omega.{arith}
 use lib.Dec.{eqb, ltb}
 use lib.ListN.{length, take, drop, replicate, length-take, length-drop, length-replicate}
@@ -21,10 +21,9 @@ use Rattle.authenticate.specs.declared.Reading.the-variants.{Taken, Refused}
 use Rattle.authenticate.specs.Authenticate.{readAuthenticate}
 use Rattle.canonical.specs.Canonical.{Meaning, meaningOf, zeroVersion, meaningAnswer, canonicalAnswer}
 use Rattle.demands.specs.Canonical.{keyLen, canonicalSize, CanonicalFails, canonicalOrder, CanonicalIsWritten, NoOtherRefusal}
-use Rattle.demands.specs.Message.{authenticate, FlagSet, lenOf, offsetOf, Nonempty, Fails}
+use Rattle.demands.specs.Message.{authenticate, FlagSet, lenOf, Nonempty, Fails}
 use Rattle.demands.specs.Order.{BeforeBy, First, FirstIn, placeIn}
 use Rattle.demands.specs.OwnBytes.{OwnField, OwnAnswer}
-use Rattle.demands.specs.TakenExactly.{IsTakenAuthenticate}
 use Rattle.demands.specs.WrittenExactly.{WrittenExactly, Fails5, Fails30, Fails33, nameOf, authenticateSize, authenticateOrder, AuthenticateWritingFails}
 use Rattle.demands.proofs.Canonical.{each-means, answer-of, mic-long, answer-refused}
 use Rattle.demands.proofs.Order.{on-row}

@@ -5,6 +5,8 @@ use Rattle.head.specs.Head.{signatureHolds, readHead, kindOf}
 use Rattle.word.specs.Digits.{hexDigit, decimalSize, decimal}
 use Rattle.word.specs.Words.{numberWord}
 use Rattle.av_pairs.specs.AvPairs.{checkPairs, stepAt, pairOf, left}
+use Rattle.negotiate.specs.Negotiate as N
+use Rattle.negotiate.specs.Negotiate.{readNegotiate}
 use Rattle.challenge.specs.Challenge.{fieldsAt as challengeFieldsAt, checkEnds as challengeEnds, checkBegins as challengeBegins, checkNames as challengeNames, checkFields as challengeChecks, fieldsOf, checkInfo, readingOf as challengeReadingOf, readChallenge}
 use Rattle.authenticate.specs.Authenticate.{fieldsAt, checkEnds, checkBegins, checkNames, checkShared, checkFields, micPresent, readingOf, readAuthenticate}
 use Rattle.line_checks.specs.Checks.{plainWords, pairText, pairWords, messageWords, figureWords, failedWords, wordsOf, lineOf, checkLines}
@@ -12,5 +14,5 @@ use Rattle.explain.specs.Explain.{figuresOf, figuresAs, explainedAs, explanatio
 use Rattle.demands.specs.Explained.{ExplainedExample}
 
 pub explained-example : ExplainedExample
-unfolding explanation explainedAs figuresAs figuresOf checkLines lineOf wordsOf plainWords pairText pairWords messageWords figureWords failedWords numberWord decimal decimalSize hexDigit kindOf readHead signatureHolds fieldAt fieldBytes readAuthenticate readingOf fieldsAt checkEnds checkBegins checkNames checkShared checkFields micPresent readChallenge challengeReadingOf checkInfo fieldsOf challengeFieldsAt challengeEnds challengeBegins challengeNames challengeChecks checkPairs stepAt pairOf left
-explained-example = record { of-field = refl; of-pair = refl; of-taken = refl }
+unfolding explanation explainedAs figuresAs figuresOf checkLines lineOf wordsOf plainWords pairText pairWords messageWords figureWords failedWords numberWord decimal decimalSize hexDigit kindOf readHead signatureHolds fieldAt fieldBytes readAuthenticate readingOf fieldsAt checkEnds checkBegins checkNames checkShared checkFields micPresent readNegotiate N.fieldsAt N.checkEnds N.checkBegins N.checkFields readChallenge challengeReadingOf checkInfo fieldsOf challengeFieldsAt challengeEnds challengeBegins challengeNames challengeChecks checkPairs stepAt pairOf left
+explained-example = record { of-field = refl; of-pair = refl; of-taken = refl; of-negotiate = refl }

@@ -9,10 +9,9 @@ use lib.Dec.{eqb}
 use lib.ListN.{length}
 use borrow.Author.Tests.{eqb-true}
 use Rattle.head.specs.declared.Kind.the-variants.{Challenge}
-use Rattle.explain.specs.Explain.{checksOf}
 use Rattle.demands.specs.Order.{placeIn}
 use Rattle.demands.specs.PairList.{idOf, sizeOf, SizeAllowed, PairAt, EndAt, WellFormed, end, pair, Holds, empty, listed, Fails10, Fails11, Fails12, Fails13, FaultAt, fault10, fault11, fault12, fault13, FirstFault, here, later}
-use Rattle.demands.specs.Explained.{PairFails, Leads, there, past, Before}
+use Rattle.demands.specs.Explained.{printedChecks, PairFails, Leads, there, past, Before}
 use Rattle.demands.proofs.PairList.{pair-or-end, pair-or-fault}
 
 -- a table's row by its number
@@ -58,17 +57,17 @@ module _ (b : List ℕ) where
   list-holds n q m (listed g w) h l f = formed-holds q m w l f
 
   -- at a faulty pair, none of those before its number fails
-  fault-before : (at n m : ℕ) → FaultAt b at n → Before (checksOf Challenge) m n → PairFails b at m → ⊥
+  fault-before : (at n m : ℕ) → FaultAt b at n → Before (printedChecks Challenge) m n → PairFails b at m → ⊥
   fault-before at n m (fault11 e f) h w =
-      of-row (λ x. Before (checksOf Challenge) x 11 → ⊥) b at m (λ g l. omega arith) (λ g l. omega arith) (λ g l. omega arith) (λ g l. omega arith) w (rw e at h)
+      of-row (λ x. Before (printedChecks Challenge) x 11 → ⊥) b at m (λ g l. omega arith) (λ g l. omega arith) (λ g l. omega arith) (λ g l. omega arith) w (rw e at h)
   fault-before at n m (fault12 e no11 f) h w =
-      of-row (λ x. Before (checksOf Challenge) x 12 → ⊥) b at m (λ g l. omega arith) (λ g l. no11 g) (λ g l. omega arith) (λ g l. omega arith) w (rw e at h)
+      of-row (λ x. Before (printedChecks Challenge) x 12 → ⊥) b at m (λ g l. omega arith) (λ g l. no11 g) (λ g l. omega arith) (λ g l. omega arith) w (rw e at h)
   fault-before at n m (fault10 e no11 no12 f) h w =
-      of-row (λ x. Before (checksOf Challenge) x 10 → ⊥) b at m (λ g l. omega arith) (λ g l. no11 g) (λ g l. no12 g) (λ g l. omega arith) w (rw e at h)
+      of-row (λ x. Before (printedChecks Challenge) x 10 → ⊥) b at m (λ g l. omega arith) (λ g l. no11 g) (λ g l. no12 g) (λ g l. omega arith) w (rw e at h)
   fault-before at n m (fault13 e no11 no12 no10 f) h w =
-      of-row (λ x. Before (checksOf Challenge) x 13 → ⊥) b at m (λ g l. no10 g) (λ g l. no11 g) (λ g l. no12 g) (λ g l. omega arith) w (rw e at h)
+      of-row (λ x. Before (printedChecks Challenge) x 13 → ⊥) b at m (λ g l. no10 g) (λ g l. no11 g) (λ g l. no12 g) (λ g l. omega arith) w (rw e at h)
 
-  pub first-holds : {n p at : ℕ} (q m : ℕ) → FirstFault b n p at → Leads b q at → Before (checksOf Challenge) m n → PairFails b q m → ⊥
+  pub first-holds : {n p at : ℕ} (q m : ℕ) → FirstFault b n p at → Leads b q at → Before (printedChecks Challenge) m n → PairFails b q m → ⊥
   first-holds q m (here x f) (there y) h w = fault-before _ _ m f h (subst (λ (z : ℕ). PairFails b z m) y w)
   first-holds q m (here x f) (past u l) h w = pair-or-fault b _ _ u f
   first-holds q m (later u f) (there y) h w = pair-holds _ m u (subst (λ (z : ℕ). PairFails b z m) y w)
@@ -90,12 +89,12 @@ module _ (b : List ℕ) where
   first-leads (later u f) = past u (first-leads f)
 
   -- it is one of the checks of a challenge
-  fault-listed : (at n : ℕ) → FaultAt b at n → placeIn (checksOf Challenge) n < 12
+  fault-listed : (at n : ℕ) → FaultAt b at n → placeIn (printedChecks Challenge) n < 12
   fault-listed at n (fault11 e f) = rw e (omega arith)
   fault-listed at n (fault12 e a f) = rw e (omega arith)
   fault-listed at n (fault10 e a c f) = rw e (omega arith)
   fault-listed at n (fault13 e a c d f) = rw e (omega arith)
 
-  pub first-listed : {n p at : ℕ} → FirstFault b n p at → placeIn (checksOf Challenge) n < 12
+  pub first-listed : {n p at : ℕ} → FirstFault b n p at → placeIn (printedChecks Challenge) n < 12
   first-listed (here x f) = fault-listed _ _ f
   first-listed (later u f) = first-listed f

@@ -14,11 +14,10 @@ use Rattle.head.specs.declared.Kind.{Kind}
 use Rattle.head.specs.declared.Kind.the-variants.{Negotiate, Challenge, Authenticate}
 use Rattle.head.specs.Head.{flagsAt}
 use Rattle.challenge.specs.Challenge as C
-use Rattle.explain.specs.Explain.{checksOf}
 use Rattle.demands.specs.Order.{First, placeIn}
 use Rattle.demands.specs.Message.{Format, negotiate, authenticate, challenge, Nonempty, Fails}
 use Rattle.demands.specs.TakenExactly.{InfoBytes, ChallengeFails, in-fields, in-list}
-use Rattle.demands.specs.Explained.{formatOf, TakenAs, RefusedAs, FailsAt, at-field, at-pair, HoldsUpTo, OneOf, Before}
+use Rattle.demands.specs.Explained.{printedChecks, formatOf, TakenAs, RefusedAs, FailsAt, at-field, at-pair, HoldsUpTo, OneOf, Before}
 use Rattle.demands.proofs.Message.{Stands}
 use Rattle.demands.proofs.TakenExactly.{authenticate-taken, authenticate-refused}
 use Rattle.demands.proofs.TakenExactly.Negotiate.{negotiate-taken, negotiate-refused}
@@ -82,9 +81,9 @@ in-order lo (c ∷ cs) back m n h l b = go (eqb m c) (eqb n c) refl refl l b (λ
 -- ---- the reason of a refusal
 
 pub record Why (k : Kind) (s : List ℕ) (n i p : ℕ) : Type 0 where
-  pub one : OneOf (checksOf k) n
+  pub one : OneOf (printedChecks k) n
   pub fails : FailsAt k s n i p
-  pub holds : (m : ℕ) → Before (checksOf k) m n → HoldsUpTo k s m
+  pub holds : (m : ℕ) → Before (printedChecks k) m n → HoldsUpTo k s m
   pub head : 0 < i → Nonempty (formatOf k) s i
 
 pub not-negotiate : Negotiate ≡ Challenge → ⊥
@@ -95,15 +94,15 @@ not-authenticate h = let z : _≡_ {A = ℕ} 0 1 = cc in omega arith
 
 negotiate-why : (s : List ℕ) (n i : ℕ) → First (Fails negotiate s) n i → Why Negotiate s n i 0
 negotiate-why s n i f =
-    let one : OneOf (checksOf Negotiate) n =
-    of-check negotiate s n i (OneOf (checksOf Negotiate)) (λ h. omega arith) (λ h. omega arith) (λ h. omega arith) (λ h. omega arith) (λ h. omega arith) (λ h. omega arith)
+    let one : OneOf (printedChecks Negotiate) n =
+    of-check negotiate s n i (OneOf (printedChecks Negotiate)) (λ h. omega arith) (λ h. omega arith) (λ h. omega arith) (λ h. omega arith) (λ h. omega arith) (λ h. omega arith)
     (λ h. omega arith) (λ h. absurd (h .1)) (λ h. absurd (h .1)) (f .fails) in
     record {
       one = one;
       fails = at-field (f .fails) refl;
       holds = λ m b.
           record {
-            fields = λ j. f .none-before m j (inl (in-order 0 (checksOf Negotiate) [] m n (omega arith, (omega arith, (omega arith, (omega arith, (omega arith, (omega arith, (omega arith, tt))))))) one b));
+            fields = λ j. f .none-before m j (inl (in-order 0 (printedChecks Negotiate) [] m n (omega arith, (omega arith, (omega arith, (omega arith, (omega arith, (omega arith, (omega arith, tt))))))) one b));
             pairs = λ e. absurd (not-negotiate e);
           };
       head = has-field negotiate s n i (f .fails);
@@ -111,15 +110,15 @@ negotiate-why s n i f =
 
 authenticate-why : (s : List ℕ) (n i : ℕ) → First (Fails authenticate s) n i → Why Authenticate s n i 0
 authenticate-why s n i f =
-    let one : OneOf (checksOf Authenticate) n =
-    of-check authenticate s n i (OneOf (checksOf Authenticate)) (λ h. omega arith) (λ h. omega arith) (λ h. omega arith) (λ h. omega arith) (λ h. omega arith) (λ h. omega arith)
+    let one : OneOf (printedChecks Authenticate) n =
+    of-check authenticate s n i (OneOf (printedChecks Authenticate)) (λ h. omega arith) (λ h. omega arith) (λ h. omega arith) (λ h. omega arith) (λ h. omega arith) (λ h. omega arith)
     (λ h. omega arith) (λ h. omega arith) (λ h. omega arith) (f .fails) in
     record {
       one = one;
       fails = at-field (f .fails) refl;
       holds = λ m b.
           record {
-            fields = λ j. f .none-before m j (inl (in-order 0 (checksOf Authenticate) [] m n (omega arith, (omega arith, (omega arith, (omega arith, (omega arith, (omega arith, (omega arith, (omega arith, (omega arith, tt))))))))) one b));
+            fields = λ j. f .none-before m j (inl (in-order 0 (printedChecks Authenticate) [] m n (omega arith, (omega arith, (omega arith, (omega arith, (omega arith, (omega arith, (omega arith, (omega arith, (omega arith, tt))))))))) one b));
             pairs = λ e. absurd (not-authenticate e);
           };
       head = has-field authenticate s n i (f .fails);
@@ -156,10 +155,10 @@ challenge-why s b n i p x (in-fields z f) =
     let one : OneOf first8 n =
     of-check challenge s n i (OneOf first8) (λ h. omega arith) (λ h. omega arith) (λ h. omega arith) (λ h. omega arith) (λ h. omega arith) (λ h. omega arith)
     (λ h. omega arith) (λ h. omega arith) (λ h. absurd (h .2 .3)) (f .fails) in
-    let earlier : (m : ℕ) → Before (checksOf Challenge) m n → m < n =
+    let earlier : (m : ℕ) → Before (printedChecks Challenge) m n → m < n =
     λ m l. in-order 0 first8 last4 m n (omega arith, (omega arith, (omega arith, (omega arith, (omega arith, (omega arith, (omega arith, (omega arith, tt)))))))) one l in
     record {
-      one = of-check challenge s n i (OneOf (checksOf Challenge)) (λ h. omega arith) (λ h. omega arith) (λ h. omega arith) (λ h. omega arith) (λ h. omega arith) (λ h. omega arith)
+      one = of-check challenge s n i (OneOf (printedChecks Challenge)) (λ h. omega arith) (λ h. omega arith) (λ h. omega arith) (λ h. omega arith) (λ h. omega arith) (λ h. omega arith)
           (λ h. omega arith) (λ h. omega arith) (λ h. absurd (h .2 .3)) (f .fails);
       fails = at-field (f .fails) z;
       holds = λ m l.

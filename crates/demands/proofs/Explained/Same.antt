@@ -17,7 +17,6 @@ use Rattle.wire.specs.Refusal.{numberOf, fieldOf, placeOf}
 use Rattle.wire.proofs.Bools.{and-left, and-right}
 use Rattle.field.specs.declared.Field.{Field}
 use Rattle.negotiate_flags.specs.declared.NegotiateFlags.{NegotiateFlags}
-use Rattle.place.specs.Written.{bytesAnswer, bytesAfter}
 use Rattle.head.specs.declared.Kind.{Kind}
 use Rattle.head.specs.declared.Kind.the-variants.{Negotiate, Challenge, Authenticate}
 use Rattle.head.specs.Head.{flagsAt, kindOf}
@@ -36,18 +35,18 @@ use Rattle.authenticate.specs.Authenticate.{readAuthenticate}
 use Rattle.authenticate.specs.Authenticate as A
 use Rattle.line_checks.specs.declared.Figures.{Figures as Given}
 use Rattle.line_checks.specs.Checks.{pairText, pairWords, messageWords, figureWords, failedWords, wordsOf, lineOf, linesFrom, checkLines}
-use Rattle.verdict.specs.Verdict.{negoVerdict, chalVerdict, authVerdict, readAs}
-use Rattle.explain.specs.Explain.{checksOf, fieldsOf, numbered, hasPair, figuresOf, figuresOn, figuresAs, explainedAs, explanation}
+use Rattle.verdict.specs.Verdict.{negoVerdict, chalVerdict, authVerdict, readAs, hasPair}
+use Rattle.explain.specs.Explain.{checksOf, fieldsOf, numbered, figuresOf, figuresOn, figuresAs, explainedAs, explanation}
 use Rattle.demands.specs.MaxLen.{bareNegotiate, bareChallenge, bareAuthenticate}
 use Rattle.demands.specs.Message.{negotiate, authenticate, challenge, lenOf, offsetOf, Nonempty, DifferInIgnored}
 use Rattle.demands.specs.Secret.{DifferInSecrets}
-use Rattle.demands.specs.Explained.{formatOf, FailsAt, at-field, at-pair, Before, ExplainedIgnored, SecretExplained}
+use Rattle.demands.specs.Explained.{printedChecks, formatOf, FailsAt, at-field, at-pair, Before, ExplainedIgnored, SecretExplained}
 use Rattle.demands.proofs.MaxLen.{kept, keptFields, keptChallengeFields, keptNegotiateFields, bare-only}
 use Rattle.demands.proofs.Message.Unchanged.{looked, flags-same}
 use Rattle.demands.proofs.TakenExactly.Negotiate.{negotiate-ignored, negotiate-seen, fields-same as nego-fields}
 use Rattle.demands.proofs.Ignored.ChallengeIgnored.{challenge-ignored, seen as challenge-seen, fields-same as chal-fields}
 use Rattle.demands.proofs.Ignored.{authenticate-ignored, seen as authenticate-seen, fields-same as auth-fields}
-use Rattle.demands.proofs.Secret.{secret-read, fields-same as secret-fields, flags-same as secret-flags}
+use Rattle.demands.proofs.Secret.{written-alike, secret-read, fields-same as secret-fields, flags-same as secret-flags}
 use Rattle.demands.proofs.Secret.SecretPrinted.{secret-printed}
 use Rattle.demands.proofs.Ignored.LineIgnored.{kind-same}
 use Rattle.demands.proofs.Explained.{refused-as, OfPair, by-pair, pair-inside}
@@ -133,7 +132,7 @@ module _ (s t : List ℕ) (d : DifferInIgnored challenge s t) (e : Refusal) (h :
         let inside : q + 4 ≤ length b = pair-inside Challenge s _ _ _ reason of-pair b q x z in
         let short : length b ≤ lenOf challenge s 2 = rw (x .there there) (simp length-take (omega arith)) in
         let begins : offsetOf challenge s 2 < 48 → ⊥ =
-        λ u. reason .holds 7 (by-pair (numberOf e) (λ m. Before (checksOf Challenge) 7 m) of-pair (omega arith) (omega arith) (omega arith)) .fields 2 (there, u) in
+        λ u. reason .holds 7 (by-pair (numberOf e) (λ m. Before (printedChecks Challenge) 7 m) of-pair (omega arith) (omega arith) (omega arith)) .fields 2 (there, u) in
         looked challenge s t (challenge-seen s) d (placeOf e + j)
         (challenge-seen s .at-field 2 (placeOf e + j) there (omega (arith, begins, z)) (omega (arith, z), omega (arith, z, inside, short)))
 
@@ -170,8 +169,7 @@ secret-explained s t d e =
     record {
       kind = kind;
       print = same;
-      answer = λ out. ap (λ (l : List ℕ). bytesAnswer l out) same;
-      output = λ out. ap (λ (l : List ℕ). bytesAfter l out) same;
+      call = λ out out′ l. written-alike (explanation s) (explanation t) out out′ same l;
     }
 
 -- a reading's verdict doesn't go by MaxLen

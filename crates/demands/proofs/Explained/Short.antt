@@ -27,8 +27,8 @@ use Rattle.place.specs.Written.{bytesAnswer}
 use Rattle.c_number.specs.Number.{writtenNumber}
 use Rattle.line_checks.specs.declared.Figures.{Figures as Given}
 use Rattle.line_checks.specs.Checks.{aboutPair, plainWords, pairText, pairWords, messageWords, figureWords, failedWords, wordsOf, lineOf, linesFrom, checkLines}
-use Rattle.verdict.specs.Verdict.{chalVerdict, readAs}
-use Rattle.explain.specs.Explain.{checksOf, fieldsOf, numbered, hasPair, ofPair, figuresOf, figuresOn, figuresAs, explainedAs, explanation}
+use Rattle.verdict.specs.Verdict.{chalVerdict, readAs, hasPair}
+use Rattle.explain.specs.Explain.{checksOf, fieldsOf, numbered, ofPair, figuresOf, figuresOn, figuresAs, explainedAs, explanation}
 use Rattle.explain.proofs.Laws.{no-head}
 use Rattle.demands.specs.Answers.{TellsWritten}
 use Rattle.demands.specs.Message.{Nonempty}
@@ -50,9 +50,13 @@ few (suc j) k n h = go (ltb n 10) refl (λ i m. few j i m) k h where
   go false e rest zero h = absurd (omega (arith, ltb-false n 10 e))
   go false e rest (suc k) h = omega (arith, rest k (n / 10) (omega arith))
 
+pub decimal-bound : (k n : ℕ) → n < 10 ^ suc k → length (decimal n) ≤ suc k
+unfolding decimal decimalSize
+decimal-bound k n l = omega (arith, length-digits 10 (decimalSize n) n, few n k n l)
+
 word-bound : (label : List ℕ) (k n : ℕ) → n < 10 ^ suc k → length (numberWord label n) ≤ length label + suc k
-unfolding numberWord decimal decimalSize
-word-bound label k n l = omega (arith, length-append label (decimal n), length-digits 10 (decimalSize n) n, few n k n l)
+unfolding numberWord
+word-bound label k n l = omega (arith, length-append label (decimal n), decimal-bound k n l)
 
 -- ---- a line
 

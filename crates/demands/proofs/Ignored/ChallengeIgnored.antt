@@ -9,15 +9,14 @@ use lib.Dec.{ltb, eqb}
 use lib.ListN.{length}
 use borrow.Author.Tests.{eqb-true, eqb-false, ltb-true, ltb-false}
 use Rattle.negotiate_flags.specs.declared.NegotiateFlags.{NegotiateFlags}
-use Rattle.head.specs.declared.Head.{Head}
-use Rattle.head.specs.declared.Head.the-variants.{Flags, Refused as Stopped}
+use Rattle.head.specs.declared.Head.the-variants.{Flags}
 use Rattle.wire.specs.declared.refusal.Refusal.{Refusal}
 use Rattle.wire.specs.declared.check.Verdict.{Verdict}
 use Rattle.wire.specs.declared.check.Verdict.the-variants.{Clear, Refused as Not}
 use Rattle.wire.specs.Check.{onClear}
 use Rattle.field.specs.Field.{fieldBytes}
 use Rattle.negotiate_flags.specs.Flags.{unicode, requestTarget, targetInfo}
-use Rattle.head.specs.Head.{flagsAt, readHead, onFlags}
+use Rattle.head.specs.Head.{flagsAt}
 use Rattle.av_pairs.specs.AvPairs.{checkPairs}
 use Rattle.challenge.specs.declared.Challenge.{Challenge as Message}
 use Rattle.challenge.specs.declared.Fields.{Fields}
@@ -25,13 +24,12 @@ use Rattle.challenge.specs.declared.Reading.{Reading}
 use Rattle.challenge.specs.declared.Reading.the-variants.{Taken, Refused}
 use Rattle.challenge.specs.declared.ServerNamesReading.the-variants.{Taken as NamesTaken, Refused as NamesRefused}
 use Rattle.challenge.specs.declared.TimestampReading.the-variants.{Taken as TimeTaken, Refused as TimeRefused}
-use Rattle.challenge.specs.Challenge.{layout, fieldsAt, checkEnds, checkBegins, checkNames, checkFields, fieldsOf, onTaken, infoOf, inMessage, checkInfo, readingOf, serverChallenge, readChallenge, timestampOf, serverNamesOf}
+use Rattle.challenge.specs.Challenge.{fieldsAt, checkEnds, checkBegins, checkNames, checkFields, fieldsOf, onTaken, infoOf, inMessage, checkInfo, readingOf, serverChallenge, readChallenge, timestampOf, serverNamesOf}
 use Rattle.target_info.specs.TargetInfo.{timestampIn, serverNamesIn}
 use Rattle.demands.specs.Message.{challenge, Fails, Ignored, DifferInIgnored, SameMaxLen}
 use Rattle.demands.specs.Ignored.{SameBytes, ChallengeIgnored}
 use Rattle.demands.proofs.Alike.{same-part}
 use Rattle.demands.proofs.MaxLen.{bare-only, kept, keptChallengeFields, keptMessage, keptChallenge, challenge-as-it-is, challenge-bare-is}
-use Rattle.demands.proofs.Message.Chain.{JudgedH, head-judged}
 use Rattle.demands.proofs.Message.Apart.{Apart, lies, seen as apart-seen}
 use Rattle.demands.proofs.Message.Unchanged.{Seen}
 use Rattle.demands.proofs.Message.Unchanged as same
@@ -124,21 +122,7 @@ module _ (a b : List ℕ) (d : DifferInIgnored challenge a b) where
     -- checks 1 to 8
     head-same : keptChallenge m (fieldsOf a) ≡ keptChallenge m (fieldsOf b)
     unfolding fieldsOf
-    head-same =
-        go (readHead layout a) (head-judged challenge a (omega arith))
-        ∙ ap (λ (h : Head). keptChallenge m (of b h)) (same.head-same challenge a b (seen a) d)
-      where
-        of : List ℕ → Head → Reading
-        of s h = onFlags Refused h (λ w. rest m w (length s) (fieldsAt s w))
-
-        go : (h : Head) → JudgedH challenge a h → keptChallenge m (of a h) ≡ keptChallenge m (of b h)
-        go (Flags w) j =
-            rw (j .0)
-            (rest-kept m (flagsAt a 20) (length a) (fieldsAt a (flagsAt a 20))
-            ∙ ap (λ (f : Fields). rest m (flagsAt a 20) (length a) f) fields-same
-            ∙ ap (λ (n : ℕ). rest m (flagsAt a 20) n (keptChallengeFields m (fieldsAt b (flagsAt a 20)))) (d .length-same)
-            ∙ sym (rest-kept m (flagsAt a 20) (length b) (fieldsAt b (flagsAt a 20))))
-        go (Stopped e) j = refl
+    head-same = same.read-same challenge a b (seen a) d Refused (rest m) fieldsAt (keptChallengeFields m) (keptChallenge m) (omega arith) (rest-kept m) fields-same
 
     pub reading-same : keptChallenge m (readingOf a) ≡ keptChallenge m (readingOf b)
     unfolding readingOf checkInfo

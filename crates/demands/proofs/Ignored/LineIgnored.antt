@@ -5,10 +5,9 @@ use mathlib.Core.List.{List, [], _++_, append-assoc}
 use native.Mathlib.Omega.{arith}
 use lib.ListN.{length, length-append}
 use Rattle.text.specs.Text.{ascii}
-use Rattle.wire.specs.declared.check.Verdict.the-variants.{Clear}
 use Rattle.field.specs.Field.{fieldBytes}
 use Rattle.negotiate_flags.specs.Flags.{unicode}
-use Rattle.av_pairs.specs.AvPairs.{checkPairs, pairsOf}
+use Rattle.av_pairs.specs.AvPairs.{pairsOf}
 use Rattle.target_info.specs.TargetInfo.{timestampIn}
 use Rattle.word.specs.Words.{numberWord, nameWord, startText, flagsWord, micWord, kindWord, lineEnd}
 use Rattle.line_refused.specs.Refused.{refusedLine}
@@ -17,7 +16,6 @@ use Rattle.authenticate.specs.Authenticate as A
 use Rattle.challenge.specs.Challenge as C
 use Rattle.negotiate.specs.Negotiate as N
 use Rattle.challenge.specs.declared.Challenge.{Challenge as Asked}
-use Rattle.challenge.proofs.Laws.{info-clear}
 use Rattle.negotiate.specs.declared.Negotiate.{Negotiate as Opening}
 use Rattle.authenticate.specs.declared.Authenticate.{Authenticate as Message}
 use Rattle.authenticate.specs.declared.Answer.{Answer}
@@ -27,7 +25,7 @@ use Rattle.authenticate.specs.Authenticate.{readAuthenticate}
 use Rattle.challenge.specs.declared.Answer.{Answer as ChallengeAnswer}
 use Rattle.challenge.specs.declared.Reading.{Reading as ChallengeReading}
 use Rattle.challenge.specs.declared.Reading.the-variants.{Taken as ChallengeTaken, Refused as ChallengeRefused}
-use Rattle.challenge.specs.Challenge.{infoOf, checkInfo, readChallenge}
+use Rattle.challenge.specs.Challenge.{infoOf, readChallenge}
 use Rattle.head.specs.Head.{flagsAt, kindOf}
 use Rattle.negotiate.specs.declared.Reading.{Reading as NegotiateReading}
 use Rattle.negotiate.specs.declared.Reading.the-variants.{Taken as NegotiateTaken, Refused as NegotiateRefused}
@@ -137,7 +135,7 @@ nl-auth-line-ignored s t d =
     nl-line-same s t (readNlAuth s) w refl ∙ ap (λ (r : NlReading). nlLine t r) (w .answer)
 
 challenge-line-same : (s t : List ℕ) (r : ChallengeReading) → SameChallenge s t → readChallenge s .reading ≡ r → chalLine s r ≡ chalLine t r
-unfolding chalText checkInfo chalWords
+unfolding chalText chalWords
 challenge-line-same s t (ChallengeTaken c) w e = simp (w .target-name c e, w .target-info c e)
 challenge-line-same s t (ChallengeRefused x) w e = refl
 
@@ -147,17 +145,17 @@ chalBefore s c =
     nameWord (ascii " target=") (unicode (c .flags)) (fieldBytes s (c .fields .«target_name»)) ++ (
     numberWord (ascii " pairs=") (length (pairsOf (infoOf s c))) ++ timeWord (timestampIn (infoOf s c))))
 
-chal-parts : (s : List ℕ) (c : Asked) → checkPairs (infoOf s c) ≡ Clear →
+chal-parts : (s : List ℕ) (c : Asked) →
     chalText s c ≡ chalBefore s c ++ (ascii " max=" ++ (maxDigits (C.allFields (c .fields)) ++ lineEnd))
-unfolding chalText checkInfo chalWords chalEnd chalBefore maxEnd maxWord
-chal-parts s c h = simp (h, append-assoc)
+unfolding chalText chalWords chalEnd chalBefore maxEnd maxWord
+chal-parts s c = simp append-assoc
 
 chal-ends : (s : List ℕ) (c : Asked) → readChallenge s .reading ≡ ChallengeTaken c → EndsInMax challenge s (chalText s c) (chalBefore s c)
 unfolding readChallenge
 chal-ends s c h =
     record {
       digits = maxDigits (C.allFields (c .fields));
-      line-is = chal-parts s c (info-clear s (infoOf s c) c h refl);
+      line-is = chal-parts s c;
       said = rw (taken-as s c h .answer) (digits-said challenge s (C.allFields (C.fieldsAt s (flagsAt s 20))) (chal-all s) refl);
     }
 

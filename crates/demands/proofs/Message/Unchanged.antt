@@ -10,12 +10,16 @@ use lib.ListN.{length, getD}
 use borrow.Author.Tests.{eqb-false}
 use Rattle.field.specs.declared.Field.{Field}
 use Rattle.field.specs.Field.{headAt, isEmpty, emptyField, fieldAt, fieldBytes}
-use Rattle.head.specs.Head.{flagsAt, signatureHolds, readHead}
+use Rattle.wire.specs.declared.refusal.Refusal.{Refusal}
+use Rattle.negotiate_flags.specs.declared.NegotiateFlags.{NegotiateFlags}
+use Rattle.head.specs.declared.Head.{Head}
+use Rattle.head.specs.declared.Head.the-variants.{Flags, Refused as Stopped}
+use Rattle.head.specs.Head.{flagsAt, signatureHolds, readHead, onFlags}
 use Rattle.field.proofs.Fields.{own-bytes}
 use Rattle.demands.specs.Ignored.{SameBytes}
 use Rattle.demands.specs.Message.{Format, lenOf, maxLenOf, offsetOf, Counts, Nonempty, Covers, Fails, Ignored, DifferInIgnored, SameMaxLen}
 use Rattle.demands.proofs.Alike.{same-part, same16, same32}
-use Rattle.demands.proofs.Message.Chain.{layoutOf}
+use Rattle.demands.proofs.Message.Chain.{layoutOf, JudgedH, head-judged}
 use Rattle.demands.proofs.MaxLen.{kept}
 use Rattle.demands.proofs.Message.{Stands, empty-bytes}
 
@@ -74,6 +78,23 @@ module _ (k : Format) (a b : List ℕ) (seen : Seen k a) (d : DifferInIgnored k 
 
       at : (p : ℕ) → k .flags ≤ p → p < k .flags + 4 → getD a p 0 ≡ getD b p 0
       at p l r = looked p (seen .at-flags p l r)
+
+  -- a reading that goes by its fields, as far as `said` tells, is the same of both
+  pub read-same : {Fs Rd : Type 0} (refuse : Refusal → Rd) (rest : NegotiateFlags → ℕ → Fs → Rd) (at : List ℕ → NegotiateFlags → Fs) (cut : Fs → Fs) (said : Rd → Rd) →
+      8 ≤ k .fixed → ((w : NegotiateFlags) (n : ℕ) (f : Fs) → said (rest w n f) ≡ rest w n (cut f)) →
+      cut (at a (flagsAt a (k .flags))) ≡ cut (at b (flagsAt a (k .flags))) →
+      said (onFlags refuse (readHead (layoutOf k) a) (λ w. rest w (length a) (at a w))) ≡ said (onFlags refuse (readHead (layoutOf k) b) (λ w. rest w (length b) (at b w)))
+  read-same {Fs} {Rd} refuse rest at cut said wide by same = go (readHead (layoutOf k) a) (head-judged k a wide) ∙ ap (λ (h : Head). said (of b h)) head-same where
+    of : List ℕ → Head → Rd
+    of s h = onFlags refuse h (λ w. rest w (length s) (at s w))
+
+    go : (h : Head) → JudgedH k a h → said (of a h) ≡ said (of b h)
+    go (Flags w) j =
+        rw (j .0)
+        (by (flagsAt a (k .flags)) (length a) _ ∙ ap (λ (f : Fs). rest (flagsAt a (k .flags)) (length a) f) same
+        ∙ ap (λ (n : ℕ). rest (flagsAt a (k .flags)) n (cut (at b (flagsAt a (k .flags))))) (d .length-same)
+        ∙ sym (by (flagsAt a (k .flags)) (length b) _))
+    go (Stopped e) j = refl
 
   -- and so is what a field covers
   pub bytes-same : (i : ℕ) (f : Field) → Stands k a i f → (Fails k a 6 i → ⊥) → (Fails k a 7 i → ⊥) → SameBytes a b f

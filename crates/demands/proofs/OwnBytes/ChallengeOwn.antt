@@ -17,7 +17,7 @@ use Rattle.wire.specs.Number.{u64At}
 use Rattle.av_pairs.specs.declared.AvPair.{AvPair}
 use Rattle.av_pairs.specs.declared.Found.{Found}
 use Rattle.av_pairs.specs.declared.Found.the-variants.{At, Nothing}
-use Rattle.av_pairs.specs.AvPairs.{checkPairs, pairsOf, isThere}
+use Rattle.av_pairs.specs.AvPairs.{pairsOf, isThere}
 use Rattle.challenge.specs.declared.Challenge.{Challenge}
 use Rattle.challenge.specs.declared.Reading.{Reading}
 use Rattle.challenge.specs.declared.Reading.the-variants.{Taken, Refused}

@@ -3,10 +3,10 @@ use Prim.Native.Nat.{ℕ, _+_, _/_, _%_, _≤_, _<_}
 use mathlib.Core.Path.{_≡_, refl, sym, ap, _∙_, subst}
 use mathlib.Core.Logic.{_↔_, ⊎-elim}
 use mathlib.Core.Bool.{Bool, true, false, not, cond}
-use mathlib.Core.List.{List, [], _++_, append-assoc, append-nil}
+use mathlib.Core.List.{List, [], _∷_, _++_, append-assoc, append-nil}
 use native.Mathlib.Omega.{arith}
 use lib.Dec.{eqb}
-use lib.ListN.{length, take, drop, length-append}
+use lib.ListN.{length, take, drop}
 use lib.Seq.{take-at}
 use borrow.Author.Tests.{eqb-true, eqb-false, leb-true}
 use Rattle.wire.specs.declared.check.Checked.the-variants.{Held}
@@ -16,15 +16,14 @@ use Rattle.wire.specs.Number.{u32At, withBit}
 use Rattle.wire.proofs.Laws.{held-true}
 use Rattle.wire.proofs.Bits.{one-bit}
 use Rattle.field.specs.declared.Field.{Field}
-use Rattle.field.specs.Field.{headAt}
 use Rattle.negotiate_flags.specs.declared.NegotiateFlags.{NegotiateFlags}
 use Rattle.negotiate_flags.specs.Flags.{unicode, oem, charsetHolds}
 use Rattle.head.specs.Head.{signature}
 use Rattle.place.specs.Place.{le32}
 use Rattle.place.specs.Written.{sizeHolds, roomHolds}
 use Rattle.place.proofs.Numbers.{length-le32, back32}
-use Rattle.field_writing.specs.Writing.{fieldOf, headBytes, versionBytes}
-use Rattle.field_writing.proofs.Laws.{length-head, length-version}
+use Rattle.field_writing.specs.Writing.{versionBytes}
+use Rattle.field_writing.proofs.Laws.{length-version}
 use Rattle.negotiate.specs.declared.Fields.{Fields}
 use Rattle.negotiate.specs.declared.Reading.{Reading}
 use Rattle.negotiate.specs.declared.Reading.the-variants.{Taken, Refused}
@@ -33,14 +32,14 @@ use Rattle.negotiate_writing.specs.Writing.{nonempty, flagsToWrite, fieldsTo, a
 use Rattle.negotiate_writing.proofs.Sent.{length-message}
 use Rattle.demands.specs.Message.{negotiate, lenOf, offsetOf, Set, Nonempty, Fails}
 use Rattle.demands.specs.TakenExactly.{IsTakenNegotiate}
-use Rattle.demands.specs.ReadBack.{NegotiateBack, NegotiateReadsBack}
+use Rattle.demands.specs.ReadBack.{BitsByNames, NegotiateBack, NegotiateReadsBack}
 use Rattle.demands.specs.Kept.{NegotiateKept}
 use Rattle.demands.proofs.Bools.{or-either, after-held}
 use Rattle.demands.proofs.Message.Chain.{by-row}
 use Rattle.demands.proofs.Kept.{by-verdict}
 use Rattle.demands.proofs.OwnBytes.{own-same}
 use Rattle.demands.proofs.ReadBack.{written-is}
-use Rattle.demands.proofs.ReadBack.Sent.{back-at, in-payload}
+use Rattle.demands.proofs.ReadBack.Sent.{Before, headsThen, HeadsBack, PartsStand, past, heads-back, parts-stand}
 use Rattle.demands.proofs.TakenExactly.Negotiate.{negotiate-taken, negotiate-own}
 
 -- ---- the two bits
@@ -78,6 +77,16 @@ bit-is x b e = go (eqb (length x) 0) refl e where
   go true p q = (λ h. absurd (omega arith), λ h. absurd (omega (arith, eqb-true (length x) 0 p)))
   go false p q = (λ h. omega (arith, eqb-false (length x) 0 p), λ h. q)
 
+pub bits-by-names : (w : NegotiateFlags) (domain workstation : List ℕ) → BitsByNames (flagsToWrite w domain workstation .bits) (w .bits) domain workstation
+bits-by-names w domain workstation =
+    let b = both-bits w domain workstation in
+    record {
+      domain-bit = bit-is domain _ (b .domain-bit);
+      workstation-bit = bit-is workstation _ (b .workstation-bit);
+      bits-below = b .low;
+      bits-above = b .high;
+    }
+
 -- ---- what is written, byte by byte
 
 module _ (w : NegotiateFlags) (v dom wks : List ℕ) (v8 : length v ≡ 8) where
@@ -90,116 +99,58 @@ module _ (w : NegotiateFlags) (v dom wks : List ℕ) (v8 : length v ≡ 8) where
   M : List ℕ
   M = negotiateBytes w v dom wks
 
-  -- what stands before each part
-  q0 : List ℕ
-  q0 = signature ++ le32 1
+  -- what follows the flags at 12
+  tail : List ℕ
+  tail = versionBytes x v ++ (dom ++ wks)
 
-  q1 : List ℕ
-  q1 = q0 ++ le32 (x .bits)
-
-  q2 : List ℕ
-  q2 = q1 ++ headBytes (f .domain)
-
-  q3 : List ℕ
-  q3 = q2 ++ headBytes (f .workstation)
-
-  q4 : List ℕ
-  q4 = q3 ++ versionBytes x v
-
-  abbrev rest0 : List ℕ
-  rest0 = le32 (x .bits) ++ (headBytes (f .domain) ++ (headBytes (f .workstation) ++ (versionBytes x v ++ (dom ++ wks))))
-
-  at0 : M ≡ q0 ++ rest0
-  unfolding M q0 x f negotiateBytes fixedBytes afterType
+  at0 : M ≡ signature ++ (le32 1 ++ (le32 (x .bits) ++ headsThen (f .domain ∷ f .workstation ∷ []) tail))
+  unfolding M x f tail negotiateBytes fixedBytes afterType
   at0 = simp append-assoc
 
-  at1 : M ≡ q1 ++ (headBytes (f .domain) ++ (headBytes (f .workstation) ++ (versionBytes x v ++ (dom ++ wks))))
-  unfolding q1
-  at1 = at0 ∙ sym (append-assoc q0 (le32 (x .bits)) _)
-
-  at2 : M ≡ q2 ++ (headBytes (f .workstation) ++ (versionBytes x v ++ (dom ++ wks)))
-  unfolding q2
-  at2 = at1 ∙ sym (append-assoc q1 (headBytes (f .domain)) _)
-
-  at3 : M ≡ q3 ++ (versionBytes x v ++ (dom ++ wks))
-  unfolding q3
-  at3 = at2 ∙ sym (append-assoc q2 (headBytes (f .workstation)) _)
-
-  at4 : M ≡ q4 ++ (dom ++ wks)
-  unfolding q4
-  at4 = at3 ∙ sym (append-assoc q3 (versionBytes x v) _)
-
-  at5 : M ≡ (q4 ++ dom) ++ (wks ++ [])
-  at5 = at4 ∙ sym (append-assoc q4 dom wks) ∙ ap (λ (l : List ℕ). (q4 ++ dom) ++ l) (sym (append-nil wks))
-
-  -- their lengths
-  l0 : length q0 ≡ 12
-  unfolding q0
-  l0 = simp length-le32
-
-  l1 : length q1 ≡ 16
-  unfolding q1
-  l1 = simp (length-append, length-le32, l0)
-
-  l2 : length q2 ≡ 24
-  unfolding q2
-  l2 = simp (length-append, length-head, l1)
-
-  l3 : length q3 ≡ 32
-  unfolding q3
-  l3 = simp (length-append, length-head, l2)
-
-  l4 : length q4 ≡ 40
-  unfolding q4
-  l4 = simp (length-append, length-version x v v8, l3)
-
   -- the heads and the flags read back
-  domain-head : headAt M 16 ≡ fieldOf (f .domain .offset) (f .domain .len)
-  domain-head = back-at M q1 _ (f .domain) 16 at1 l1
+  at-flags : Before M (le32 (x .bits) ++ headsThen (f .domain ∷ f .workstation ∷ []) tail) 12
+  at-flags = record { front = signature ++ le32 1; whole = at0 ∙ sym (append-assoc signature (le32 1) _); long = simp length-le32 }
 
-  workstation-head : headAt M 24 ≡ fieldOf (f .workstation .offset) (f .workstation .len)
-  workstation-head = back-at M q2 _ (f .workstation) 24 at2 l2
+  heads : HeadsBack M (f .domain ∷ f .workstation ∷ []) tail 16
+  heads = heads-back M (f .domain ∷ f .workstation ∷ []) tail 16 (past M (le32 (x .bits)) _ 12 4 (length-le32 (x .bits)) at-flags)
 
   flags-back : u32At M 12 ≡ x .bits
-  flags-back = ap (λ (l : List ℕ). u32At l 12) at0 ∙ back32 q0 _ (x .bits) 12 l0
+  flags-back = ap (λ (l : List ℕ). u32At l 12) (at-flags .whole) ∙ back32 (at-flags .front) _ (x .bits) 12 (at-flags .long)
 
   type-back : u32At M 8 ≡ 1
-  unfolding q0
-  type-back = ap (λ (l : List ℕ). u32At l 8) (at0 ∙ append-assoc signature (le32 1) rest0) ∙ back32 signature rest0 1 8 refl
+  type-back = ap (λ (l : List ℕ). u32At l 8) at0 ∙ back32 signature _ 1 8 refl
 
   signature-back : take 8 M ≡ signature
-  unfolding q0
-  signature-back = ap (λ (l : List ℕ). take 8 l) (at0 ∙ append-assoc signature (le32 1) rest0) ∙ take-at signature (le32 1 ++ rest0) 8 refl
+  signature-back = ap (λ (l : List ℕ). take 8 l) at0 ∙ take-at signature (le32 1 ++ (le32 (x .bits) ++ headsThen (f .domain ∷ f .workstation ∷ []) tail)) 8 refl
+
+  -- the names stand in the payload, and end the message
+  fields : PartsStand M (dom ∷ wks ∷ []) 40
+  unfolding tail
+  fields = parts-stand M (dom ∷ wks ∷ []) 40 (simp append-nil (past M (versionBytes x v) _ 32 8 (length-version x v v8) (heads .1 .1)))
 
   whole : length M ≡ 40 + length dom + length wks
-  whole = ap length at4 ∙ simp (length-append, l4) (omega arith)
+  whole = fields .1 .1
 
   len1 : lenOf negotiate M 1 ≡ length dom
   unfolding f fieldsTo
-  len1 = ap (λ (g : Field). g .len) domain-head
+  len1 = ap (λ (g : Field). g .len) (heads .0)
 
   off1 : offsetOf negotiate M 1 ≡ 40
   unfolding f fieldsTo
-  off1 = ap (λ (g : Field). g .offset) domain-head
+  off1 = ap (λ (g : Field). g .offset) (heads .0)
 
   len2 : lenOf negotiate M 2 ≡ length wks
   unfolding f fieldsTo
-  len2 = ap (λ (g : Field). g .len) workstation-head
+  len2 = ap (λ (g : Field). g .len) (heads .1 .0)
 
   off2 : offsetOf negotiate M 2 ≡ 40 + length dom
   unfolding f fieldsTo
-  off2 = ap (λ (g : Field). g .offset) workstation-head
-
-  dom-bytes : take (length dom) (drop 40 M) ≡ dom
-  dom-bytes = in-payload M q4 dom wks 40 (length dom) at4 l4 refl
-
-  wks-bytes : take (length wks) (drop (40 + length dom) M) ≡ wks
-  wks-bytes = in-payload M (q4 ++ dom) wks [] (40 + length dom) (length wks) at5 (simp (length-append, l4)) refl
+  off2 = ap (λ (g : Field). g .offset) (heads .1 .0)
 
   -- a flag of the message
-  bits : BothBits (w .bits) (x .bits) dom wks
+  by-names : BitsByNames (x .bits) (w .bits) dom wks
   unfolding x
-  bits = both-bits w dom wks
+  by-names = bits-by-names w dom wks
 
   flag : (mask : ℕ) → x .bits / mask % 2 ≡ 1 → Set negotiate M mask
   flag mask e = ap (λ (n : ℕ). n / mask % 2) flags-back ∙ e
@@ -208,8 +159,8 @@ module _ (w : NegotiateFlags) (v dom wks : List ℕ) (v8 : length v ≡ 8) where
 
   no-5 : charsetHolds w ≡ Held → (i : ℕ) → Fails negotiate M 5 i → ⊥
   no-5 h i e =
-      ⊎-elim (λ u. e .1 (flag 0x1 (omega (arith, eqb-true (w .bits / 0x1 % 2) 1 u, bits .low))))
-      (λ o. e .2 (flag 0x2 (omega (arith, eqb-true (w .bits / 0x2 % 2) 1 o, bits .low))))
+      ⊎-elim (λ u. e .1 (flag 0x1 (omega (arith, eqb-true (w .bits / 0x1 % 2) 1 u, by-names .bits-below))))
+      (λ o. e .2 (flag 0x2 (omega (arith, eqb-true (w .bits / 0x2 % 2) 1 o, by-names .bits-below))))
       (or-either (unicode w) (oem w) (held-true _ h))
 
   by-field : (P : ℕ → Type 0) → P 1 → P 2 → (i : ℕ) → 1 ≤ i → i ≤ 2 → P i
@@ -241,7 +192,7 @@ module _ (w : NegotiateFlags) (v dom wks : List ℕ) (v8 : length v ≡ 8) where
       record {
         first = omega arith;
         last = omega arith;
-        counts = (λ e. flag 0x1000 (bit-is dom (x .bits / 0x1000 % 2) (bits .domain-bit) .1 (omega (arith, len1))), λ e. absurd (omega arith));
+        counts = (λ e. flag 0x1000 (by-names .domain-bit .1 (omega (arith, len1))), λ e. absurd (omega arith));
         some = s;
       }
 
@@ -250,7 +201,7 @@ module _ (w : NegotiateFlags) (v dom wks : List ℕ) (v8 : length v ≡ 8) where
       record {
         first = omega arith;
         last = omega arith;
-        counts = (λ e. absurd (omega arith), λ e. flag 0x2000 (bit-is wks (x .bits / 0x2000 % 2) (bits .workstation-bit) .1 (omega (arith, len2))));
+        counts = (λ e. absurd (omega arith), λ e. flag 0x2000 (by-names .workstation-bit .1 (omega (arith, len2))));
         some = s;
       }
 
@@ -266,12 +217,9 @@ module _ (w : NegotiateFlags) (v dom wks : List ℕ) (v8 : length v ≡ 8) where
         record {
           message = m;
           read = e;
-          domain-same = own-same negotiate M 1 (m .fields .domain) dom (o .domain) domain-counts len1 (at-offset 1 (length dom) 40 dom off1 dom-bytes);
-          workstation-same = own-same negotiate M 2 (m .fields .workstation) wks (o .workstation) workstation-counts len2 (at-offset 2 (length wks) _ wks off2 wks-bytes);
-          domain-bit = bit-is dom (m .flags .bits / 0x1000 % 2) (ap (λ (n : ℕ). n / 0x1000 % 2) same ∙ bits .domain-bit);
-          workstation-bit = bit-is wks (m .flags .bits / 0x2000 % 2) (ap (λ (n : ℕ). n / 0x2000 % 2) same ∙ bits .workstation-bit);
-          bits-below = ap (λ (n : ℕ). n % 0x1000) same ∙ bits .low;
-          bits-above = ap (λ (n : ℕ). n / 0x4000) same ∙ bits .high;
+          domain-same = own-same negotiate M 1 (m .fields .domain) dom (o .domain) domain-counts len1 (at-offset 1 (length dom) 40 dom off1 (fields .0));
+          workstation-same = own-same negotiate M 2 (m .fields .workstation) wks (o .workstation) workstation-counts len2 (at-offset 2 (length wks) _ wks off2 (fields .1 .0));
+          flags-same = subst (λ (n : ℕ). BitsByNames n (w .bits) dom wks) (sym same) by-names;
         }
     go (Refused d) e t = absurd t
 

@@ -3,11 +3,11 @@ use Prim.Native.Nat.{ℕ, _+_, _-_, _/_, _%_, _≤_, _<_}
 use mathlib.Core.Path.{_≡_, refl, sym, ap, _∙_, subst}
 use mathlib.Core.Bool.{Bool, true, false, _||_, _&&_, not}
 use mathlib.Core.Logic.{_⊎_, inl, inr, ⊎-elim}
-use mathlib.Core.List.{List, [], _∷_, _++_, append-assoc}
+use mathlib.Core.List.{List, [], _∷_, _++_, append-assoc, append-nil}
 use native.Mathlib.Omega.{arith}
 use lib.Dec.{eqb, ltb}
 use lib.ListN.{List·getD-append, List·getD-eq-default, getD, length, take, drop, length-append}
-use lib.Seq.{take-at, drop-at, getD-append-add}
+use lib.Seq.{take-at, getD-append-add}
 use borrow.Author.Tests.{eqb-true, eqb-false, eq-eqb, leb-true, ltb-true, ltb-false}
 use Rattle.field.specs.declared.Field.{Field}
 use Rattle.wire.specs.declared.check.Checked.the-variants.{Held}
@@ -15,7 +15,6 @@ use Rattle.wire.specs.declared.check.Verdict.the-variants.{Clear}
 use Rattle.wire.proofs.Laws.{held-true}
 use Rattle.negotiate_flags.specs.declared.NegotiateFlags.{NegotiateFlags}
 use Rattle.wire.specs.declared.refusal.Refusal.the-variants.{NoCharset, OddNameToWrite, WrongKey, TooLongToWrite}
-use Rattle.field.specs.Field.{headAt}
 use Rattle.negotiate_flags.specs.Flags.{unicode, oem, keyExch, charsetHolds}
 use Rattle.head.specs.Head.{signature}
 use Rattle.wire.specs.Number.{u32At}
@@ -35,17 +34,13 @@ use Rattle.demands.specs.ReadBack.{AuthenticateBack, AuthenticateReadsBa
 use Rattle.demands.specs.TakenExactly.{IsTakenAuthenticate}
 use Rattle.demands.proofs.Message.Chain.{by-row}
 use Rattle.demands.proofs.OwnBytes.{authenticate-own, own-same}
-use Rattle.demands.proofs.ReadBack.Sent.{back-at, in-payload}
+use Rattle.demands.proofs.ReadBack.Sent.{Before, headsThen, HeadsBack, PartsStand, past as go-past, heads-back, parts-stand, in-payload}
 use Rattle.demands.proofs.ReadBack.{written-is}
 use Rattle.demands.proofs.TakenExactly.{authenticate-taken}
 use Rattle.demands.specs.Message.{authenticate, lenOf, offsetOf, Nonempty, Set, MicThere, Fails}
-use Rattle.field_writing.specs.Writing.{fieldOf, headBytes, versionBytes}
+use Rattle.field_writing.specs.Writing.{versionBytes}
 use Rattle.field_writing.proofs.Laws.{length-head, length-version}
 use Rattle.authenticate_writing.specs.Writing.{fieldsTo, headsBytes, afterHeads, fixedBytes, payloadBytes, authenticateBytes, evenToWrite, checkNamesToWrite, keyHolds, sizeToWrite, checkToWrite, writeAnswer, writeOut}
-
-append-none : (l : List ℕ) → l ++ [] ≡ l
-append-none [] = refl
-append-none (x ∷ xs) = ap (λ (l : List ℕ). x ∷ l) (append-none xs)
 
 pub three : (P : ℕ → Type 0) → P 3 → P 4 → P 5 → (k : ℕ) → 3 ≤ k → k ≤ 5 → P k
 three P a b c k l r = go (eqb k 3) (eqb k 4) refl refl where
@@ -72,154 +67,62 @@ module _ (w : NegotiateFlags) (v mic lm nt dom usr wks key : List ℕ) (v8 : len
   tail : List ℕ
   tail = le32 (w .bits) ++ (versionBytes w v ++ (mic ++ payloadBytes lm nt dom usr wks key))
 
-  abbrev rest0 : List ℕ
-  rest0 = headBytes (f .lm) ++ (headBytes (f .nt) ++ (headBytes (f .domain) ++ (headBytes (f .user) ++ (headBytes (f .workstation) ++ (headBytes (f .key) ++ tail)))))
-
-  at0 : authenticateBytes w v mic lm nt dom usr wks key ≡ (signature ++ le32 3) ++ rest0
-  unfolding authenticateBytes fixedBytes headsBytes afterHeads f tail
-  at0 = simp append-assoc
-
   M : List ℕ
   M = authenticateBytes w v mic lm nt dom usr wks key
 
-  -- what stands before each part
-  q0 : List ℕ
-  q0 = signature ++ le32 3
-
-  q1 : List ℕ
-  q1 = q0 ++ headBytes (f .lm)
-
-  q2 : List ℕ
-  q2 = q1 ++ headBytes (f .nt)
-
-  q3 : List ℕ
-  q3 = q2 ++ headBytes (f .domain)
-
-  q4 : List ℕ
-  q4 = q3 ++ headBytes (f .user)
-
-  q5 : List ℕ
-  q5 = q4 ++ headBytes (f .workstation)
-
-  q6 : List ℕ
-  q6 = q5 ++ headBytes (f .key)
-
+  -- what stands before the MIC
   q8 : List ℕ
-  q8 = q6 ++ (le32 (w .bits) ++ versionBytes w v)
-
-  q9 : List ℕ
-  q9 = q8 ++ mic
-
-  at1 : M ≡ q1 ++ (headBytes (f .nt) ++ (headBytes (f .domain) ++ (headBytes (f .user) ++ (headBytes (f .workstation) ++ (headBytes (f .key) ++ tail)))))
-  unfolding M q0 q1
-  at1 = at0 ∙ sym (append-assoc q0 (headBytes (f .lm)) _)
-
-  at2 : M ≡ q2 ++ (headBytes (f .domain) ++ (headBytes (f .user) ++ (headBytes (f .workstation) ++ (headBytes (f .key) ++ tail))))
-  unfolding q2
-  at2 = at1 ∙ sym (append-assoc q1 (headBytes (f .nt)) _)
-
-  at3 : M ≡ q3 ++ (headBytes (f .user) ++ (headBytes (f .workstation) ++ (headBytes (f .key) ++ tail)))
-  unfolding q3
-  at3 = at2 ∙ sym (append-assoc q2 (headBytes (f .domain)) _)
-
-  at4 : M ≡ q4 ++ (headBytes (f .workstation) ++ (headBytes (f .key) ++ tail))
-  unfolding q4
-  at4 = at3 ∙ sym (append-assoc q3 (headBytes (f .user)) _)
-
-  at5 : M ≡ q5 ++ (headBytes (f .key) ++ tail)
-  unfolding q5
-  at5 = at4 ∙ sym (append-assoc q4 (headBytes (f .workstation)) _)
-
-  at6 : M ≡ q6 ++ tail
-  unfolding q6
-  at6 = at5 ∙ sym (append-assoc q5 (headBytes (f .key)) tail)
+  q8 = signature ++ (le32 3 ++ (headsBytes f ++ (le32 (w .bits) ++ versionBytes w v)))
 
   at8 : M ≡ q8 ++ (mic ++ payloadBytes lm nt dom usr wks key)
-  unfolding q8 tail
-  at8 =
-      at6 ∙ ap (λ (x : List ℕ). q6 ++ x) (sym (append-assoc (le32 (w .bits)) (versionBytes w v) (mic ++ payloadBytes lm nt dom usr wks key)))
-      ∙ sym (append-assoc q6 (le32 (w .bits) ++ versionBytes w v) (mic ++ payloadBytes lm nt dom usr wks key))
-
-  at9 : M ≡ q9 ++ payloadBytes lm nt dom usr wks key
-  unfolding q9
-  at9 = at8 ∙ sym (append-assoc q8 mic (payloadBytes lm nt dom usr wks key))
-
-  -- their lengths
-  l0 : length q0 ≡ 12
-  unfolding q0
-  l0 = simp length-le32
-
-  l1 : length q1 ≡ 20
-  unfolding q1
-  l1 = simp (length-append, length-head, l0)
-
-  l2 : length q2 ≡ 28
-  unfolding q2
-  l2 = simp (length-append, length-head, l1)
-
-  l3 : length q3 ≡ 36
-  unfolding q3
-  l3 = simp (length-append, length-head, l2)
-
-  l4 : length q4 ≡ 44
-  unfolding q4
-  l4 = simp (length-append, length-head, l3)
-
-  l5 : length q5 ≡ 52
-  unfolding q5
-  l5 = simp (length-append, length-head, l4)
-
-  l6 : length q6 ≡ 60
-  unfolding q6
-  l6 = simp (length-append, length-head, l5)
+  unfolding M q8 authenticateBytes fixedBytes afterHeads f
+  at8 = simp append-assoc
 
   l8 : length q8 ≡ 72
-  unfolding q8
-  l8 = simp (length-append, length-le32, length-version w v v8, l6)
+  unfolding q8 headsBytes
+  l8 = simp (length-append, length-le32, length-head, length-version w v v8)
 
-  l9 : length q9 ≡ 88
-  unfolding q9
-  l9 = simp (length-append, l8, m16)
+  long : length M ≡ 88 + length (payloadBytes lm nt dom usr wks key)
+  long = ap length at8 ∙ simp (length-append, l8, m16) (omega arith)
 
   -- the heads, the flags and the MIC read back
-  lm-head : headAt M 12 ≡ fieldOf (f .lm .offset) (f .lm .len)
-  unfolding M q0
-  lm-head = back-at M q0 _ (f .lm) 12 at0 l0
+  abbrev six-heads : List Field
+  six-heads = f .lm ∷ f .nt ∷ f .domain ∷ f .user ∷ f .workstation ∷ f .key ∷ []
 
-  nt-head : headAt M 20 ≡ fieldOf (f .nt .offset) (f .nt .len)
-  nt-head = back-at M q1 _ (f .nt) 20 at1 l1
+  at0 : M ≡ signature ++ (le32 3 ++ headsThen six-heads tail)
+  unfolding M authenticateBytes fixedBytes headsBytes afterHeads f tail
+  at0 = simp append-assoc
 
-  domain-head : headAt M 28 ≡ fieldOf (f .domain .offset) (f .domain .len)
-  domain-head = back-at M q2 _ (f .domain) 28 at2 l2
+  heads : HeadsBack M six-heads tail 12
+  heads = heads-back M six-heads tail 12 (record { front = signature ++ le32 3; whole = at0 ∙ sym (append-assoc signature (le32 3) _); long = simp length-le32 })
 
-  user-head : headAt M 36 ≡ fieldOf (f .user .offset) (f .user .len)
-  user-head = back-at M q3 _ (f .user) 36 at3 l3
-
-  workstation-head : headAt M 44 ≡ fieldOf (f .workstation .offset) (f .workstation .len)
-  workstation-head = back-at M q4 _ (f .workstation) 44 at4 l4
-
-  key-head : headAt M 52 ≡ fieldOf (f .key .offset) (f .key .len)
-  key-head = back-at M q5 tail (f .key) 52 at5 l5
+  after-heads : Before M tail 60
+  after-heads = heads .1 .1 .1 .1 .1 .1
 
   flags-back : u32At M 60 ≡ w .bits
   unfolding tail
-  flags-back = ap (λ (x : List ℕ). u32At x 60) at6 ∙ back32 q6 _ (w .bits) 60 l6
+  flags-back = ap (λ (x : List ℕ). u32At x 60) (after-heads .whole) ∙ back32 (after-heads .front) _ (w .bits) 60 (after-heads .long)
+
+  at-mic : Before M (mic ++ payloadBytes lm nt dom usr wks key) 72
+  unfolding tail
+  at-mic = go-past M (versionBytes w v) _ 64 8 (length-version w v v8) (go-past M (le32 (w .bits)) _ 60 4 (length-le32 (w .bits)) after-heads)
 
   mic-back : take 16 (drop 72 M) ≡ mic
-  mic-back =
-      ap (λ (x : List ℕ). take 16 (drop 72 x)) at8 ∙ ap (λ (x : List ℕ). take 16 x) (drop-at q8 (mic ++ payloadBytes lm nt dom usr wks key) 72 l8)
-      ∙ take-at mic (payloadBytes lm nt dom usr wks key) 16 m16
+  mic-back = in-payload M (at-mic .front) mic _ 72 16 (at-mic .whole) (at-mic .long) m16
 
   type-back : u32At M 8 ≡ 3
-  unfolding M
-  type-back = ap (λ (x : List ℕ). u32At x 8) (at0 ∙ append-assoc signature (le32 3) rest0) ∙ back32 signature rest0 3 8 refl
+  type-back = ap (λ (x : List ℕ). u32At x 8) at0 ∙ back32 signature _ 3 8 refl
 
   signature-back : take 8 M ≡ signature
-  unfolding M
-  signature-back = ap (λ (x : List ℕ). take 8 x) (at0 ∙ append-assoc signature (le32 3) rest0) ∙ take-at signature (le32 3 ++ rest0) 8 refl
+  signature-back = ap (λ (x : List ℕ). take 8 x) at0 ∙ take-at signature (le32 3 ++ headsThen six-heads tail) 8 refl
 
-  long : length M ≡ 88 + length (payloadBytes lm nt dom usr wks key)
-  long = ap length at9 ∙ simp (length-append, l9)
+  -- the fields stand in the payload, and end the message
+  fields : PartsStand M (dom ∷ usr ∷ wks ∷ lm ∷ nt ∷ key ∷ []) 88
+  unfolding payloadBytes
+  fields = parts-stand M (dom ∷ usr ∷ wks ∷ lm ∷ nt ∷ key ∷ []) 88 (simp append-nil (go-past M mic _ 72 16 m16 at-mic))
+
+  whole : length M ≡ 88 + length dom + length usr + length wks + length lm + length nt + length key
+  whole = fields .1 .1 .1 .1 .1 .1
 
   -- lengths and offsets by their heads
   len-of : (g h : Field) → g ≡ h → g .len ≡ h .len
@@ -230,93 +133,51 @@ module _ (w : NegotiateFlags) (v mic lm nt dom usr wks key : List ℕ) (v8 : len
 
   len1 : lenOf authenticate M 1 ≡ length lm
   unfolding f fieldsTo
-  len1 = len-of _ _ lm-head
+  len1 = len-of _ _ (heads .0)
 
   off1 : offsetOf authenticate M 1 ≡ 88 + length dom + length usr + length wks
   unfolding f fieldsTo
-  off1 = off-of _ _ lm-head
+  off1 = off-of _ _ (heads .0)
 
   len2 : lenOf authenticate M 2 ≡ length nt
   unfolding f fieldsTo
-  len2 = len-of _ _ nt-head
+  len2 = len-of _ _ (heads .1 .0)
 
   off2 : offsetOf authenticate M 2 ≡ 88 + length dom + length usr + length wks + length lm
   unfolding f fieldsTo
-  off2 = off-of _ _ nt-head
+  off2 = off-of _ _ (heads .1 .0)
 
   len3 : lenOf authenticate M 3 ≡ length dom
   unfolding f fieldsTo
-  len3 = len-of _ _ domain-head
+  len3 = len-of _ _ (heads .1 .1 .0)
 
   off3 : offsetOf authenticate M 3 ≡ 88
   unfolding f fieldsTo
-  off3 = off-of _ _ domain-head
+  off3 = off-of _ _ (heads .1 .1 .0)
 
   len4 : lenOf authenticate M 4 ≡ length usr
   unfolding f fieldsTo
-  len4 = len-of _ _ user-head
+  len4 = len-of _ _ (heads .1 .1 .1 .0)
 
   off4 : offsetOf authenticate M 4 ≡ 88 + length dom
   unfolding f fieldsTo
-  off4 = off-of _ _ user-head
+  off4 = off-of _ _ (heads .1 .1 .1 .0)
 
   len5 : lenOf authenticate M 5 ≡ length wks
   unfolding f fieldsTo
-  len5 = len-of _ _ workstation-head
+  len5 = len-of _ _ (heads .1 .1 .1 .1 .0)
 
   off5 : offsetOf authenticate M 5 ≡ 88 + length dom + length usr
   unfolding f fieldsTo
-  off5 = off-of _ _ workstation-head
+  off5 = off-of _ _ (heads .1 .1 .1 .1 .0)
 
   len6 : lenOf authenticate M 6 ≡ length key
   unfolding f fieldsTo
-  len6 = len-of _ _ key-head
+  len6 = len-of _ _ (heads .1 .1 .1 .1 .1 .0)
 
   off6 : offsetOf authenticate M 6 ≡ 88 + length dom + length usr + length wks + length lm + length nt
   unfolding f fieldsTo
-  off6 = off-of _ _ key-head
-
-  whole : length M ≡ 88 + length dom + length usr + length wks + length lm + length nt + length key
-  unfolding payloadBytes
-  whole = long ∙ simp length-append (omega arith)
-
-  -- the bytes of the fields
-  dom-bytes : take (length dom) (drop 88 M) ≡ dom
-  unfolding payloadBytes
-  dom-bytes = in-payload M q9 dom _ 88 (length dom) at9 l9 refl
-
-  at-user : M ≡ (q9 ++ dom) ++ (usr ++ (wks ++ (lm ++ (nt ++ key))))
-  unfolding payloadBytes
-  at-user = at9 ∙ sym (append-assoc q9 dom (usr ++ (wks ++ (lm ++ (nt ++ key)))))
-
-  at-work : M ≡ ((q9 ++ dom) ++ usr) ++ (wks ++ (lm ++ (nt ++ key)))
-  at-work = at-user ∙ sym (append-assoc (q9 ++ dom) usr (wks ++ (lm ++ (nt ++ key))))
-
-  at-lm : M ≡ (((q9 ++ dom) ++ usr) ++ wks) ++ (lm ++ (nt ++ key))
-  at-lm = at-work ∙ sym (append-assoc ((q9 ++ dom) ++ usr) wks (lm ++ (nt ++ key)))
-
-  at-nt : M ≡ ((((q9 ++ dom) ++ usr) ++ wks) ++ lm) ++ (nt ++ key)
-  at-nt = at-lm ∙ sym (append-assoc (((q9 ++ dom) ++ usr) ++ wks) lm (nt ++ key))
-
-  at-key : M ≡ (((((q9 ++ dom) ++ usr) ++ wks) ++ lm) ++ nt) ++ (key ++ [])
-  at-key =
-      at-nt ∙ sym (append-assoc ((((q9 ++ dom) ++ usr) ++ wks) ++ lm) nt key)
-      ∙ ap (λ (x : List ℕ). (((((q9 ++ dom) ++ usr) ++ wks) ++ lm) ++ nt) ++ x) (sym (append-none key))
-
-  usr-bytes : take (length usr) (drop (88 + length dom) M) ≡ usr
-  usr-bytes = in-payload M (q9 ++ dom) usr _ (88 + length dom) (length usr) at-user (simp (length-append, l9)) refl
-
-  wks-bytes : take (length wks) (drop (88 + length dom + length usr) M) ≡ wks
-  wks-bytes = in-payload M ((q9 ++ dom) ++ usr) wks _ (88 + length dom + length usr) (length wks) at-work (simp (length-append, l9)) refl
-
-  lm-bytes : take (length lm) (drop (88 + length dom + length usr + length wks) M) ≡ lm
-  lm-bytes = in-payload M (((q9 ++ dom) ++ usr) ++ wks) lm _ (88 + length dom + length usr + length wks) (length lm) at-lm (simp (length-append, l9)) refl
-
-  nt-bytes : take (length nt) (drop (88 + length dom + length usr + length wks + length lm) M) ≡ nt
-  nt-bytes = in-payload M ((((q9 ++ dom) ++ usr) ++ wks) ++ lm) nt key (88 + length dom + length usr + length wks + length lm) (length nt) at-nt (simp (length-append, l9)) refl
-
-  key-bytes : take (length key) (drop (88 + length dom + length usr + length wks + length lm + length nt) M) ≡ key
-  key-bytes = in-payload M (((((q9 ++ dom) ++ usr) ++ wks) ++ lm) ++ nt) key [] (88 + length dom + length usr + length wks + length lm + length nt) (length key) at-key (simp (length-append, l9)) refl
+  off6 = off-of _ _ (heads .1 .1 .1 .1 .1 .0)
 
   -- the names lie before the secrets
   name-end : (i : ℕ) → authenticate .Name i → offsetOf authenticate M i + lenOf authenticate M i ≤ 88 + length dom + length usr + length wks
@@ -417,12 +278,12 @@ module _ (w : NegotiateFlags) (v mic lm nt dom usr wks key : List ℕ) (v8 : len
             flags-same = o .flags ∙ flags-back;
             mic-there = o .mic-present .1 there;
             mic-same = o .mic-bytes there ∙ mic-back;
-            lm-same = own-same authenticate M 1 (a .fields .lm) lm (o .lm) (counted 1 (omega arith) (omega arith)) len1 (at-offset 1 (length lm) _ lm off1 lm-bytes);
-            nt-same = own-same authenticate M 2 (a .fields .nt) nt (o .nt) (counted 2 (omega arith) (omega arith)) len2 (at-offset 2 (length nt) _ nt off2 nt-bytes);
-            domain-same = own-same authenticate M 3 (a .fields .domain) dom (o .domain) (counted 3 (omega arith) (omega arith)) len3 (at-offset 3 (length dom) 88 dom off3 dom-bytes);
-            user-same = own-same authenticate M 4 (a .fields .user) usr (o .user) (counted 4 (omega arith) (omega arith)) len4 (at-offset 4 (length usr) _ usr off4 usr-bytes);
-            workstation-same = own-same authenticate M 5 (a .fields .workstation) wks (o .workstation) (counted 5 (omega arith) (omega arith)) len5 (at-offset 5 (length wks) _ wks off5 wks-bytes);
-            key-same = own-same authenticate M 6 (a .fields .key) key (o .key) (key-counts held) len6 (at-offset 6 (length key) _ key off6 key-bytes);
+            lm-same = own-same authenticate M 1 (a .fields .lm) lm (o .lm) (counted 1 (omega arith) (omega arith)) len1 (at-offset 1 (length lm) _ lm off1 (fields .1 .1 .1 .0));
+            nt-same = own-same authenticate M 2 (a .fields .nt) nt (o .nt) (counted 2 (omega arith) (omega arith)) len2 (at-offset 2 (length nt) _ nt off2 (fields .1 .1 .1 .1 .0));
+            domain-same = own-same authenticate M 3 (a .fields .domain) dom (o .domain) (counted 3 (omega arith) (omega arith)) len3 (at-offset 3 (length dom) 88 dom off3 (fields .0));
+            user-same = own-same authenticate M 4 (a .fields .user) usr (o .user) (counted 4 (omega arith) (omega arith)) len4 (at-offset 4 (length usr) _ usr off4 (fields .1 .0));
+            workstation-same = own-same authenticate M 5 (a .fields .workstation) wks (o .workstation) (counted 5 (omega arith) (omega arith)) len5 (at-offset 5 (length wks) _ wks off5 (fields .1 .1 .0));
+            key-same = own-same authenticate M 6 (a .fields .key) key (o .key) (key-counts held) len6 (at-offset 6 (length key) _ key off6 (fields .1 .1 .1 .1 .1 .0));
           }
       go (Refused d) e t = absurd t
 
@@ -441,7 +302,7 @@ module _ (w : NegotiateFlags) (v dom usr wks mic lm nt key mic′ lm′ nt′ ke
   named = dom ++ (usr ++ wks)
 
   front-same : q8 w v mic′ lm′ nt′ dom usr wks key′ v8 (sym (long-as .mic-same) ∙ long-as .mic-16) ≡ front
-  unfolding front q8 q6 q5 q4 q3 q2 q1 q0 f
+  unfolding front q8 f
   front-same = simp (long-as .lm-same, long-as .nt-same, long-as .key-same)
 
   S-is : S ≡ front ++ (mic ++ (named ++ (lm ++ (nt ++ key))))

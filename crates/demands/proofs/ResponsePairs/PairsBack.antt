@@ -1,5 +1,5 @@
 -- The pair list that goes back: its bytes against those of the list that came in.
-use Prim.Native.Nat.{ℕ, zero, suc, _+_, _/_, _%_, _^_, _≤_, _<_}
+use Prim.Native.Nat.{ℕ, zero, suc, _+_, _/_, _%_, _^_, _<_}
 use mathlib.Core.Path.{_≡_, refl, sym, ap, _∙_, subst}
 use mathlib.Core.Bool.{Bool, true, false, _||_, _&&_, not, cond}
 use mathlib.Core.Logic.{_⊎_, inl, inr, ⊎-elim, _↔_}
@@ -21,7 +21,7 @@ use Rattle.av_pairs.proofs.Walks.{pairsAt, valuesAt, pairs-pair}
 use Rattle.place.specs.Place.{le32}
 use Rattle.place.proofs.Numbers.{length-le32, back32}
 use Rattle.response_pairs.specs.ResponsePairs.{pairWith, hasPair, isNone, leftOut, kept, dueBits, bitsDue, flagsSet, withBits, addsFlags, addedPairs, pairBytes, bytesOf, listBytes}
-use Rattle.response_pairs.proofs.Fits.{fitPair, length-pair, bytes-append}
+use Rattle.response_pairs.proofs.Fits.{fitPair, length-pair}
 use Rattle.response_pairs.proofs.Standing.{id-there, size-there, value-there, long}
 use Rattle.target_info.specs.TargetInfo.{firstBy}
 use Rattle.wire.specs.Number.{u32At, has}
@@ -29,7 +29,7 @@ use Rattle.wire.specs.Refusal.{numberOf}
 use Rattle.wire.proofs.Bools.{and-left, and-right, and-both}
 use Rattle.demands.specs.Message.{FlagSet}
 use Rattle.demands.specs.PairList.{idOf, sizeOf, nextOf, SizeAllowed, PairAt, EndAt, WellFormed, end, pair, FirstWith, this, next, PairThere}
-use Rattle.demands.specs.ResponsePairs.{valueOf, bitsOf, TakenOut, Unverified, BitsBack, FlagsAdded, ValueAt, FlagsAt, LastTwo, Added, with-flags, without-flags, GoesBack, taken-out, first-flags, same, at-end}
+use Rattle.demands.specs.ResponsePairs.{valueOf, bitsOf, TakenOut, Unverified, BitsBack, FlagsAdded, ValueAt, LastTwo, Added, with-flags, without-flags, GoesBack, taken-out, first-flags, same, at-end}
 use Rattle.demands.proofs.Bools.{true-not-false, both-ways, or-left, or-right, or-either}
 use Rattle.demands.proofs.OwnBytes.ChallengeOwn.{asks, there-is}
 use Rattle.demands.proofs.OwnBytes.Found.{id-of}

@@ -1,15 +1,15 @@
 -- What the NTLM program prints tells no secret.
 use Prim.Native.Nat.{ℕ}
-use mathlib.Core.Path.{_≡_, sym, ap, _∙_}
+use mathlib.Core.Path.{_≡_, sym, _∙_}
 use mathlib.Core.List.{List}
 use native.Mathlib.Omega.{arith}
+use lib.ListN.{length}
 use Rattle.head.specs.declared.Kind.the-variants.{Authenticate}
 use Rattle.head.specs.Head.{kindOf}
 use Rattle.line.specs.Line.{ntlmLine, shownLine}
-use Rattle.place.specs.Written.{bytesAnswer, bytesAfter}
 use Rattle.demands.specs.Secret.{DifferInSecrets, SecretPrinted}
 use Rattle.demands.proofs.Alike.{same32}
-use Rattle.demands.proofs.Secret.{secret-read}
+use Rattle.demands.proofs.Secret.{written-alike, secret-read}
 
 -- the type stands in the first 64 bytes
 kind-same : (s t : List ℕ) → DifferInSecrets s t → kindOf s ≡ kindOf t
@@ -20,15 +20,17 @@ line-same : (s t : List ℕ) → DifferInSecrets s t → kindOf s ≡ Authentica
 unfolding ntlmLine
 line-same s t d e = rw (← (kind-same s t d), e) (secret-read s t d .line)
 
+shown-same : (x y out out′ : List ℕ) → x ≡ y → length out ≡ length out′ → shownLine x out ≡ shownLine y out′
+unfolding shownLine
+shown-same x y out out′ e l = simp (l, e)
+
 pub secret-printed : SecretPrinted
 secret-printed s t d e =
     let same = line-same s t d e in
     record {
       kind = sym (kind-same s t d) ∙ e;
       line = same;
-      line-answer = λ out. ap (λ (l : List ℕ). bytesAnswer l out) same;
-      line-out = λ out. ap (λ (l : List ℕ). bytesAfter l out) same;
-      printed = λ out. ap (λ (l : List ℕ). shownLine l out) same;
-      printed-answer = λ out. ap (λ (l : List ℕ). bytesAnswer (shownLine l out) out) same;
-      printed-out = λ out. ap (λ (l : List ℕ). bytesAfter (shownLine l out) out) same;
+      line-call = λ out out′ l. written-alike (ntlmLine s) (ntlmLine t) out out′ same l;
+      printed = λ out out′ l. shown-same (ntlmLine s) (ntlmLine t) out out′ same l;
+      print-call = λ out out′ l. written-alike _ _ out out′ (shown-same (ntlmLine s) (ntlmLine t) out out′ same l) l;
     }

@@ -161,21 +161,7 @@ module _ (a b : List ℕ) (d : DifferInIgnored negotiate a b) where
 
     reading-same : keptNegotiate m (readNegotiate a) ≡ keptNegotiate m (readNegotiate b)
     unfolding readNegotiate
-    reading-same =
-        go (readHead layout a) (head-judged negotiate a (omega arith))
-        ∙ ap (λ (h : Head). keptNegotiate m (of b h)) (same.head-same negotiate a b (seen negotiate apart a) d)
-      where
-        of : List ℕ → Head → Reading
-        of s h = onFlags Refused h (λ w. rest m w (length s) (fieldsAt s w))
-
-        go : (h : Head) → JudgedH negotiate a h → keptNegotiate m (of a h) ≡ keptNegotiate m (of b h)
-        go (Flags w) j =
-            rw (j .0)
-            (rest-kept m (flagsAt a 12) (length a) (fieldsAt a (flagsAt a 12))
-            ∙ ap (λ (f : Fields). rest m (flagsAt a 12) (length a) f) fields-same
-            ∙ ap (λ (n : ℕ). rest m (flagsAt a 12) n (keptNegotiateFields m (fieldsAt b (flagsAt a 12)))) (d .length-same)
-            ∙ sym (rest-kept m (flagsAt a 12) (length b) (fieldsAt b (flagsAt a 12))))
-        go (Stopped e) j = refl
+    reading-same = same.read-same negotiate a b (seen negotiate apart a) d Refused (rest m) fieldsAt (keptNegotiateFields m) (keptNegotiate m) (omega arith) (rest-kept m) fields-same
 
   bytes-same : ((n i : ℕ) → Fails negotiate a n i → ⊥) → SameBytes a b (fieldsAt a (flagsAt a 12) .domain) × SameBytes a b (fieldsAt a (flagsAt a 12) .workstation)
   bytes-same none =

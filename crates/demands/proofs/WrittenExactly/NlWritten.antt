@@ -8,6 +8,7 @@ use native.Mathlib.Omega.{arith}
 use lib.Dec.{eqb, leb}
 use lib.ListN.{length, length-append}
 use borrow.Author.Tests.{leb-true, leb-false, eqb-true, eqb-false, eq-eqb, ltb-true, ltb-false}
+use Rattle.wire.specs.declared.check.Checked.{Checked}
 use Rattle.wire.specs.declared.check.Checked.the-variants.{Held, Failed}
 use Rattle.wire.specs.declared.check.Verdict.the-variants.{Clear, Refused as Not}
 use Rattle.wire.specs.declared.refusal.Refusal.the-variants.{NoRoom, ZeroInString, WrongLabel, NameTooLong}
@@ -29,10 +30,10 @@ use Rattle.demands.proofs.DnsText.{text-failed, text-held, coded-is}
 use Rattle.demands.specs.Order.{placeIn}
 use Rattle.demands.specs.NlAuth.{maskOf}
 use Rattle.demands.specs.Message.{FlagSet}
-use Rattle.demands.specs.WrittenExactly.{WrittenExactly, HoldsZero, sizeUnder, nameSizeUnder, requestSize, RequestWritingFails, requestOrder, NlRequestIsWritten, RoomFails, NlResponseIsWritten}
+use Rattle.demands.specs.WrittenExactly.{WrittenExactly, HoldsZero, sizeUnder, nameSizeUnder, requestSize, stringOf, RequestWritingFails, requestOrder, NlRequestIsWritten, RoomFails, NlResponseIsWritten}
 use Rattle.demands.proofs.Bools.{true-not-false, failed-false, or-left, or-right, or-either, chained, bit1, bit2, bit4, bit8, bit16}
 use Rattle.demands.proofs.NlAuth.{before-nonzero, at-zero, five}
-use Rattle.demands.proofs.Order.Rank.{FreeBy, JudgedBy, only-in, first-by, skip-by, then-by, over-judged-by}
+use Rattle.demands.proofs.Order.Rank.{FreeBy, JudgedBy, LinksBy, only-in, first-by, skip-by, then-by, over-judged-by}
 use Rattle.demands.proofs.WrittenExactly.{rows, free-at-first, next, room-judged, size-judged, only-room, only-room-judged, by-verdict}
 
 -- check 34 at one string
@@ -143,95 +144,63 @@ module _ (room : ℕ) (flags : NlAuthFlags) (a b c d e : List ℕ) where
       (λ p. none 5 (omega arith) (omega arith) (sym (bit16 bits) ∙ eqb-true _ 1 p))
       (or-either (toC || dnsHost w) (utf8Computer w) (held-true _ h))
 
-  -- check 34
+  -- 34, 50 and 53: a check that fails at a string exactly where its bit is set and Bad holds of it
+  module _ (ok : Bool × List ℕ → Checked) (Bad : List ℕ → Type 0) (k : ℕ) (k3 : k ≤ 3)
+      (bad : (set : Bool) (x : List ℕ) → ok (set, x) ≡ Failed → (set ≡ true) × Bad x)
+      (good : (set : Bool) (x : List ℕ) → ok (set, x) ≡ Held → set ≡ true → Bad x → ⊥) where
+    failed : (i m : ℕ) (x : List ℕ) → k ≤ i → i ≤ 5 → bits % 32 / m % 2 ≡ bits / m % 2 → ok (has (w .bits) m, x) ≡ Failed →
+        (k ≤ i) × (i ≤ 5) × FlagSet bits m × Bad x
+    failed i m x l r q f = let z = bad (has (w .bits) m) x f in (l, r, sym q ∙ eqb-true _ 1 (z .0), z .1)
+
+    held : {A B : Type 0} (m : ℕ) (x : List ℕ) → bits % 32 / m % 2 ≡ bits / m % 2 → ok (has (w .bits) m, x) ≡ Held → A × B × FlagSet bits m × Bad x → ⊥
+    held m x q h y = good (has (w .bits) m) x h (eq-eqb _ 1 (q ∙ y .2)) (y .3)
+
+    names-linked : LinksBy (λ n i. (k ≤ i) × (i ≤ 5) × FlagSet bits (maskOf i) × Bad (stringOf a b c d e i)) 0 ok 3 (names w c d e)
+    names-linked = (
+      refl,
+      failed 3 0x4 c k3 (omega arith) (bit4 bits),
+      held 0x4 c (bit4 bits),
+      (
+        refl,
+        failed 4 0x8 d (omega arith) (omega arith) (bit8 bits),
+        held 0x8 d (bit8 bits),
+        (refl, failed 5 0x10 e (omega arith) (omega arith) (bit16 bits), held 0x10 e (bit16 bits), tt),
+      ),
+    )
+
   zeros-judged : FreeBy (placeIn order) F 34 0 → JudgedBy (placeIn order) F 50 (checkZeros w a b c d e)
   unfolding checkZeros
   zeros-judged free =
       over-judged-by (placeIn order) F 34 50 noZero ZeroInString refl (only-in order 34 (omega arith)) (λ j. (refl, refl))
-      ((1, (nbDomain w, a)) ∷ (2, (nbComputer w, b)) ∷ (3, (dnsDomain w, c)) ∷ (4, (dnsHost w, d)) ∷ (5, (utf8Computer w, e)) ∷ []) 1 (
+      ((1, (nbDomain w, a)) ∷ (2, (nbComputer w, b)) ∷ names w c d e) 1 (
         refl,
-        failed 1 0x1 a (omega arith) (omega arith) (bit1 bits),
-        held 0x1 a (bit1 bits),
+        failed noZero HoldsZero 1 (omega arith) zero-failed zero-held 1 0x1 a (omega arith) (omega arith) (bit1 bits),
+        held noZero HoldsZero 1 (omega arith) zero-failed zero-held 0x1 a (bit1 bits),
         (
           refl,
-          failed 2 0x2 b (omega arith) (omega arith) (bit2 bits),
-          held 0x2 b (bit2 bits),
-          (
-            refl,
-            failed 3 0x4 c (omega arith) (omega arith) (bit4 bits),
-            held 0x4 c (bit4 bits),
-            (
-              refl,
-              failed 4 0x8 d (omega arith) (omega arith) (bit8 bits),
-              held 0x8 d (bit8 bits),
-              (refl, failed 5 0x10 e (omega arith) (omega arith) (bit16 bits), held 0x10 e (bit16 bits), tt),
-            ),
-          ),
+          failed noZero HoldsZero 1 (omega arith) zero-failed zero-held 2 0x2 b (omega arith) (omega arith) (bit2 bits),
+          held noZero HoldsZero 1 (omega arith) zero-failed zero-held 0x2 b (bit2 bits),
+          names-linked noZero HoldsZero 1 (omega arith) zero-failed zero-held,
         ),
       )
       (skip-by (placeIn order) F 34 1 free (λ j l h. omega (arith, l, h .0)))
       (λ j l h. omega (arith, l, h .1))
-    where
-      failed : (i m : ℕ) (x : List ℕ) → 1 ≤ i → i ≤ 5 → bits % 32 / m % 2 ≡ bits / m % 2 → noZero (has (w .bits) m, x) ≡ Failed →
-          (1 ≤ i) × (i ≤ 5) × FlagSet bits m × HoldsZero x
-      failed i m x l r q f = let z = zero-failed (has (w .bits) m) x f in (l, r, sym q ∙ eqb-true _ 1 (z .0), z .1)
 
-      held : {A B : Type 0} (m : ℕ) (x : List ℕ) → bits % 32 / m % 2 ≡ bits / m % 2 → noZero (has (w .bits) m, x) ≡ Held →
-          A × B × FlagSet bits m × HoldsZero x → ⊥
-      held m x q h y = zero-held (has (w .bits) m) x h (eq-eqb _ 1 (q ∙ y .2)) (y .3)
-
-  -- checks 50 and 53
   labels-judged : FreeBy (placeIn order) F 50 0 → JudgedBy (placeIn order) F 53 (checkLabels w c d e)
   unfolding checkLabels
   labels-judged free =
       over-judged-by (placeIn order) F 50 53 labelsUnder WrongLabel refl (only-in order 50 (omega arith)) (λ j. (refl, refl))
-      (names w c d e) 3 (
-        refl,
-        failed 3 0x4 c (omega arith) (omega arith) (bit4 bits),
-        held 0x4 c (bit4 bits),
-        (
-          refl,
-          failed 4 0x8 d (omega arith) (omega arith) (bit8 bits),
-          held 0x8 d (bit8 bits),
-          (refl, failed 5 0x10 e (omega arith) (omega arith) (bit16 bits), held 0x10 e (bit16 bits), tt),
-        ),
-      )
+      (names w c d e) 3 (names-linked labelsUnder LabelsFail 3 (omega arith) labels-failed labels-held)
       (skip-by (placeIn order) F 50 3 free (λ j l h. omega (arith, l, h .0)))
       (λ j l h. omega (arith, l, h .1))
-    where
-      failed : (i m : ℕ) (x : List ℕ) → 3 ≤ i → i ≤ 5 → bits % 32 / m % 2 ≡ bits / m % 2 → labelsUnder (has (w .bits) m, x) ≡ Failed →
-          (3 ≤ i) × (i ≤ 5) × FlagSet bits m × LabelsFail x
-      failed i m x l r q f = let z = labels-failed (has (w .bits) m) x f in (l, r, sym q ∙ eqb-true _ 1 (z .0), z .1)
-
-      held : {A B : Type 0} (m : ℕ) (x : List ℕ) → bits % 32 / m % 2 ≡ bits / m % 2 → labelsUnder (has (w .bits) m, x) ≡ Held →
-          A × B × FlagSet bits m × LabelsFail x → ⊥
-      held m x q h y = labels-held (has (w .bits) m) x h (eq-eqb _ 1 (q ∙ y .2)) (y .3)
 
   coded-judged : FreeBy (placeIn order) F 53 0 → JudgedBy (placeIn order) F 30 (checkCoded w c d e)
   unfolding checkCoded
   coded-judged free =
       over-judged-by (placeIn order) F 53 30 codedUnder NameTooLong refl (only-in order 53 (omega arith)) (λ j. (refl, refl))
-      (names w c d e) 3 (
-        refl,
-        failed 3 0x4 c (omega arith) (omega arith) (bit4 bits),
-        held 0x4 c (bit4 bits),
-        (
-          refl,
-          failed 4 0x8 d (omega arith) (omega arith) (bit8 bits),
-          held 0x8 d (bit8 bits),
-          (refl, failed 5 0x10 e (omega arith) (omega arith) (bit16 bits), held 0x10 e (bit16 bits), tt),
-        ),
-      )
+      (names w c d e) 3 (names-linked codedUnder (λ x. 255 < codedSize x) 3 (omega arith) coded-failed coded-held)
       (skip-by (placeIn order) F 53 3 free (λ j l h. omega (arith, l, h .0)))
       (λ j l h. omega (arith, l, h .1))
-    where
-      failed : (i m : ℕ) (x : List ℕ) → 3 ≤ i → i ≤ 5 → bits % 32 / m % 2 ≡ bits / m % 2 → codedUnder (has (w .bits) m, x) ≡ Failed →
-          (3 ≤ i) × (i ≤ 5) × FlagSet bits m × (255 < codedSize x)
-      failed i m x l r q f = let z = coded-failed (has (w .bits) m) x f in (l, r, sym q ∙ eqb-true _ 1 (z .0), z .1)
-
-      held : {A B : Type 0} (m : ℕ) (x : List ℕ) → bits % 32 / m % 2 ≡ bits / m % 2 → codedUnder (has (w .bits) m, x) ≡ Held →
-          A × B × FlagSet bits m × (255 < codedSize x) → ⊥
-      held m x q h y = coded-held (has (w .bits) m) x h (eq-eqb _ 1 (q ∙ y .2)) (y .3)
 
   names-judged : FreeBy (placeIn order) F 50 0 → JudgedBy (placeIn order) F 30 (checkNames w c d e)
   unfolding checkNames

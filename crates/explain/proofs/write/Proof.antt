@@ -9,9 +9,10 @@ pub write-spec : {M : Type 1} → statement M
 write-spec =
     tie.close
     (tie.spec
-    (λ c κs. search needs) (λ c. search needs) (λ c. search needs) (λ c κs. search needs) (λ c κs. search needs)
-    (λ c. search needs) (λ c. search needs) (λ c κs. search needs) (λ c κs. search needs) (λ c. search needs)
-    (λ c. search needs) (λ c κs. search needs) (λ c κs. search needs) (λ c. search needs)
-    (λ c. (search (same-line, chosen), search (same-line, chosen))) (λ c. search needs)
-    (λ c. (search (same-line, chosen), search (same-line, chosen))) (λ c. search needs)
-    (λ c. (search (same-line, chosen), search (same-line, chosen))))
+    (λ c κs. search needs) (λ c κs. search needs)
+    (λ c. search needs) (λ c. search needs) (λ c κs. search needs)
+    (λ c. search needs) (λ c. search needs) (λ c κs. search needs)
+    (λ c. search needs) (λ c. search needs) (λ c κs. search needs)
+    (λ c. search needs) (λ c. (search (same-line, chosen), search (same-line, chosen)))
+    (λ c. search needs) (λ c. (search (same-line, chosen), search (same-line, chosen)))
+    (λ c. search needs) (λ c. (search (same-line, chosen), search (same-line, chosen))))

@@ -1,7 +1,6 @@
 -- `put_utf8_string` writes a string's word, or nothing where its bit is clear.
 use borrow.Author.Needs.{needs}
 use Rattle.word.proofs.Labels.{string-room, choice}
-use Rattle.line_nl.proofs.Laws.{said}
 use Rattle.word.specs.Words.{stringWord}
 use Rattle.place.proofs.Laws.{nothing}
 use Rattle.line_nl.proofs.put_utf8_string.Statement.{statement}
@@ -12,5 +11,4 @@ unfolding stringWord
 put-utf8-string-spec =
     tie.close
     (tie.spec
-    (λ c κs. search needs) (λ c κs. search (string-room, said)) (λ c. search needs) (λ c. search (choice, said))
-    (λ c. search (choice, nothing, said)))
+    (λ c κs. search string-room) (λ c. search needs) (λ c. search choice) (λ c. search (choice, nothing)))

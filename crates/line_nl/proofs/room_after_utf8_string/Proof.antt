@@ -2,7 +2,6 @@
 use borrow.Author.Needs.{needs}
 use Rattle.word.proofs.Labels.{string-leaves, string-none}
 use Rattle.word.proofs.Rooms.{leaves}
-use Rattle.line_nl.proofs.Laws.{said}
 use Rattle.line_nl.proofs.room_after_utf8_string.Statement.{statement}
 use Rattle.line_nl.proofs.room_after_utf8_string.Tie as tie
 
@@ -10,4 +9,4 @@ pub room-after-utf8-string-spec : {M : Type 1} → statement M
 room-after-utf8-string-spec =
     tie.close
     (tie.spec
-    (λ c κs. search needs) (λ c κs. search needs) (λ c κs. search needs) (λ c. search (string-leaves, leaves, said)) (λ c. search (string-none, said)))
+    (λ c κs. search needs) (λ c κs. search needs) (λ c. search (string-leaves, leaves)) (λ c. search string-none))

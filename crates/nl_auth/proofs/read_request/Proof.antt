@@ -11,7 +11,10 @@ unfolding readRequest
 read-request-spec =
     tie.close
     (tie.spec
-    (λ c κs. search needs) (λ c. search needs) (λ c. search needs) (λ c. search request depth 8 fits 20000)
-    (λ c κs. search needs) (λ c. search needs) (λ c. search needs) (λ c. search request depth 8 fits 20000)
-    (λ c κs. (search needs, search inside depth 12 fits 20000, search needs)) (λ c. search needs) (λ c. search needs) (λ c. search request depth 8 fits 20000)
-    (λ c κs. (search onward depth 12 fits 20000, (search onward depth 12 fits 20000, search needs))) (λ c. search request depth 8 fits 20000))
+    (λ c κs. search needs) (λ c. search needs) (λ c. search needs) (λ c. search request depth 9 fits 20000)
+    (λ c κs. search needs) (λ c κs. search needs) (λ c. search needs) (λ c. search needs)
+    (λ c. search request depth 9 fits 20000) (λ c κs. search needs)
+    (λ c κs. (search inside depth 12 fits 20000, search needs)) (λ c. search needs) (λ c. search needs)
+    (λ c. search request depth 9 fits 20000)
+    (λ c κs. (search onward depth 12 fits 20000, (search onward depth 12 fits 20000, search needs)))
+    (λ c. search request depth 9 fits 20000))

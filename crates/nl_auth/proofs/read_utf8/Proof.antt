@@ -11,11 +11,11 @@ unfolding readUtf8
 read-utf8-spec =
     tie.close
     (tie.spec
-    (λ c κs. search needs) (λ c. search needs) (λ c. search needs) (λ c κs. search needs)
-    (λ c. search names depth 8 fits 20000)
-    (λ c κs. (search needs, (search past-name depth 12 fits 20000, (search past-name depth 12 fits 20000, search needs))))
-    (λ c. search needs) (λ c. search needs) (λ c κs. search needs) (λ c. search names depth 8 fits 20000)
-    (λ c κs. (search needs, (search past-name depth 12 fits 20000, (search past-name depth 12 fits 20000, search needs))))
-    (λ c. search needs) (λ c. search needs) (λ c κs. search needs) (λ c. search names depth 8 fits 20000)
-    (λ c κs. search needs) (λ c. search needs) (λ c. search needs) (λ c. search names depth 8 fits 20000)
-    (λ c. search names depth 8 fits 20000))
+    (λ c κs. search needs) (λ c κs. search needs) (λ c. search needs) (λ c. search needs) (λ c κs. search needs)
+    (λ c. search names depth 9 fits 20000) (λ c κs. search needs)
+    (λ c κs. (search past-name depth 12 fits 20000, (search past-name depth 12 fits 20000, search needs)))
+    (λ c. search needs) (λ c. search needs) (λ c κs. search needs) (λ c. search names depth 9 fits 20000)
+    (λ c κs. search needs) (λ c κs. (search past-name depth 12 fits 20000, (search past-name depth 12 fits 20000, search needs)))
+    (λ c. search needs) (λ c. search needs) (λ c κs. search needs) (λ c. search names depth 9 fits 20000)
+    (λ c κs. search needs) (λ c. search needs) (λ c. search needs) (λ c. search names depth 9 fits 20000)
+    (λ c. search names depth 9 fits 20000))

@@ -2,6 +2,7 @@
 use borrow.Author.Needs.{needs}
 use Rattle.wire.proofs.Laws.{branches}
 use Rattle.word.proofs.Calls.{same-line}
+use Rattle.nl_auth_text.proofs.Laws.{both}
 use Rattle.nl_auth_text.specs.StringText.{stringText}
 use Rattle.nl_auth_text.proofs.write_numbered.Statement.{statement}
 use Rattle.nl_auth_text.proofs.write_numbered.Tie as tie
@@ -12,6 +13,6 @@ write-numbered-spec =
     tie.close
     (tie.spec
     (λ c κs. search needs) (λ c κs. search needs) (λ c. search needs)
-    (λ c. (search (same-line, branches), search (same-line, branches))) (λ c κs. search needs) (λ c κs. search needs)
-    (λ c. search needs) (λ c. (search (same-line, branches), search (same-line, branches))) (λ c κs. search needs)
-    (λ c. search needs) (λ c. (search (same-line, branches), search (same-line, branches))))
+    (λ c. (search (same-line, branches, both), search (same-line, branches, both))) (λ c κs. search needs) (λ c κs. search needs)
+    (λ c. search needs) (λ c. (search (same-line, branches, both), search (same-line, branches, both))) (λ c κs. search needs)
+    (λ c. search needs) (λ c. (search (same-line, branches, both), search (same-line, branches, both))))

@@ -2,7 +2,7 @@
 use borrow.Author.Needs.{needs}
 use Rattle.wire.proofs.Laws.{branches}
 use Rattle.word.proofs.Calls.{same-line}
-use Rattle.nl_auth_text.proofs.Laws.{none-answer, none-after}
+use Rattle.nl_auth_text.proofs.Laws.{both, none-answer, none-after}
 use Rattle.nl_auth_text.specs.StringText.{utf8Numbered}
 use Rattle.nl_auth_text.proofs.write_utf8_numbered.Statement.{statement}
 use Rattle.nl_auth_text.proofs.write_utf8_numbered.Tie as tie
@@ -13,7 +13,7 @@ write-utf8-numbered-spec =
     tie.close
     (tie.spec
     (λ c κs. search needs) (λ c κs. search needs) (λ c. search needs)
-    (λ c. (search (same-line, branches), search (same-line, branches))) (λ c κs. search needs) (λ c κs. search needs)
-    (λ c. search needs) (λ c. (search (same-line, branches), search (same-line, branches))) (λ c κs. search needs)
-    (λ c κs. search needs) (λ c. search needs) (λ c. (search (same-line, branches), search (same-line, branches)))
-    (λ c. (search (none-answer, branches) depth 8 fits 20000, search (none-after, branches) depth 8 fits 20000)))
+    (λ c. (search (same-line, branches, both), search (same-line, branches, both))) (λ c κs. search needs) (λ c κs. search needs)
+    (λ c. search needs) (λ c. (search (same-line, branches, both), search (same-line, branches, both))) (λ c κs. search needs)
+    (λ c κs. search needs) (λ c. search needs) (λ c. (search (same-line, branches, both), search (same-line, branches, both)))
+    (λ c. (search (none-answer, branches, both) depth 8 fits 20000, search (none-after, branches, both) depth 8 fits 20000)))

@@ -1,5 +1,6 @@
 -- `check_labels` is check 50, C first.
 use borrow.Author.Needs.{needs}
+use Rattle.nl_auth_writing.proofs.Sent.{asked-labels}
 use Rattle.wire.proofs.Laws.{chain}
 use Rattle.nl_auth_writing.specs.Writing.{checkLabels}
 use Rattle.nl_auth_writing.proofs.check_labels.Statement.{statement}
@@ -10,7 +11,10 @@ unfolding checkLabels
 check-labels-spec =
     tie.close
     (tie.spec
-    (λ c κs. search needs) (λ c. search needs) (λ c. search needs) (λ c. search chain depth 8 fits 20000)
-    (λ c κs. search needs) (λ c. search needs) (λ c. search needs) (λ c. search chain depth 8 fits 20000)
-    (λ c κs. search needs) (λ c. search needs) (λ c. search needs) (λ c. search chain depth 8 fits 20000)
-    (λ c. search chain depth 8 fits 20000))
+    (λ c κs. search needs) (λ c κs. search needs) (λ c. search needs) (λ c. search needs)
+    (λ c. search (chain, asked-labels) depth 9 fits 20000)
+    (λ c κs. search needs) (λ c κs. search needs) (λ c. search needs) (λ c. search needs)
+    (λ c. search (chain, asked-labels) depth 9 fits 20000)
+    (λ c κs. search needs) (λ c κs. search needs) (λ c. search needs) (λ c. search needs)
+    (λ c. search (chain, asked-labels) depth 9 fits 20000)
+    (λ c. search (chain, asked-labels) depth 9 fits 20000))

@@ -2,17 +2,17 @@
 use borrow.Author.Needs.{needs}
 use Rattle.nl_auth_writing.proofs.check_zeros.Statement.{statement}
 use Rattle.nl_auth_writing.proofs.check_zeros.Tie as tie
-use Rattle.nl_auth_writing.specs.Writing.{checkZeros}
+use Rattle.nl_auth_writing.specs.Writing.{checkNameZeros, checkZeros}
+use Rattle.nl_auth_writing.proofs.Sent.{asked-zero}
 use Rattle.wire.proofs.Laws.{chain}
 
 pub check-zeros-spec : {M : Type 1} → statement M
-unfolding checkZeros
+unfolding checkZeros checkNameZeros
 check-zeros-spec =
     tie.close
     (tie.spec
-    (λ c κs. search needs) (λ c. search needs) (λ c. search needs) (λ c. search chain depth 8 fits 20000)
-    (λ c κs. search needs) (λ c. search needs) (λ c. search needs) (λ c. search chain depth 8 fits 20000)
-    (λ c κs. search needs) (λ c. search needs) (λ c. search needs) (λ c. search chain depth 8 fits 20000)
-    (λ c κs. search needs) (λ c. search needs) (λ c. search needs) (λ c. search chain depth 8 fits 20000)
-    (λ c κs. search needs) (λ c. search needs) (λ c. search needs) (λ c. search chain depth 8 fits 20000)
-    (λ c. search chain depth 8 fits 20000))
+    (λ c κs. search needs) (λ c κs. search needs) (λ c. search needs) (λ c. search needs)
+    (λ c. search (chain, asked-zero) depth 9 fits 20000)
+    (λ c κs. search needs) (λ c κs. search needs) (λ c. search needs) (λ c. search needs)
+    (λ c. search (chain, asked-zero) depth 9 fits 20000)
+    (λ c κs. search needs) (λ c. search (chain, asked-zero) depth 9 fits 20000))

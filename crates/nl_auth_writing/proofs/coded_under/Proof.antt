@@ -8,4 +8,4 @@ pub coded-under-spec : {M : Type 1} → statement M
 coded-under-spec =
     tie.close
     (tie.spec
-    (λ c κs. search needs) (λ c κs. search needs) (λ c. search set-coded) (λ c. search clear-coded))
+    (λ c κs. search needs) (λ c. search set-coded) (λ c. search clear-coded))

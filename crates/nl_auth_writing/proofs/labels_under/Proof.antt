@@ -8,4 +8,4 @@ pub labels-under-spec : {M : Type 1} → statement M
 labels-under-spec =
     tie.close
     (tie.spec
-    (λ c κs. search needs) (λ c κs. search needs) (λ c. search set-labels) (λ c. search clear-labels))
+    (λ c κs. search needs) (λ c. search set-labels) (λ c. search clear-labels))

@@ -8,5 +8,4 @@ pub no-zero-spec : {M : Type 1} → statement M
 no-zero-spec =
     tie.close
     (tie.spec
-    (λ c κs. search needs) (λ c κs. search needs) (λ c κs. search needs) (λ c. search set-zero)
-    (λ c. search clear-zero))
+    (λ c κs. search needs) (λ c κs. search needs) (λ c. search set-zero) (λ c. search clear-zero))

@@ -9,6 +9,6 @@ pub put-name-under-spec : {M : Type 1} → statement M
 put-name-under-spec =
     tie.close
     (tie.spec
-    (λ c κs. search needs) (λ c. search needs) (λ c. search needs) (λ c. search needs)
+    (λ c. search needs) (λ c. search needs) (λ c. search needs)
     (λ c κs. (search set-held, search set-name-room)) (λ c. search set-name-fits) (λ c. search needs)
     (λ c. search (set-name-wrote, in-part)) (λ c. search clear-name-wrote))

@@ -9,5 +9,5 @@ pub put-under-spec : {M : Type 1} → statement M
 put-under-spec =
     tie.close
     (tie.spec
-    (λ c κs. search needs) (λ c. search needs) (λ c. search needs) (λ c. search needs) (λ c κs. search set-room)
+    (λ c. search needs) (λ c. search needs) (λ c. search needs) (λ c κs. search set-room)
     (λ c. search needs) (λ c. search needs) (λ c. search (set-wrote, in-part)) (λ c. search clear-wrote))

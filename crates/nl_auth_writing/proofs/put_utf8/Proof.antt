@@ -2,14 +2,13 @@
 use borrow.Author.Needs.{needs}
 use Rattle.nl_auth_writing.proofs.put_utf8.Statement.{statement}
 use Rattle.nl_auth_writing.proofs.put_utf8.Tie as tie
-use Rattle.nl_auth_writing.specs.Writing.{utf8Bytes}
-use Rattle.nl_auth_writing.proofs.Sent.{labels-c, labels-d, labels-e}
-use Rattle.place.proofs.Laws.{and-then}
+use Rattle.nl_auth_writing.proofs.Sent.{labels-c, labels-d, labels-e, asked-held, names-wrote, room-c, room-d, room-e}
 
 pub put-utf8-spec : {M : Type 1} → statement M
-unfolding utf8Bytes
 put-utf8-spec =
     tie.close
     (tie.spec
-    (λ c κs. (search needs, search labels-c, search needs)) (λ c κs. (search needs, search labels-d, search needs))
-    (λ c κs. (search needs, search labels-e, search needs)) (λ c. search needs) (λ c. search and-then))
+    (λ c κs. search needs) (λ c κs. (search (labels-c, asked-held), search room-c))
+    (λ c κs. search needs) (λ c κs. (search (labels-d, asked-held), search room-d))
+    (λ c κs. search needs) (λ c κs. (search (labels-e, asked-held), search room-e)) (λ c. search needs)
+    (λ c. search names-wrote depth 7 fits 20000))

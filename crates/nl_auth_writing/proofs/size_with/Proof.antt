@@ -8,5 +8,4 @@ pub size-with-spec : {M : Type 1} → statement M
 size-with-spec =
     tie.close
     (tie.spec
-    (λ c κs. search needs) (λ c κs. search needs) (λ c κs. search needs) (λ c. search set-size)
-    (λ c. search clear-size))
+    (λ c κs. search needs) (λ c κs. search needs) (λ c. search set-size) (λ c. search clear-size))

@@ -8,5 +8,4 @@ pub size-with-name-spec : {M : Type 1} → statement M
 size-with-name-spec =
     tie.close
     (tie.spec
-    (λ c κs. search needs) (λ c κs. search needs) (λ c κs. search needs) (λ c. search set-name-size)
-    (λ c. search clear-name-size))
+    (λ c κs. search needs) (λ c κs. search needs) (λ c. search set-name-size) (λ c. search clear-name-size))

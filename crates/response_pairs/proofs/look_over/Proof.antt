@@ -1,6 +1,9 @@
 -- `look_over` adds up the sizes of the pairs that it passes, and keeps in mind which it has seen.
 use Prim.Native.Nat.{_-_}
-use Rattle.av_pairs.proofs.Walks.{there-fits, there-falls}
+use Rattle.av_pairs.proofs.Walks.{clear-all, there-clear, there-fits, there-falls}
+use Rattle.av_pairs.specs.AvPairs.{stopAt}
+use Rattle.wire.specs.declared.check.Verdict.the-variants.{Clear}
+use mathlib.Core.Path.{_≡_}
 use Rattle.response_pairs.proofs.Copying.{Seeing, see-none, see-few, see-one, see-size, see-timestamp, see-flags}
 use Rattle.response_pairs.proofs.look_over.Statement.{statement}
 use Rattle.response_pairs.proofs.look_over.Tie as tie
@@ -8,7 +11,7 @@ use borrow.Author.Needs.{needs}
 use lib.ListN.{length}
 
 abbrev Inv-loop : tie.InvT-loop
-Inv-loop list at₀ size₀ timestamp₀ flags₀ at size timestamp flags = Seeing list at size timestamp flags
+Inv-loop list at₀ size₀ timestamp₀ flags₀ at size timestamp flags = Seeing list at size timestamp flags × (stopAt list at ≡ Clear)
 
 abbrev μ-loop : tie.MeasureT-loop
 μ-loop list at₀ size₀ timestamp₀ flags₀ at size timestamp flags = length list - at
@@ -19,7 +22,7 @@ look-over-spec =
     (tie.spec
     Inv-loop
     μ-loop
-    (λ c. see-none _)
+    (λ c. (see-none _, search clear-all))
     (λ c κs. search needs)
     (λ c. search needs)
     (λ c. search needs)
@@ -30,5 +33,5 @@ look-over-spec =
     (λ c. search needs)
     (λ c. search there-fits)
     (λ c. search there-falls)
-    (λ c. search see-one depth 8 fits 5000)
+    (λ c. (search see-one depth 8 fits 5000, search there-clear))
     (λ c. (search see-size, (search see-timestamp, search see-flags))))

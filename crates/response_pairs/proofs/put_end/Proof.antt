@@ -1,5 +1,4 @@
--- `put_end` writes four zero bytes.
-use Rattle.response_pairs.proofs.Sent.{end-is}
+-- `put_end` writes a pair without a value.
 use Rattle.response_pairs.proofs.put_end.Statement.{statement}
 use Rattle.response_pairs.proofs.put_end.Tie as tie
 use borrow.Author.Needs.{needs}
@@ -8,6 +7,7 @@ pub put-end-spec : {M : Type 1} → statement M
 put-end-spec =
     tie.close
     (tie.spec
+    (λ c. search needs)
     (λ c κs. search needs)
     (λ c. search needs)
-    (λ c. search end-is))
+    (λ c. search needs))

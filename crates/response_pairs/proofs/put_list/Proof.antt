@@ -11,7 +11,7 @@ put-list-spec =
     (λ c κs. search empty-room)
     (λ c. search needs)
     (λ c. search empty-is)
-    (λ c κs. search kept-room)
+    (λ c κs. (search needs, search kept-room))
     (λ c κs. (search name-short, search bind-short, search added-room))
     (λ c. search needs)
     (λ c. search parts-are depth 8 fits 5000))

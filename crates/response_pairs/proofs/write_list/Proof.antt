@@ -14,6 +14,6 @@ write-list-spec =
     (λ c. search needs)
     (λ c κs. search needs)
     (λ c. (search list-refused, search list-untouched))
-    (λ c κs. (search needs, search list-short, search list-room))
+    (λ c κs. (search needs, search needs, search list-short, search list-room))
     (λ c. search needs)
     (λ c. (search list-written, search list-stored)))

@@ -1,6 +1,6 @@
--- `pair_at` hands on a pair, and nothing at the end or a fault.
+-- `pair_at` reads a head that is there, and answers as with the checks, which hold.
 use borrow.Author.Needs.{needs}
-use Rattle.av_pairs.proofs.Walks.{giving}
+use Rattle.av_pairs.proofs.Walks.{held-head, held-gives}
 use Rattle.target_info.proofs.pair_at.Statement.{statement}
 use Rattle.target_info.proofs.pair_at.Tie as tie
 
@@ -8,5 +8,5 @@ pub pair-at-spec : {M : Type 1} → statement M
 pair-at-spec =
     tie.close
     (tie.spec
-    (λ c κs. search needs) (λ c. search needs) (λ c. search needs) (λ c. search needs) (λ c. search giving)
-    (λ c. search giving) (λ c. search giving))
+    (λ c. search held-gives) (λ c κs. search held-head) (λ c κs. search needs) (λ c. search held-gives) (λ c. search held-head)
+    (λ c. search held-head) (λ c κs. search held-head) (λ c. search held-gives))

@@ -285,6 +285,22 @@ fn a_field_that_does_not_fit_and_is_copied_as_empty_is_found() {
 }
 
 #[test]
+fn an_empty_field_that_is_refused_past_the_end_is_found() {
+    found(
+        "DIFFERENT",
+        "field_bytes",
+        planted(|call, answer, _, _| match call {
+            Call::FieldBytes {
+                message,
+                offset,
+                len: 0,
+            } if *offset as usize > message.len() => refused(6, 0),
+            _ => answer,
+        }),
+    );
+}
+
+#[test]
 fn a_copy_whose_room_is_looked_at_first_is_found() {
     found(
         "DIFFERENT",

@@ -9,5 +9,5 @@ name-at-spec =
     tie.close
     (tie.spec
     (λ c. search needs) (λ c. search needs) (λ c. search needs) (λ c. search needs) (λ c κs. search needs)
-    (λ c. search needs) (λ c. search named) (λ c. search needs) (λ c. search named) (λ c. search named)
-    (λ c. search named) (λ c. search needs) (λ c κs. search needs) (λ c. search named) (λ c. search named))
+    (λ c. search needs) (λ c. search needs) (λ c κs. search needs) (λ c. search named) (λ c. search named)
+    (λ c. search needs) (λ c. search named) (λ c. search named) (λ c. search named) (λ c. search named))

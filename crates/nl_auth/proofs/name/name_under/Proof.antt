@@ -8,4 +8,4 @@ pub name-under-spec : {M : Type 1} → statement M
 name-under-spec =
     tie.close
     (tie.spec
-    (λ c κs. search needs) (λ c κs. search needs) (λ c. search under) (λ c. search under))
+    (λ c κs. search needs) (λ c. search under) (λ c. search under))

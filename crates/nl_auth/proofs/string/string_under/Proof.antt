@@ -8,4 +8,4 @@ pub string-under-spec : {M : Type 1} → statement M
 string-under-spec =
     tie.close
     (tie.spec
-    (λ c κs. search needs) (λ c κs. search needs) (λ c. search scanned) (λ c. search scanned))
+    (λ c κs. search needs) (λ c. search scanned) (λ c. search scanned))

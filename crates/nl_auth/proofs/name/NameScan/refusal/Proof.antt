@@ -1,7 +1,6 @@
--- `NameScan::refusal` is the refusal of a string that was refused.
+-- `NameScan::refusal` is the refusal of a string that was refused, or 1.
 use borrow.Author.Needs.{needs}
-use mathlib.Core.Logic.{inl, inr}
-use Rattle.nl_auth.proofs.Names.{is-found}
+use Rattle.nl_auth.proofs.Names.{scan-refused, scan-found}
 use Rattle.nl_auth.proofs.name.NameScan.refusal.Statement.{statement}
 use Rattle.nl_auth.proofs.name.NameScan.refusal.Tie as tie
 
@@ -9,4 +8,4 @@ pub refusal-spec : {M : Type 1} → statement M
 refusal-spec =
     tie.close
     (tie.spec
-    (λ c. search needs) (λ c. search needs) (λ c. inl (search needs)) (λ c. inr (search is-found)))
+    (λ c. search needs) (λ c. search needs) (λ c. search scan-refused) (λ c. search scan-found))
