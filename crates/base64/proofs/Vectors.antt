@@ -4,7 +4,7 @@ use mathlib.Core.Bool.{Bool, true, false, not, _&&_}
 use mathlib.Core.List.{List, [], _∷_}
 use Prim.Native.Nat.{ℕ}
 use lib.Dec.{eqb}
-use Rattle.text.specs.Text.{ascii}
+use Rattle.wire.specs.Text.{ascii}
 use Rattle.base64.specs.Base64.{alphabet, three, two, one, encode, isLetter, valueOf, groupHolds, isBase64, groupBytes, decode}
 
 abbrev same : List ℕ → List ℕ → Bool

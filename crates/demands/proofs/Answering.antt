@@ -16,7 +16,7 @@ use Rattle.demands.proofs.Order.{on-row}
 use Rattle.place.specs.declared.written.Written.{Written}
 use Rattle.place.specs.declared.written.Written.the-variants.{Length, Refused as Unwritten}
 use Rattle.head.specs.Head.{flagsAt}
-use Rattle.authenticate_writing.specs.Writing.{writeAnswer, writeOut}
+use Rattle.write_authenticate.specs.Writing.{writeAnswer, writeOut}
 use Rattle.respond.specs.declared.answer.Answer.{Answer}
 use Rattle.respond.specs.declared.answer.Answered.{Answered}
 use Rattle.respond.specs.declared.answer.Answered.the-variants.{Sent, Refused as Unanswered}

@@ -24,12 +24,12 @@ use Rattle.place.specs.declared.written.Written.the-variants.{Length, Refused}
 use Rattle.place.specs.Place.{le16, le32}
 use Rattle.place.specs.Written.{roomHolds, answered, bytesHold, bytesAnswer}
 use Rattle.av_pairs.specs.AvPairs.{checkPairs}
-use Rattle.authenticate_writing.specs.Writing.{authenticateBytes, checkToWrite, writeAnswer}
-use Rattle.authenticate_writing.proofs.Sent.{length-message}
-use Rattle.negotiate_writing.specs.Writing.{negotiateBytes, checkToWrite as negotiateChecks, writeAnswer as negotiateAnswer}
-use Rattle.negotiate_writing.proofs.Sent.{length-message as negotiate-length}
+use Rattle.write_authenticate.specs.Writing.{authenticateBytes, checkToWrite, writeAnswer}
+use Rattle.write_authenticate.proofs.Sent.{length-message}
+use Rattle.write_negotiate.specs.Writing.{negotiateBytes, checkToWrite as negotiateChecks, writeAnswer as negotiateAnswer}
+use Rattle.write_negotiate.proofs.Sent.{length-message as negotiate-length}
 use Rattle.nl_auth_flags.specs.Flags.{known}
-use Rattle.nl_auth_writing.specs.Writing.{headBytes, requestBytes, responseBytes, checkRequest, requestAnswer, responseAnswer}
+use Rattle.write_nl_auth.specs.Writing.{headBytes, requestBytes, responseBytes, checkRequest, requestAnswer, responseAnswer}
 use Rattle.respond.specs.declared.answer.Answer.{Answer}
 use Rattle.respond.specs.declared.answer.Answered.{Answered}
 use Rattle.respond.specs.declared.answer.Answered.the-variants.{Sent, Refused as Unanswered}

@@ -13,15 +13,15 @@ use Rattle.wire.specs.declared.refusal.Refusal.{Refusal}
 use Rattle.field.specs.declared.Field.{Field}
 use Rattle.field.specs.Field.{fieldBytes}
 use Rattle.place.specs.declared.written.Written.the-variants.{Length, Refused as Unwritten}
-use Rattle.authenticate.specs.declared.Authenticate.{Authenticate}
-use Rattle.authenticate.specs.declared.Fields.{Fields}
-use Rattle.authenticate.specs.declared.Reading.{Reading}
-use Rattle.authenticate.specs.declared.Reading.the-variants.{Taken, Refused}
-use Rattle.authenticate.specs.Authenticate.{readAuthenticate}
-use Rattle.authenticate_writing.specs.Writing.{authenticateBytes, checkToWrite, writeAnswer, writeOut}
-use Rattle.authenticate_writing.proofs.Sent.{length-message, length-payload}
+use Rattle.read_authenticate.specs.declared.Authenticate.{Authenticate}
+use Rattle.read_authenticate.specs.declared.Fields.{Fields}
+use Rattle.read_authenticate.specs.declared.Reading.{Reading}
+use Rattle.read_authenticate.specs.declared.Reading.the-variants.{Taken, Refused}
+use Rattle.read_authenticate.specs.Authenticate.{readAuthenticate}
+use Rattle.write_authenticate.specs.Writing.{authenticateBytes, checkToWrite, writeAnswer, writeOut}
+use Rattle.write_authenticate.proofs.Sent.{length-message, length-payload}
 use Rattle.c_number.specs.Number.{writtenNumber}
-use Rattle.canonical.specs.Canonical.{Meaning, meaningOf, zeroVersion, meaningAnswer, meaningOut, onMeaning, canonicalAnswer, canonicalOut}
+use Rattle.write_canonical.specs.Canonical.{Meaning, meaningOf, zeroVersion, meaningAnswer, meaningOut, onMeaning, canonicalAnswer, canonicalOut}
 use Rattle.demands.specs.Canonical.{Means, MeaningIsThere, OneMeaning, WrittenAs, OneWriting, WrittenAgain, MeaningBack, WrittenByLayout, CanonicalKept, SameCanonical, CanonicalByMeaning, CanonicalIgnored, SecretsWritten, CanonicalSecret, CanonicalShort, CanonicalTells}
 use Rattle.demands.specs.Answers.{TellsWritten, write-authenticate}
 use Rattle.demands.specs.Ignored.{SameFields, SameAnswer}

@@ -9,8 +9,8 @@ use lib.Dec.{ltb}
 use lib.ListN.{length, getD, List·getD-append}
 use lib.Seq.{getD-at}
 use borrow.Author.Tests.{ltb-true, ltb-false}
-use Rattle.word.specs.Digits.{hexDigit, digits, hex, decimalSize, decimal}
-use Rattle.word.proofs.Numbers.{low-digit, high-digit, length-digits}
+use Rattle.line_words.specs.Digits.{hexDigit, digits, hex, decimalSize, decimal}
+use Rattle.line_words.proofs.Numbers.{low-digit, high-digit, length-digits}
 use Rattle.head.specs.declared.Kind.{Kind}
 use Rattle.head.specs.declared.Kind.the-variants.{Negotiate, Challenge, Authenticate}
 use Rattle.line.specs.Line.{lineAs}

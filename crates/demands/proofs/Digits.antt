@@ -10,10 +10,10 @@ use lib.Dec.{ltb}
 use lib.ListN.{getD, List·getD-append}
 use lib.Seq.{getD-at}
 use borrow.Author.Tests.{ltb-true, ltb-false, lt-ltb, le-ltb}
-use Rattle.text.specs.Text.{ascii}
+use Rattle.wire.specs.Text.{ascii}
 use Rattle.wire.specs.Number.{u16At, u32At}
-use Rattle.word.specs.Digits.{hexDigit, digits, hex, sizeStep, sizeWithin, decimalSize, decimal}
-use Rattle.word.proofs.Numbers.{low-digit, high-digit, length-digits}
+use Rattle.line_words.specs.Digits.{hexDigit, digits, hex, sizeStep, sizeWithin, decimalSize, decimal}
+use Rattle.line_words.proofs.Numbers.{low-digit, high-digit, length-digits}
 use Rattle.demands.specs.Digits.{IsDecimalDigit, IsHexDigit, worthOf, readOn, valueOf, DecimalHasValue, HexHasValue, HexIsEnough}
 
 -- ---- one digit

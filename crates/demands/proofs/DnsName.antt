@@ -4,13 +4,13 @@ use mathlib.Core.Path.{_≡_, refl, sym, ap, _∙_, subst}
 use mathlib.Core.Logic.{_⊎_, inl, inr}
 use mathlib.Core.List.{List}
 use lib.ListN.{length}
-use Rattle.dns_name.specs.declared.Fault.{Fault}
-use Rattle.dns_name.specs.declared.Reading.{Reading}
-use Rattle.dns_name.specs.declared.Reading.the-variants.{Taken, Refused}
-use Rattle.dns_name.specs.DnsName.{readName, labelsAt, numberOf}
-use Rattle.dns_name.specs.Rfc1035.{NameAt, FirstFault}
-use Rattle.dns_name_text.proofs.Names.{text-bound}
-use Rattle.dns_name.proofs.Exact.{taken, is-taken, refused, is-refused, next-inside, next-after}
+use Rattle.read_dns_name.specs.declared.Fault.{Fault}
+use Rattle.read_dns_name.specs.declared.Reading.{Reading}
+use Rattle.read_dns_name.specs.declared.Reading.the-variants.{Taken, Refused}
+use Rattle.read_dns_name.specs.DnsName.{readName, labelsAt, numberOf}
+use Rattle.read_dns_name.specs.Rfc1035.{NameAt, FirstFault}
+use Rattle.line_dns_name.proofs.Names.{text-bound}
+use Rattle.read_dns_name.proofs.Exact.{taken, is-taken, refused, is-refused, next-inside, next-after}
 use Rattle.demands.specs.DnsName.{NameRefusedWith, NameIsTaken, NameIsRefused, NameOrFault, OneName, NameNoFault, NameShort}
 
 pub name-taken : NameIsTaken

@@ -12,13 +12,13 @@ use borrow.Author.Tests.{leb-true, leb-false, le-leb, eqb-true, eqb-false, ne-eq
 use Rattle.wire.specs.declared.check.Checked.the-variants.{Held, Failed}
 use Rattle.wire.specs.Check.{checked, after}
 use Rattle.wire.proofs.Bools.{and-left, and-right, and-both}
-use Rattle.word.specs.Name.{plain, escape, unitText}
-use Rattle.dns_name_text.specs.DnsNameText.{byteText, labelText, partText, joined, nameText}
-use Rattle.dns_name_writing.specs.Writing.{onFirst, pieces, labelsOf, labelsHold, textHolds, nameBytes, beforeStop}
-use Rattle.dns_name_writing.proofs.Back.{withStops, NoStops, pieces-joined, pieces-plain, piece-then}
-use Rattle.dns_name.specs.Rfc1035.{codedLength}
-use Rattle.dns_name_writing.proofs.Holding.{size-all, bytes-empty, coded-pieces}
-use Rattle.dns_name_writing.proofs.Pieces.{last-piece}
+use Rattle.line_words.specs.Name.{plain, escape, unitText}
+use Rattle.line_dns_name.specs.DnsNameText.{byteText, labelText, partText, joined, nameText}
+use Rattle.write_dns_name.specs.Writing.{onFirst, pieces, labelsOf, labelsHold, textHolds, nameBytes, beforeStop}
+use Rattle.write_dns_name.proofs.Back.{withStops, NoStops, pieces-joined, pieces-plain, piece-then}
+use Rattle.read_dns_name.specs.Rfc1035.{codedLength}
+use Rattle.write_dns_name.proofs.Holding.{size-all, bytes-empty, coded-pieces}
+use Rattle.write_dns_name.proofs.Pieces.{last-piece}
 use Rattle.demands.specs.DnsName.{NoStop, PartsOf, last, part, TextLabels, WrongLabelIn, LabelsFail, codedSize, Plain}
 
 -- ---- the parts of a text

@@ -1,33 +1,33 @@
 -- All examples hold, by computation.
 use mathlib.Core.Path.{refl}
 use Rattle.field.specs.Field.{fieldAt, fieldBytes, fieldStart}
-use Rattle.field_writing.specs.Writing.{headBytes, versionBytes}
+use Rattle.write_field.specs.Writing.{headBytes, versionBytes}
 use Rattle.place.specs.Place.{le16, le32}
 use Rattle.head.specs.Head.{signatureHolds, readHead, kindOf}
-use Rattle.word.specs.Digits.{hexDigit, hex, decimalSize, decimal}
-use Rattle.word.specs.Name.{escape, unitText, textOf, nameText}
-use Rattle.word.specs.Words.{numberWord, nameWord, stringWord, flagsWord, setWord, startText, micWord, kindWord}
+use Rattle.line_words.specs.Digits.{hexDigit, hex, decimalSize, decimal}
+use Rattle.line_words.specs.Name.{escape, unitText, textOf, nameText}
+use Rattle.line_words.specs.Words.{numberWord, nameWord, stringWord, flagsWord, setWord, startText, micWord, kindWord}
 use Rattle.av_pairs.specs.AvPairs.{countPairs, checkPairs, pairsOf, valuesOf, stepAt, pairOf, left}
-use Rattle.challenge.specs.Challenge.{fieldsAt as challengeFieldsAt, checkEnds as challengeEnds, checkBegins as challengeBegins, checkNames as challengeNames, checkFields as challengeChecks, fieldsOf, checkInfo, readingOf as challengeReadingOf, readChallenge, timestampOf, serverNamesOf}
-use Rattle.negotiate.specs.Negotiate.{fieldsAt as negotiateFieldsAt, checkEnds as negotiateEnds, checkBegins as negotiateBegins, checkFields as negotiateChecks, readNegotiate}
-use Rattle.negotiate_writing.specs.Writing.{flagsToWrite, fieldsTo as negotiateFieldsTo, afterType, fixedBytes as negotiateFixed, negotiateBytes, checkToWrite as negotiateCheck, writeAnswer as negotiateAnswer, writeOut as negotiateOut}
-use Rattle.authenticate.specs.Authenticate.{fieldsAt, checkEnds, checkBegins, checkNames, checkShared, checkFields, micPresent, readingOf, readAuthenticate}
-use Rattle.authenticate_writing.specs.Writing.{fieldsTo, headsBytes, afterHeads, fixedBytes, payloadBytes, authenticateBytes, checkNamesToWrite, checkToWrite, writeAnswer, writeOut}
-use Rattle.nl_auth_writing.specs.Writing.{headBytes as nlHeadBytes, stringBytes, bytesUnder, nameUnder, utf8Bytes, requestBytes, responseBytes, checkZeros, labelsUnder, checkLabels, codedUnder, checkCoded, checkNames as checkTexts, checkRequest, requestAnswer, requestOut, responseAnswer, responseOut}
-use Rattle.nl_auth.specs.NlAuth.{readNlAuth, readRequest, readUtf8, stringUnder, nameUnder as nlNameUnder, nameAt as nlNameAt}
-use Rattle.nl_auth_text.specs.StringText.{utf8Text}
-use Rattle.dns_name.specs.DnsName.{readName, labelsAt, steps, stepAt as nameStep, labelOf, jumpAt, jumpTo, left as nameLeft}
-use Rattle.dns_name_text.specs.DnsNameText.{byteText, labelText, partText, joined, nameText as dnsText}
-use Rattle.dns_name_writing.specs.Writing.{pieces, labelsOf, labelBytes, coded, nameBytes, labelsHold, textHolds, codedHolds}
-use Rattle.line_nl.specs.Nl.{nlStart, nlOem, nlUtf8, nlText}
+use Rattle.read_challenge.specs.Challenge.{fieldsAt as challengeFieldsAt, checkEnds as challengeEnds, checkBegins as challengeBegins, checkNames as challengeNames, checkFields as challengeChecks, fieldsOf, checkInfo, readingOf as challengeReadingOf, readChallenge, timestampOf, serverNamesOf}
+use Rattle.read_negotiate.specs.Negotiate.{fieldsAt as negotiateFieldsAt, checkEnds as negotiateEnds, checkBegins as negotiateBegins, checkFields as negotiateChecks, readNegotiate}
+use Rattle.write_negotiate.specs.Writing.{flagsToWrite, fieldsTo as negotiateFieldsTo, afterType, fixedBytes as negotiateFixed, negotiateBytes, checkToWrite as negotiateCheck, writeAnswer as negotiateAnswer, writeOut as negotiateOut}
+use Rattle.read_authenticate.specs.Authenticate.{fieldsAt, checkEnds, checkBegins, checkNames, checkShared, checkFields, micPresent, readingOf, readAuthenticate}
+use Rattle.write_authenticate.specs.Writing.{fieldsTo, headsBytes, afterHeads, fixedBytes, payloadBytes, authenticateBytes, checkNamesToWrite, checkToWrite, writeAnswer, writeOut}
+use Rattle.write_nl_auth.specs.Writing.{headBytes as nlHeadBytes, stringBytes, bytesUnder, nameUnder, utf8Bytes, requestBytes, responseBytes, checkZeros, labelsUnder, checkLabels, codedUnder, checkCoded, checkNames as checkTexts, checkRequest, requestAnswer, requestOut, responseAnswer, responseOut}
+use Rattle.read_nl_auth.specs.NlAuth.{readNlAuth, readRequest, readUtf8, stringUnder, nameUnder as nlNameUnder, nameAt as nlNameAt}
+use Rattle.line_nl_string.specs.StringText.{utf8Text}
+use Rattle.read_dns_name.specs.DnsName.{readName, labelsAt, steps, stepAt as nameStep, labelOf, jumpAt, jumpTo, left as nameLeft}
+use Rattle.line_dns_name.specs.DnsNameText.{byteText, labelText, partText, joined, nameText as dnsText}
+use Rattle.write_dns_name.specs.Writing.{pieces, labelsOf, labelBytes, coded, nameBytes, labelsHold, textHolds, codedHolds}
+use Rattle.line_nl_auth.specs.Nl.{nlStart, nlOem, nlUtf8, nlText}
 use Rattle.respond.specs.Domain.{domainPart}
 use Rattle.respond.specs.Decision.{decisionOn}
 use Rattle.respond.specs.Answer.{lmToSend, micToSend, keyToSend, sendAnswer, sendOut, respondAnswer, respondOut}
-use Rattle.response_pairs.specs.ResponsePairs.{dueBits, bitsDue, addedPairs, pairsBack, pairsFor, pairBytes, listBytes, listWith, listFor, checkList, listAnswer, listOut, writeAnswer as pairsAnswer, writeOut as pairsOut}
-use Rattle.line_chal.specs.Chal.{timeText, timeWord, chalEnd, chalWords, chalText}
+use Rattle.write_response_pairs.specs.ResponsePairs.{dueBits, bitsDue, addedPairs, pairsBack, pairsFor, pairBytes, listBytes, listWith, listFor, checkList, listAnswer, listOut, writeAnswer as pairsAnswer, writeOut as pairsOut}
+use Rattle.line_challenge.specs.Chal.{timeText, timeWord, chalEnd, chalWords, chalText}
 use Rattle.line_max.specs.Max.{maxDigit, maxWord, maxEnd}
-use Rattle.line_nego.specs.Nego.{negoNames, negoText}
-use Rattle.line_auth.specs.Auth.{authNames, authLengths, authEnd, authText}
+use Rattle.line_negotiate.specs.Nego.{negoNames, negoText}
+use Rattle.line_authenticate.specs.Auth.{authNames, authLengths, authEnd, authText}
 use Rattle.line.specs.Line.{authenticateLine, challengeLine, negotiateLine, ntlmLine, nlAuthLine}
 use Rattle.target_info.specs.TargetInfo.{timestampIn, serverNamesIn}
 use Rattle.demands.specs.Examples.{ChallengeExample, NegotiateExample, AuthenticateExample, AnswerExample, PairListExample, NlAuthExample, NlNamesExample, ExamplesHold}

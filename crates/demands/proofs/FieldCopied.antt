@@ -17,7 +17,7 @@ use Rattle.field.specs.Field.{isEmpty, endsInside, fieldBytes}
 use Rattle.field.proofs.Fields.{own-bytes}
 use Rattle.place.specs.declared.written.Written.the-variants.{Refused}
 use Rattle.place.specs.Written.{bytesAnswer, bytesAfter}
-use Rattle.c_reading.specs.FieldCopy.{fieldCopyAnswer, fieldCopyOut}
+use Rattle.c_read.specs.FieldCopy.{fieldCopyAnswer, fieldCopyOut}
 use Rattle.demands.specs.Kept.{Kept}
 use Rattle.demands.specs.FieldCopied.{FieldCopied, FieldCopyKept}
 use Rattle.demands.proofs.Kept.{by-verdict, line-kept}

@@ -10,10 +10,10 @@ use Rattle.negotiate_flags.specs.declared.NegotiateFlags.{NegotiateFlags}
 use Rattle.negotiate_flags.specs.Flags.{oemDomainSupplied, oemWorkstationSupplied, keyExch}
 use Rattle.head.specs.declared.Layout.{Layout}
 use Rattle.head.specs.Head.{signatureHolds, readHead}
-use Rattle.negotiate.specs.Negotiate as N
-use Rattle.negotiate.specs.Negotiate.{readNegotiate}
-use Rattle.authenticate.specs.Authenticate as A
-use Rattle.authenticate.specs.Authenticate.{readAuthenticate}
+use Rattle.read_negotiate.specs.Negotiate as N
+use Rattle.read_negotiate.specs.Negotiate.{readNegotiate}
+use Rattle.read_authenticate.specs.Authenticate as A
+use Rattle.read_authenticate.specs.Authenticate.{readAuthenticate}
 use Rattle.demands.proofs.Alike.{same16, same32}
 
 module _ (s t : List ℕ) (long : length s ≡ length t) (same : (p : ℕ) → p < 64 → getD s p 0 ≡ getD t p 0) where

@@ -19,10 +19,10 @@ use Rattle.wire.specs.Check.{onClear}
 use Rattle.field.specs.Field.{fieldAt}
 use Rattle.negotiate_flags.specs.Flags.{unicode, keyExch}
 use Rattle.head.specs.Head.{flagsAt}
-use Rattle.authenticate.specs.declared.Fields.{Fields}
-use Rattle.authenticate.specs.declared.Reading.{Reading}
-use Rattle.authenticate.specs.declared.Reading.the-variants.{Taken, Refused}
-use Rattle.authenticate.specs.Authenticate.{fieldsAt, checkEnds, checkBegins, checkNames, checkShared, checkFields, micPresent, micBytes, readingOf, readAuthenticate}
+use Rattle.read_authenticate.specs.declared.Fields.{Fields}
+use Rattle.read_authenticate.specs.declared.Reading.{Reading}
+use Rattle.read_authenticate.specs.declared.Reading.the-variants.{Taken, Refused}
+use Rattle.read_authenticate.specs.Authenticate.{fieldsAt, checkEnds, checkBegins, checkNames, checkShared, checkFields, micPresent, micBytes, readingOf, readAuthenticate}
 use Rattle.demands.specs.Message.{authenticate, MicThere, Fails, Ignored, DifferInIgnored, SameMaxLen}
 use Rattle.demands.specs.Ignored.{SameBytes, AuthenticateIgnored}
 use Rattle.demands.proofs.Alike.{same-part}

@@ -22,7 +22,7 @@ use Rattle.place.specs.declared.written.Written.the-variants.{Length, Refused}
 use Rattle.place.specs.Written.{atFront, answered, outAfter, sizeHolds, roomHolds, bytesHold, bytesAnswer, bytesAfter}
 use Rattle.nl_auth_flags.specs.declared.NlAuthFlags.{NlAuthFlags}
 use Rattle.nl_auth_flags.specs.Flags.{known, stringsHold}
-use Rattle.nl_auth_writing.specs.Writing.{requestBytes, responseBytes, checkZeros, checkNames, checkRequest, requestAnswer, requestOut, responseAnswer, responseOut}
+use Rattle.write_nl_auth.specs.Writing.{requestBytes, responseBytes, checkZeros, checkNames, checkRequest, requestAnswer, requestOut, responseAnswer, responseOut}
 use Rattle.demands.specs.Kept.{Kept, NlRequestKept, NlResponseKept, LineKept}
 use Rattle.demands.proofs.Bools.{after-held}
 

@@ -8,19 +8,19 @@ use lib.Seq.{take-at, drop-at, drop-drop}
 use Rattle.negotiate_flags.specs.declared.NegotiateFlags.{NegotiateFlags}
 use Rattle.head.specs.Head.{flagsAt}
 use Rattle.place.specs.Place.{le16, le32}
-use Rattle.field_writing.specs.Writing.{headBytes, versionBytes}
-use Rattle.field_writing.proofs.Laws.{length-version}
-use Rattle.authenticate_writing.specs.Writing as A
-use Rattle.authenticate_writing.specs.Writing.{authenticateBytes, payloadBytes}
-use Rattle.authenticate_writing.proofs.Sent as AuthenticateSent
-use Rattle.negotiate_writing.specs.Writing as N
-use Rattle.negotiate_writing.specs.Writing.{negotiateBytes, flagsToWrite}
-use Rattle.negotiate_writing.proofs.Sent as NegotiateSent
-use Rattle.dns_name_writing.specs.Writing.{labelsOf, labelBytes, coded, nameBytes}
+use Rattle.write_field.specs.Writing.{headBytes, versionBytes}
+use Rattle.write_field.proofs.Laws.{length-version}
+use Rattle.write_authenticate.specs.Writing as A
+use Rattle.write_authenticate.specs.Writing.{authenticateBytes, payloadBytes}
+use Rattle.write_authenticate.proofs.Sent as AuthenticateSent
+use Rattle.write_negotiate.specs.Writing as N
+use Rattle.write_negotiate.specs.Writing.{negotiateBytes, flagsToWrite}
+use Rattle.write_negotiate.proofs.Sent as NegotiateSent
+use Rattle.write_dns_name.specs.Writing.{labelsOf, labelBytes, coded, nameBytes}
 use Rattle.nl_auth_flags.specs.declared.NlAuthFlags.{NlAuthFlags}
 use Rattle.nl_auth_flags.specs.Flags.{known}
-use Rattle.nl_auth_writing.specs.Writing as R
-use Rattle.nl_auth_writing.specs.Writing.{requestBytes}
+use Rattle.write_nl_auth.specs.Writing as R
+use Rattle.write_nl_auth.specs.Writing.{requestBytes}
 use Rattle.demands.specs.LaidOut.{VersionIs, LaidOut, NegotiateLaidOut, AuthenticateByLayout, RespondByLayout, NegotiateByLayout, labelled, RequestLaidOut, NlRequestByLayout, NlResponseByLayout}
 use Rattle.demands.specs.Message.{authenticate, MicThere}
 use Rattle.demands.proofs.Answering.{mic-sent-long, respond-writes}

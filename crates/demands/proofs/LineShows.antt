@@ -15,9 +15,9 @@ use lib.Dec.{eqb, leb, ltb}
 use lib.ListN.{length, getD}
 use borrow.Author.Tests.{ltb-true, leb-false}
 use Rattle.wire.proofs.Bools.{and-left, and-right}
-use Rattle.word.specs.Digits.{hexDigit, hex}
-use Rattle.word.specs.Name.{escape, unitText, textOf, nameText}
-use Rattle.dns_name_text.specs.DnsNameText.{byteText, labelText, partText, joined, nameText as dnsText}
+use Rattle.line_words.specs.Digits.{hexDigit, hex}
+use Rattle.line_words.specs.Name.{escape, unitText, textOf, nameText}
+use Rattle.line_dns_name.specs.DnsNameText.{byteText, labelText, partText, joined, nameText as dnsText}
 use Rattle.wire.specs.declared.refusal.Refusal.{Refusal}
 use Rattle.wire.specs.declared.refusal.Refusal.the-variants.{NoRoom}
 use Rattle.wire.specs.Refusal.{numberOf, fieldOf, placeOf}
@@ -26,24 +26,24 @@ use Rattle.field.specs.Field.{fieldAt, fieldBytes}
 use Rattle.head.specs.declared.Kind.{Kind}
 use Rattle.head.specs.declared.Kind.the-variants.{Negotiate as AsNegotiate, Challenge as AsChallenge, Authenticate as AsAuthenticate}
 use Rattle.head.specs.Head.{signatureHolds, readHead, kindOf}
-use Rattle.negotiate.specs.declared.Reading.{Reading as NegotiateReading}
-use Rattle.negotiate.specs.declared.Reading.the-variants.{Taken as NegotiateTaken, Refused as NegotiateRefused}
-use Rattle.negotiate.specs.Negotiate.{fieldsAt, checkEnds, checkBegins, checkFields, readNegotiate}
-use Rattle.authenticate.specs.declared.Reading.{Reading}
-use Rattle.authenticate.specs.declared.Reading.the-variants.{Taken, Refused}
-use Rattle.authenticate.specs.Authenticate.{readAuthenticate}
+use Rattle.read_negotiate.specs.declared.Reading.{Reading as NegotiateReading}
+use Rattle.read_negotiate.specs.declared.Reading.the-variants.{Taken as NegotiateTaken, Refused as NegotiateRefused}
+use Rattle.read_negotiate.specs.Negotiate.{fieldsAt, checkEnds, checkBegins, checkFields, readNegotiate}
+use Rattle.read_authenticate.specs.declared.Reading.{Reading}
+use Rattle.read_authenticate.specs.declared.Reading.the-variants.{Taken, Refused}
+use Rattle.read_authenticate.specs.Authenticate.{readAuthenticate}
 use Rattle.av_pairs.specs.AvPairs.{pairsOf}
-use Rattle.challenge.specs.declared.Challenge.{Challenge}
-use Rattle.challenge.specs.declared.Reading.{Reading as ChallengeReading}
-use Rattle.challenge.specs.declared.Reading.the-variants.{Taken as ChallengeTaken, Refused as ChallengeRefused}
-use Rattle.challenge.specs.Challenge.{infoOf, readChallenge}
+use Rattle.read_challenge.specs.declared.Challenge.{Challenge}
+use Rattle.read_challenge.specs.declared.Reading.{Reading as ChallengeReading}
+use Rattle.read_challenge.specs.declared.Reading.the-variants.{Taken as ChallengeTaken, Refused as ChallengeRefused}
+use Rattle.read_challenge.specs.Challenge.{infoOf, readChallenge}
 use Rattle.target_info.specs.TargetInfo.{timestampIn}
-use Rattle.nl_auth.specs.declared.Reading.{Reading as NlReading}
-use Rattle.nl_auth.specs.declared.Reading.the-variants.{Taken as NlTaken, Refused as NlRefused}
-use Rattle.nl_auth.specs.NlAuth.{readNlAuth}
+use Rattle.read_nl_auth.specs.declared.Reading.{Reading as NlReading}
+use Rattle.read_nl_auth.specs.declared.Reading.the-variants.{Taken as NlTaken, Refused as NlRefused}
+use Rattle.read_nl_auth.specs.NlAuth.{readNlAuth}
 use Rattle.line_refused.specs.Refused.{refusedLine}
-use Rattle.line_nego.specs.Nego.{negoNames, negoText}
-use Rattle.line_chal.specs.Chal.{chalText}
+use Rattle.line_negotiate.specs.Nego.{negoNames, negoText}
+use Rattle.line_challenge.specs.Chal.{chalText}
 use Rattle.line.specs.Line.{negoLine, negotiateLine, chalLine, challengeLine, authLine, authenticateLine, lineAs, ntlmLine, nlLine, nlAuthLine, shownLine}
 use Rattle.demands.specs.Examples.{negotiateMessage}
 use Rattle.demands.specs.HeaderLine.{Bytes}

@@ -12,12 +12,12 @@ use Rattle.av_pairs.specs.AvPairs.{checkPairs, pairsOf, countPairs}
 use Rattle.target_info.specs.declared.Contents.{Contents}
 use Rattle.target_info.specs.declared.ListReading.the-variants.{Taken as ListTaken, Refused as ListRefused}
 use Rattle.target_info.specs.TargetInfo.{contentsOf, readList}
-use Rattle.challenge.specs.declared.Challenge.{Challenge}
-use Rattle.challenge.specs.declared.FullChallenge.{FullChallenge}
-use Rattle.challenge.specs.declared.FullReading.the-variants.{Taken as FullTaken, Refused as FullRefused}
-use Rattle.challenge.specs.declared.Reading.{Reading}
-use Rattle.challenge.specs.declared.Reading.the-variants.{Taken, Refused}
-use Rattle.challenge.specs.Challenge.{onTaken, infoOf, readingOf, readChallenge, fullReadingOf}
+use Rattle.read_challenge.specs.declared.Challenge.{Challenge}
+use Rattle.read_challenge.specs.declared.FullChallenge.{FullChallenge}
+use Rattle.read_challenge.specs.declared.FullReading.the-variants.{Taken as FullTaken, Refused as FullRefused}
+use Rattle.read_challenge.specs.declared.Reading.{Reading}
+use Rattle.read_challenge.specs.declared.Reading.the-variants.{Taken, Refused}
+use Rattle.read_challenge.specs.Challenge.{onTaken, infoOf, readingOf, readChallenge, fullReadingOf}
 use Rattle.demands.specs.PairList.{ListFails}
 use Rattle.demands.specs.SearchedExactly.{ListRefusedWith}
 use Rattle.demands.specs.TakenExactly.{ChallengeRefusedWith, ChallengeFails}

@@ -20,16 +20,16 @@ use Rattle.wire.specs.Number.{standsAt}
 use Rattle.wire.specs.Refusal.{numberOf, fieldOf, placeOf}
 use Rattle.wire.proofs.Places.{placeless-number}
 use Rattle.head.proofs.Stands.{stands, stand}
-use Rattle.negotiate.specs.declared.Reading.{Reading as NegotiateReading}
-use Rattle.negotiate.specs.declared.Reading.the-variants.{Taken as NegotiateTaken, Refused as NegotiateRefused}
-use Rattle.negotiate.specs.Negotiate.{readNegotiate}
-use Rattle.challenge.specs.declared.Reading.{Reading as ChallengeReading}
-use Rattle.challenge.specs.declared.Reading.the-variants.{Taken as ChallengeTaken, Refused as ChallengeRefused}
-use Rattle.challenge.specs.Challenge.{readChallenge}
-use Rattle.authenticate.specs.declared.Authenticate.{Authenticate}
-use Rattle.authenticate.specs.declared.Reading.{Reading as AuthenticateReading}
-use Rattle.authenticate.specs.declared.Reading.the-variants.{Taken as AuthenticateTaken, Refused as AuthenticateRefused}
-use Rattle.authenticate.specs.Authenticate.{readAuthenticate}
+use Rattle.read_negotiate.specs.declared.Reading.{Reading as NegotiateReading}
+use Rattle.read_negotiate.specs.declared.Reading.the-variants.{Taken as NegotiateTaken, Refused as NegotiateRefused}
+use Rattle.read_negotiate.specs.Negotiate.{readNegotiate}
+use Rattle.read_challenge.specs.declared.Reading.{Reading as ChallengeReading}
+use Rattle.read_challenge.specs.declared.Reading.the-variants.{Taken as ChallengeTaken, Refused as ChallengeRefused}
+use Rattle.read_challenge.specs.Challenge.{readChallenge}
+use Rattle.read_authenticate.specs.declared.Authenticate.{Authenticate}
+use Rattle.read_authenticate.specs.declared.Reading.{Reading as AuthenticateReading}
+use Rattle.read_authenticate.specs.declared.Reading.the-variants.{Taken as AuthenticateTaken, Refused as AuthenticateRefused}
+use Rattle.read_authenticate.specs.Authenticate.{readAuthenticate}
 use Rattle.mic.specs.declared.Checking.the-variants.{Compared, Refused}
 use Rattle.verdict.specs.Verdict.{negoVerdict, chalVerdict}
 use Rattle.mic.specs.Mic.{zeroed, micOf, authenticateVerdict, checkMessages, whenClear, workOut, checkMic}

@@ -17,21 +17,21 @@ use Rattle.wire.specs.Check.{checked}
 use Rattle.wire.specs.Number.{u32At}
 use Rattle.wire.specs.Refusal.{numberOf, fieldOf}
 use Rattle.wire.proofs.Bools.{and-left, and-right, and-both}
-use Rattle.nl_auth.specs.declared.Reading.{Reading}
-use Rattle.nl_auth.specs.declared.Reading.the-variants.{Taken, Refused}
-use Rattle.nl_auth.specs.declared.string.NlString.{NlString}
-use Rattle.nl_auth.specs.declared.string.Scan.the-variants.{Found, Missing}
-use Rattle.nl_auth.specs.declared.name.NameScan.the-variants.{Found as Named, Refused as Not}
-use Rattle.dns_name.specs.declared.Fault.{Fault}
-use Rattle.dns_name.specs.declared.Fault.the-variants.{CutShort, WrongTopBits, PlaceNotBefore, TooManyJumps, NameTooLong}
-use Rattle.dns_name.specs.declared.Name.{Name}
-use Rattle.dns_name.specs.declared.Reading.{Reading as NameReading}
-use Rattle.dns_name.specs.declared.Reading.the-variants.{Taken as Read, Refused as Faulty}
-use Rattle.dns_name.specs.DnsName.{readName, numberOf as faultNumber}
-use Rattle.dns_name.proofs.Exact.{taken, refused}
-use Rattle.nl_auth.proofs.Names.{own-bytes}
+use Rattle.read_nl_auth.specs.declared.Reading.{Reading}
+use Rattle.read_nl_auth.specs.declared.Reading.the-variants.{Taken, Refused}
+use Rattle.read_nl_auth.specs.declared.string.NlString.{NlString}
+use Rattle.read_nl_auth.specs.declared.string.Scan.the-variants.{Found, Missing}
+use Rattle.read_nl_auth.specs.declared.name.NameScan.the-variants.{Found as Named, Refused as Not}
+use Rattle.read_dns_name.specs.declared.Fault.{Fault}
+use Rattle.read_dns_name.specs.declared.Fault.the-variants.{CutShort, WrongTopBits, PlaceNotBefore, TooManyJumps, NameTooLong}
+use Rattle.read_dns_name.specs.declared.Name.{Name}
+use Rattle.read_dns_name.specs.declared.Reading.{Reading as NameReading}
+use Rattle.read_dns_name.specs.declared.Reading.the-variants.{Taken as Read, Refused as Faulty}
+use Rattle.read_dns_name.specs.DnsName.{readName, numberOf as faultNumber}
+use Rattle.read_dns_name.proofs.Exact.{taken, refused}
+use Rattle.read_nl_auth.proofs.Names.{own-bytes}
 use Rattle.nl_auth_flags.specs.Flags.{nbDomain, nbComputer, dnsDomain, dnsHost, utf8Computer, stringsHold}
-use Rattle.nl_auth.specs.NlAuth.{noString, beforeZero, holdsZero, stringAt, stringUnder, onFound, refusalIn, nameString, onName, nameAt, nameUnder, onNamed, flagsAt, readUtf8, readRequest, readResponse, readNlAuth}
+use Rattle.read_nl_auth.specs.NlAuth.{noString, beforeZero, holdsZero, stringAt, stringUnder, onFound, refusalIn, nameString, onName, nameAt, nameUnder, onNamed, flagsAt, readUtf8, readRequest, readResponse, readNlAuth}
 use Rattle.demands.specs.Order.{row, check}
 use Rattle.demands.specs.NlAuth.{typeOf, numbered, maskOf, BitSet, ZeroAt, StandsAt, plain, name, FaultIn, no-zero, in-name, Strings, StartsAt, StringFails, NlFails, stepOf, NlFirst}
 use Rattle.demands.specs.OwnBytes.{OwnString, OwnName, OwnRequest, OwnResponse, NlAuthOwn}

@@ -12,11 +12,11 @@ use Rattle.field.specs.declared.Field.{Field}
 use Rattle.field.specs.Field.{isEmpty, fieldBytes}
 use Rattle.head.specs.Head.{flagsAt}
 use Rattle.field.proofs.Fields.{own-bytes}
-use Rattle.authenticate.specs.declared.Authenticate.{Authenticate}
-use Rattle.authenticate.specs.declared.Reading.{Reading}
-use Rattle.authenticate.specs.declared.Reading.the-variants.{Taken}
-use Rattle.authenticate.specs.Authenticate.{fieldsAt, micPresent, micBytes, readAuthenticate}
-use Rattle.authenticate.proofs.Laws.{taken-by}
+use Rattle.read_authenticate.specs.declared.Authenticate.{Authenticate}
+use Rattle.read_authenticate.specs.declared.Reading.{Reading}
+use Rattle.read_authenticate.specs.declared.Reading.the-variants.{Taken}
+use Rattle.read_authenticate.specs.Authenticate.{fieldsAt, micPresent, micBytes, readAuthenticate}
+use Rattle.read_authenticate.proofs.Laws.{taken-by}
 use Rattle.demands.specs.Message.{Format, authenticate, lenOf, offsetOf, Nonempty, Fails}
 use Rattle.demands.specs.OwnBytes.{OwnField, AuthenticateOwn, AuthenticateRefusedMic}
 use Rattle.demands.specs.TakenExactly.{IsTakenAuthenticate}

@@ -6,12 +6,12 @@ use mathlib.Core.List.{List, [], _∷_, _++_}
 use lib.Dec.{leb}
 use lib.ListN.{length}
 use borrow.Author.Tests.{leb-true, leb-false, le-leb, lt-leb}
-use Rattle.text.specs.Text.{ascii}
+use Rattle.wire.specs.Text.{ascii}
 use Rattle.wire.specs.declared.refusal.Refusal.the-variants.{NoRoom}
 use Rattle.place.specs.declared.written.Written.the-variants.{Length}
 use Rattle.place.specs.Written.{bytesAnswer}
-use Rattle.word.specs.Digits.{hexDigit, decimalSize, decimal}
-use Rattle.word.specs.Words.{numberWord}
+use Rattle.line_words.specs.Digits.{hexDigit, decimalSize, decimal}
+use Rattle.line_words.specs.Words.{numberWord}
 use Rattle.line_refused.specs.Refused.{refusedEnd, refusedText, refusedLine}
 use Rattle.line.specs.Line.{shownLine}
 use Rattle.demands.specs.Printed.{Printed, PrintedExactly}

@@ -18,27 +18,27 @@ use Rattle.wire.proofs.Laws.{held-true}
 use Rattle.wire.specs.declared.refusal.Refusal.the-variants.{NoRoom, ZeroInString, WrongLabel, NameTooLong}
 use Rattle.wire.specs.Check.{checked, after}
 use Rattle.wire.specs.Number.{u32At}
-use Rattle.nl_auth.proofs.Names.{own-bytes}
+use Rattle.read_nl_auth.proofs.Names.{own-bytes}
 use Rattle.place.specs.declared.written.Written.the-variants.{Length, Refused as Unwritten}
 use Rattle.place.specs.Place.{le16, le32}
 use Rattle.place.specs.Written.{atFront, answered, outAfter}
 use Rattle.place.proofs.Numbers.{length-le32, back32}
 use Rattle.nl_auth_flags.specs.declared.NlAuthFlags.{NlAuthFlags}
-use Rattle.nl_auth.specs.declared.NlAuth.{NlAuth}
-use Rattle.nl_auth.specs.declared.Reading.the-variants.{Taken}
-use Rattle.nl_auth.specs.declared.string.NlString.{NlString}
-use Rattle.nl_auth.specs.declared.string.Scan.the-variants.{Found}
-use Rattle.nl_auth.specs.declared.name.NameScan.the-variants.{Found as Named, Refused as NotNamed}
-use Rattle.nl_auth_text.specs.StringText.{utf8Text}
-use Rattle.dns_name.specs.declared.Reading.{Reading as NameReading}
-use Rattle.dns_name.specs.declared.Reading.the-variants.{Taken as Read}
-use Rattle.dns_name.specs.DnsName.{readName, labelsAt}
-use Rattle.dns_name_text.specs.DnsNameText.{nameText as dnsText}
-use Rattle.dns_name_writing.specs.Writing.{labelsOf, nameBytes, textHolds, codedHolds}
-use Rattle.dns_name_writing.proofs.Back.{back as name-back}
+use Rattle.read_nl_auth.specs.declared.NlAuth.{NlAuth}
+use Rattle.read_nl_auth.specs.declared.Reading.the-variants.{Taken}
+use Rattle.read_nl_auth.specs.declared.string.NlString.{NlString}
+use Rattle.read_nl_auth.specs.declared.string.Scan.the-variants.{Found}
+use Rattle.read_nl_auth.specs.declared.name.NameScan.the-variants.{Found as Named, Refused as NotNamed}
+use Rattle.line_nl_string.specs.StringText.{utf8Text}
+use Rattle.read_dns_name.specs.declared.Reading.{Reading as NameReading}
+use Rattle.read_dns_name.specs.declared.Reading.the-variants.{Taken as Read}
+use Rattle.read_dns_name.specs.DnsName.{readName, labelsAt}
+use Rattle.line_dns_name.specs.DnsNameText.{nameText as dnsText}
+use Rattle.write_dns_name.specs.Writing.{labelsOf, nameBytes, textHolds, codedHolds}
+use Rattle.write_dns_name.proofs.Back.{back as name-back}
 use Rattle.nl_auth_flags.specs.Flags.{nbDomain, nbComputer, dnsDomain, dnsHost, utf8Computer, known, noFlags, stringsHold}
-use Rattle.nl_auth.specs.NlAuth.{noString, stringBytes as ownBytes, beforeZero, holdsZero, stringAt, stringUnder, refusalIn, nameString, onName, nameAt, nameUnder as readUnder, flagsAt, readUtf8, emptyStrings, readRequest, readResponse, readNlAuth}
-use Rattle.nl_auth_writing.specs.Writing.{headBytes, stringBytes, bytesUnder, nameUnder, utf8Bytes, requestBytes, responseBytes, noZero, checkZeros, labelsUnder, checkLabels, codedUnder, checkCoded, checkNames, checkRequest, requestAnswer, requestOut, responseAnswer, responseOut}
+use Rattle.read_nl_auth.specs.NlAuth.{noString, stringBytes as ownBytes, beforeZero, holdsZero, stringAt, stringUnder, refusalIn, nameString, onName, nameAt, nameUnder as readUnder, flagsAt, readUtf8, emptyStrings, readRequest, readResponse, readNlAuth}
+use Rattle.write_nl_auth.specs.Writing.{headBytes, stringBytes, bytesUnder, nameUnder, utf8Bytes, requestBytes, responseBytes, noZero, checkZeros, labelsUnder, checkLabels, codedUnder, checkCoded, checkNames, checkRequest, requestAnswer, requestOut, responseAnswer, responseOut}
 use Rattle.demands.specs.ReadBack.{NameBack, NlRequestReadsBack, NlResponseReadsBack}
 use Rattle.demands.proofs.DnsText.{text-labels, text-shown}
 use Rattle.demands.proofs.Kept.{request-holds, clear-both}

@@ -8,30 +8,30 @@ use native.Mathlib.Omega.{arith}
 use lib.Dec.{leb}
 use lib.ListN.{length, length-append}
 use borrow.Author.Tests.{leb-true, leb-false}
-use Rattle.text.specs.Text.{ascii}
+use Rattle.wire.specs.Text.{ascii}
 use Rattle.wire.specs.declared.check.Verdict.the-variants.{Refused as Not}
 use Rattle.wire.specs.declared.refusal.Refusal.{Refusal}
 use Rattle.av_pairs.specs.AvPairs.{checkPairs, stepAt, pairOf, left}
 use Rattle.field.specs.Field.{fieldAt, fieldBytes}
-use Rattle.word.specs.Digits.{hexDigit, decimalSize, decimal}
-use Rattle.word.specs.Words.{numberWord}
+use Rattle.line_words.specs.Digits.{hexDigit, decimalSize, decimal}
+use Rattle.line_words.specs.Words.{numberWord}
 use Rattle.head.specs.declared.Kind.{Kind}
 use Rattle.head.specs.declared.Kind.the-variants.{Negotiate, Challenge, Authenticate}
 use Rattle.head.specs.Head.{signatureHolds, readHead, kindOf}
-use Rattle.negotiate.specs.declared.Reading.{Reading as NegoReading}
-use Rattle.negotiate.specs.declared.Reading.the-variants.{Taken as NegoTaken, Refused as NegoRefused}
-use Rattle.negotiate.specs.Negotiate.{readNegotiate}
-use Rattle.challenge.specs.declared.Reading.{Reading as ChalReading}
-use Rattle.challenge.specs.declared.Reading.the-variants.{Taken as ChalTaken, Refused as ChalRefused}
-use Rattle.challenge.specs.Challenge as C
-use Rattle.challenge.specs.Challenge.{readChallenge}
-use Rattle.authenticate.specs.declared.Reading.{Reading as AuthReading}
-use Rattle.authenticate.specs.declared.Reading.the-variants.{Taken as AuthTaken, Refused as AuthRefused}
-use Rattle.authenticate.specs.Authenticate.{fieldsAt, checkEnds, checkBegins, checkNames, checkShared, checkFields, micPresent, readingOf, readAuthenticate}
-use Rattle.nl_auth.specs.declared.Reading.{Reading as NlReading}
-use Rattle.nl_auth.specs.declared.Reading.the-variants.{Taken as NlTaken, Refused as NlRefused}
-use Rattle.nl_auth.specs.NlAuth.{readNlAuth, readRequest, stringUnder, stringAt}
-use Rattle.nl_auth.proofs.Places.{nl-auth-placeless}
+use Rattle.read_negotiate.specs.declared.Reading.{Reading as NegoReading}
+use Rattle.read_negotiate.specs.declared.Reading.the-variants.{Taken as NegoTaken, Refused as NegoRefused}
+use Rattle.read_negotiate.specs.Negotiate.{readNegotiate}
+use Rattle.read_challenge.specs.declared.Reading.{Reading as ChalReading}
+use Rattle.read_challenge.specs.declared.Reading.the-variants.{Taken as ChalTaken, Refused as ChalRefused}
+use Rattle.read_challenge.specs.Challenge as C
+use Rattle.read_challenge.specs.Challenge.{readChallenge}
+use Rattle.read_authenticate.specs.declared.Reading.{Reading as AuthReading}
+use Rattle.read_authenticate.specs.declared.Reading.the-variants.{Taken as AuthTaken, Refused as AuthRefused}
+use Rattle.read_authenticate.specs.Authenticate.{fieldsAt, checkEnds, checkBegins, checkNames, checkShared, checkFields, micPresent, readingOf, readAuthenticate}
+use Rattle.read_nl_auth.specs.declared.Reading.{Reading as NlReading}
+use Rattle.read_nl_auth.specs.declared.Reading.the-variants.{Taken as NlTaken, Refused as NlRefused}
+use Rattle.read_nl_auth.specs.NlAuth.{readNlAuth, readRequest, stringUnder, stringAt}
+use Rattle.read_nl_auth.proofs.Places.{nl-auth-placeless}
 use Rattle.verdict.specs.Verdict.{negoVerdict, chalVerdict, authVerdict, readAs}
 use Rattle.line_refused.specs.Refused.{refusedEnd, refusedText, refusedLine}
 use Rattle.line.specs.Line.{challengeLine, authenticateLine, lineAs, ntlmLine, nlAuthLine, shownLine}

@@ -12,17 +12,17 @@ use lib.ListN.{length, take, length-append}
 use lib.Seq.{take-append-seam}
 use Rattle.av_pairs.specs.AvPairs.{idAt, Valued, valuesOf}
 use Rattle.av_pairs.proofs.Walks.{valuesAt, values-start}
-use Rattle.challenge.specs.declared.Challenge.{Challenge}
-use Rattle.challenge.specs.declared.Reading.{Reading}
-use Rattle.challenge.specs.declared.Reading.the-variants.{Taken, Refused as Unread}
-use Rattle.challenge.specs.Challenge.{readChallenge, readingOf, onTaken, infoOf}
+use Rattle.read_challenge.specs.declared.Challenge.{Challenge}
+use Rattle.read_challenge.specs.declared.Reading.{Reading}
+use Rattle.read_challenge.specs.declared.Reading.the-variants.{Taken, Refused as Unread}
+use Rattle.read_challenge.specs.Challenge.{readChallenge, readingOf, onTaken, infoOf}
 use Rattle.place.specs.declared.written.Written.{Written}
 use Rattle.place.specs.declared.written.Written.the-variants.{Length, Refused}
 use Rattle.place.specs.Place.{le16}
 use Rattle.place.specs.Written.{answered, outAfter, sizeHolds, roomHolds}
-use Rattle.response_pairs.specs.ResponsePairs.{pairWith, leftOut, kept, bitsDue, addsFlags, pairBytes, bytesOf, listFor, evenName, checkList, listAnswer, listOut, writeAnswer, writeOut}
-use Rattle.response_pairs.proofs.Fits.{length-pair}
-use Rattle.response_pairs.proofs.Sent.{list-empty, list-parts, list-size}
+use Rattle.write_response_pairs.specs.ResponsePairs.{pairWith, leftOut, kept, bitsDue, addsFlags, pairBytes, bytesOf, listFor, evenName, checkList, listAnswer, listOut, writeAnswer, writeOut}
+use Rattle.write_response_pairs.proofs.Fits.{length-pair}
+use Rattle.write_response_pairs.proofs.Sent.{list-empty, list-parts, list-size}
 use Rattle.wire.specs.declared.check.Verdict.{Verdict}
 use Rattle.wire.specs.declared.check.Verdict.the-variants.{Clear, Refused as Not}
 use Rattle.wire.specs.declared.refusal.Refusal.{Refusal}

@@ -16,15 +16,15 @@ use Rattle.negotiate_flags.specs.declared.NegotiateFlags.{NegotiateFlags}
 use Rattle.field.specs.Field.{isEmpty, fieldAt}
 use Rattle.head.specs.Head.{signatureHolds, readHead, flagsAt, kindOf}
 use Rattle.field.proofs.Fields.{own-bytes}
-use Rattle.authenticate.specs.declared.Authenticate.{Authenticate}
-use Rattle.authenticate.specs.declared.Reading.{Reading}
-use Rattle.authenticate.specs.declared.Reading.the-variants.{Taken, Refused}
-use Rattle.authenticate.specs.Authenticate.{fieldsAt, checkEnds, checkBegins, checkNames, checkShared, checkFields, micPresent, readingOf, readAuthenticate}
-use Rattle.line_auth.specs.Auth.{authNames, authText}
+use Rattle.read_authenticate.specs.declared.Authenticate.{Authenticate}
+use Rattle.read_authenticate.specs.declared.Reading.{Reading}
+use Rattle.read_authenticate.specs.declared.Reading.the-variants.{Taken, Refused}
+use Rattle.read_authenticate.specs.Authenticate.{fieldsAt, checkEnds, checkBegins, checkNames, checkShared, checkFields, micPresent, readingOf, readAuthenticate}
+use Rattle.line_authenticate.specs.Auth.{authNames, authText}
 use Rattle.line.specs.Line.{authLine, authenticateLine}
 use Rattle.place.specs.declared.written.Written.the-variants.{Length}
 use Rattle.place.specs.Written.{bytesAnswer, bytesAfter}
-use Rattle.c_reading.specs.Numbers.{authenticateOutcome}
+use Rattle.c_read.specs.Numbers.{authenticateOutcome}
 use Rattle.demands.specs.Bench.{p1, userOffset}
 use Rattle.demands.specs.Ignored.{SameBytes}
 use Rattle.demands.specs.Message.{authenticate, lenOf, offsetOf, Nonempty, Covers, Fails}

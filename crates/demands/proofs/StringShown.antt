@@ -7,18 +7,18 @@ use native.Mathlib.Omega.{arith}
 use lib.Dec.{leb}
 use lib.ListN.{length, getD, length-append}
 use borrow.Author.Tests.{leb-true, leb-false, le-leb, lt-leb, ne-eqb}
-use Rattle.text.specs.Text.{ascii}
+use Rattle.wire.specs.Text.{ascii}
 use Rattle.wire.specs.declared.check.Verdict.the-variants.{Refused as NotClear}
 use Rattle.wire.specs.Number.{has}
 use Rattle.place.specs.declared.written.Written.the-variants.{Refused}
 use Rattle.place.specs.Written.{bytesAnswer, bytesAfter}
-use Rattle.word.specs.Words.{stringWord}
-use Rattle.nl_auth.specs.declared.NlAuth.{NlAuth}
-use Rattle.nl_auth.specs.declared.Reading.{Reading}
-use Rattle.nl_auth.specs.declared.Reading.the-variants.{Taken, Refused as Not}
-use Rattle.nl_auth.specs.NlAuth.{readNlAuth}
-use Rattle.nl_auth_text.specs.StringText.{oemText, utf8Text, utf8Numbered, stringText, onReading, textAnswer, textAfter}
-use Rattle.line_nl.specs.Nl.{nlStart, nlOem, nlUtf8, nlText}
+use Rattle.line_words.specs.Words.{stringWord}
+use Rattle.read_nl_auth.specs.declared.NlAuth.{NlAuth}
+use Rattle.read_nl_auth.specs.declared.Reading.{Reading}
+use Rattle.read_nl_auth.specs.declared.Reading.the-variants.{Taken, Refused as Not}
+use Rattle.read_nl_auth.specs.NlAuth.{readNlAuth}
+use Rattle.line_nl_string.specs.StringText.{oemText, utf8Text, utf8Numbered, stringText, onReading, textAnswer, textAfter}
+use Rattle.line_nl_auth.specs.Nl.{nlStart, nlOem, nlUtf8, nlText}
 use Rattle.line.specs.Line.{nlAuthLine}
 use Rattle.demands.specs.Ignored.{SameNlAuth}
 use Rattle.demands.specs.Kept.{Kept}

@@ -25,11 +25,11 @@ use Rattle.field.specs.Field.{fieldAt, evenName, share}
 use Rattle.negotiate_flags.specs.Flags.{unicode, keyExch}
 use Rattle.head.specs.Head.{flagsAt, readHead, onFlags}
 use Rattle.wire.specs.Refusal.{numberOf, fieldOf}
-use Rattle.authenticate.specs.declared.Authenticate.{Authenticate}
-use Rattle.authenticate.specs.declared.Fields.{Fields}
-use Rattle.authenticate.specs.declared.Reading.{Reading}
-use Rattle.authenticate.specs.declared.Reading.the-variants.{Taken, Refused}
-use Rattle.authenticate.specs.Authenticate.{layout, fieldsAt, allFields, names, checkEnds, checkBegins, checkNames, checkShared, checkFields, apart, micPresent, readingOf, readAuthenticate}
+use Rattle.read_authenticate.specs.declared.Authenticate.{Authenticate}
+use Rattle.read_authenticate.specs.declared.Fields.{Fields}
+use Rattle.read_authenticate.specs.declared.Reading.{Reading}
+use Rattle.read_authenticate.specs.declared.Reading.the-variants.{Taken, Refused}
+use Rattle.read_authenticate.specs.Authenticate.{layout, fieldsAt, allFields, names, checkEnds, checkBegins, checkNames, checkShared, checkFields, apart, micPresent, readingOf, readAuthenticate}
 use Rattle.demands.specs.Order.{First}
 use Rattle.demands.specs.Message.{authenticate, Nonempty, Covers, Fails}
 use Rattle.demands.specs.TakenExactly.{IsTakenAuthenticate, AuthenticateRefusedWith, AuthenticateIsTaken, AuthenticateIsRefused}

@@ -11,7 +11,7 @@ use lib.Dec.{leb, eqb}
 use lib.ListN.{length}
 use lib.Seq.{ext-getD}
 use borrow.Author.Tests.{le-leb, lt-leb, eq-eqb, ne-eqb}
-use Rattle.text.specs.Text.{ascii}
+use Rattle.wire.specs.Text.{ascii}
 use Rattle.wire.proofs.Bools.{and-both}
 use Rattle.wire.specs.declared.check.Verdict.{Verdict}
 use Rattle.wire.specs.declared.check.Verdict.the-variants.{Clear, Refused as Not}
@@ -22,27 +22,27 @@ use Rattle.field.specs.Field.{fieldAt, fieldBytes}
 use Rattle.negotiate_flags.specs.declared.NegotiateFlags.{NegotiateFlags}
 use Rattle.negotiate_flags.specs.Flags.{unicode}
 use Rattle.head.specs.Head.{signatureHolds, readHead}
-use Rattle.word.specs.Digits.{hexDigit, hex, decimalSize, decimal}
-use Rattle.word.specs.Name.{plain, escape, unitText, textOf, numbers16, nameText}
-use Rattle.word.specs.Words.{numberWord, nameWord, flagsWord, setWord, startText, micWord, kindWord}
+use Rattle.line_words.specs.Digits.{hexDigit, hex, decimalSize, decimal}
+use Rattle.line_words.specs.Name.{plain, escape, unitText, textOf, numbers16, nameText}
+use Rattle.line_words.specs.Words.{numberWord, nameWord, flagsWord, setWord, startText, micWord, kindWord}
 use Rattle.line_max.specs.Max.{maxDigit, maxDigits, maxWord, maxEnd}
-use Rattle.line_auth.specs.Auth.{authNames, authLengths, authEnd, authText}
-use Rattle.line_chal.specs.Chal.{timeText, timeWord, chalEnd, chalWords, chalText}
+use Rattle.line_authenticate.specs.Auth.{authNames, authLengths, authEnd, authText}
+use Rattle.line_challenge.specs.Chal.{timeText, timeWord, chalEnd, chalWords, chalText}
 use Rattle.line.specs.Line.{negotiateLine, challengeLine, authenticateLine}
-use Rattle.negotiate.specs.declared.Negotiate.{Negotiate}
-use Rattle.negotiate.specs.declared.Reading.{Reading as NegotiateReading}
-use Rattle.negotiate.specs.declared.Reading.the-variants.{Taken as NegotiateTaken, Refused as NegotiateRefused}
-use Rattle.negotiate.specs.Negotiate as N
-use Rattle.authenticate.specs.declared.Authenticate.{Authenticate}
-use Rattle.authenticate.specs.declared.Reading.{Reading}
-use Rattle.authenticate.specs.declared.Reading.the-variants.{Taken, Refused}
-use Rattle.authenticate.specs.Authenticate as A
+use Rattle.read_negotiate.specs.declared.Negotiate.{Negotiate}
+use Rattle.read_negotiate.specs.declared.Reading.{Reading as NegotiateReading}
+use Rattle.read_negotiate.specs.declared.Reading.the-variants.{Taken as NegotiateTaken, Refused as NegotiateRefused}
+use Rattle.read_negotiate.specs.Negotiate as N
+use Rattle.read_authenticate.specs.declared.Authenticate.{Authenticate}
+use Rattle.read_authenticate.specs.declared.Reading.{Reading}
+use Rattle.read_authenticate.specs.declared.Reading.the-variants.{Taken, Refused}
+use Rattle.read_authenticate.specs.Authenticate as A
 use Rattle.av_pairs.specs.declared.Count.the-variants.{Pairs, Refused as Uncounted}
 use Rattle.av_pairs.specs.AvPairs.{checkPairs, countPairs, pairsOf, stepAt, pairOf, left}
-use Rattle.challenge.specs.declared.Challenge.{Challenge}
-use Rattle.challenge.specs.declared.Reading.{Reading as ChallengeReading}
-use Rattle.challenge.specs.declared.Reading.the-variants.{Taken as ChallengeTaken, Refused as ChallengeRefused}
-use Rattle.challenge.specs.Challenge as C
+use Rattle.read_challenge.specs.declared.Challenge.{Challenge}
+use Rattle.read_challenge.specs.declared.Reading.{Reading as ChallengeReading}
+use Rattle.read_challenge.specs.declared.Reading.the-variants.{Taken as ChallengeTaken, Refused as ChallengeRefused}
+use Rattle.read_challenge.specs.Challenge as C
 use Rattle.target_info.specs.declared.Timestamp.{Timestamp}
 use Rattle.target_info.specs.declared.Timestamp.the-variants.{Time, Nothing}
 use Rattle.target_info.specs.TargetInfo.{timestampIn}

@@ -11,7 +11,7 @@ use borrow.Author.Tests.{eqb-true, eqb-false}
 use Rattle.wire.specs.Number.{u16At}
 use Rattle.field.specs.declared.Field.{Field}
 use Rattle.field.specs.Field.{fieldBytes}
-use Rattle.word.specs.Name.{numbers16}
+use Rattle.line_words.specs.Name.{numbers16}
 use Rattle.demands.specs.Message.{Format, authenticate, challenge, Set, Nonempty, lenOf, Fails}
 use Rattle.demands.specs.OwnBytes.{OwnField}
 use Rattle.demands.specs.Units.{WholeUnits, EvenHasUnits, AuthenticateNamesWhole, TargetNameWhole}

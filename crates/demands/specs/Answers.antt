@@ -15,19 +15,19 @@ use Rattle.place.specs.declared.written.Written.{Written}
 use Rattle.place.specs.declared.written.Written.the-variants.{Length, Refused}
 use Rattle.place.specs.Written.{bytesAnswer}
 use Rattle.av_pairs.specs.AvPairs.{checkPairs}
-use Rattle.authenticate_writing.specs.Writing.{writeAnswer}
+use Rattle.write_authenticate.specs.Writing.{writeAnswer}
 use Rattle.line.specs.Line.{negotiateLine, authenticateLine, challengeLine, nlAuthLine, ntlmLine, shownLine}
 use Rattle.negotiate_flags.specs.declared.NegotiateFlags.{NegotiateFlags}
-use Rattle.negotiate_writing.specs.Writing.{writeAnswer as negotiateAnswer}
+use Rattle.write_negotiate.specs.Writing.{writeAnswer as negotiateAnswer}
 use Rattle.nl_auth_flags.specs.declared.NlAuthFlags.{NlAuthFlags}
 use Rattle.nl_auth_flags.specs.Flags.{known}
-use Rattle.nl_auth_writing.specs.Writing.{requestAnswer, responseAnswer}
+use Rattle.write_nl_auth.specs.Writing.{requestAnswer, responseAnswer}
 use Rattle.respond.specs.declared.answer.Answer.{Answer}
 use Rattle.respond.specs.declared.answer.Answered.{Answered}
 use Rattle.respond.specs.declared.answer.Answered.the-variants.{Sent, Refused as Unanswered}
 use Rattle.respond.specs.declared.decision.Settings.{Settings}
 use Rattle.respond.specs.Answer.{respondAnswer}
-use Rattle.response_pairs.specs.ResponsePairs.{writeAnswer as pairsAnswer}
+use Rattle.write_response_pairs.specs.ResponsePairs.{writeAnswer as pairsAnswer}
 use Rattle.c_number.specs.Number.{verdictNumber, writtenNumber}
 use Rattle.c_number.specs.Outcome.{Outcome, numbers, refused, callNumber, twoArrayNumber}
 use Rattle.c_respond.specs.Respond.{respondedNumber}

@@ -14,11 +14,11 @@ use Rattle.wire.specs.declared.refusal.Refusal.the-variants.{TooShort, WrongKey
 use Rattle.wire.specs.Number.{u32At}
 use Rattle.field.specs.Field.{fieldBytes}
 use Rattle.place.specs.declared.written.Written.the-variants.{Length, Refused}
-use Rattle.authenticate.specs.declared.Authenticate.{Authenticate}
-use Rattle.authenticate.specs.declared.Reading.the-variants.{Taken}
-use Rattle.authenticate.specs.Authenticate.{readAuthenticate}
+use Rattle.read_authenticate.specs.declared.Authenticate.{Authenticate}
+use Rattle.read_authenticate.specs.declared.Reading.the-variants.{Taken}
+use Rattle.read_authenticate.specs.Authenticate.{readAuthenticate}
 use Rattle.c_number.specs.Number.{writtenNumber}
-use Rattle.canonical.specs.Canonical.{Meaning, canonicalAnswer, canonicalOut}
+use Rattle.write_canonical.specs.Canonical.{Meaning, canonicalAnswer, canonicalOut}
 use Rattle.demands.specs.Answers.{TellsWritten}
 use Rattle.demands.specs.Bench.{p1}
 use Rattle.demands.specs.LaidOut.{LaidOut}

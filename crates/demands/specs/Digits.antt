@@ -7,9 +7,9 @@ use mathlib.Core.Bool.{cond}
 use mathlib.Core.List.{List, [], _∷_}
 use lib.Dec.{ltb}
 use lib.ListN.{length, getD}
-use Rattle.text.specs.Text.{ascii}
+use Rattle.wire.specs.Text.{ascii}
 use Rattle.wire.specs.Number.{u16At, u32At, u64At}
-use Rattle.word.specs.Digits.{hex, decimal}
+use Rattle.line_words.specs.Digits.{hex, decimal}
 
 -- '0' to '9' are the characters 48 to 57, and 'A' to 'F' are 65 to 70
 abbrev pub IsDecimalDigit : ℕ → Type 0

@@ -7,11 +7,11 @@ use mathlib.Core.Path.{_≡_}
 use mathlib.Core.Logic.{_⊎_, _↔_}
 use mathlib.Core.List.{List, [], _∷_, _++_}
 use lib.ListN.{length, getD}
-use Rattle.dns_name.specs.declared.Reading.{Reading}
-use Rattle.dns_name.specs.declared.Reading.the-variants.{Taken, Refused}
-use Rattle.dns_name.specs.DnsName.{readName, labelsAt, numberOf}
-use Rattle.dns_name.specs.Rfc1035.{NameAt, FirstFault}
-use Rattle.dns_name_text.specs.DnsNameText.{nameText}
+use Rattle.read_dns_name.specs.declared.Reading.{Reading}
+use Rattle.read_dns_name.specs.declared.Reading.the-variants.{Taken, Refused}
+use Rattle.read_dns_name.specs.DnsName.{readName, labelsAt, numberOf}
+use Rattle.read_dns_name.specs.Rfc1035.{NameAt, FirstFault}
+use Rattle.line_dns_name.specs.DnsNameText.{nameText}
 
 abbrev pub NameRefusedWith : Reading → ℕ → Type 0
 NameRefusedWith (Taken m) n = ⊥

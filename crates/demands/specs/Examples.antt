@@ -7,32 +7,32 @@ use mathlib.Core.Path.{_≡_}
 use mathlib.Core.Bool.{true, false}
 use mathlib.Core.List.{List, [], _∷_, _++_}
 use lib.ListN.{take, replicate}
-use Rattle.text.specs.Text.{ascii}
+use Rattle.wire.specs.Text.{ascii}
 use Rattle.wire.specs.declared.refusal.Refusal.the-variants.{OddNameToWrite, NoRoom, No128Bit, WrongLabel}
 use Rattle.negotiate_flags.specs.declared.NegotiateFlags.{NegotiateFlags}
 use Rattle.place.specs.declared.written.Written.the-variants.{Length, Refused}
 use Rattle.av_pairs.specs.declared.Count.the-variants.{Pairs}
 use Rattle.av_pairs.specs.AvPairs.{countPairs}
-use Rattle.challenge.specs.declared.Reading.the-variants.{Taken as ChallengeTaken}
-use Rattle.challenge.specs.declared.ServerNamesReading.the-variants.{Taken as NamesTaken}
+use Rattle.read_challenge.specs.declared.Reading.the-variants.{Taken as ChallengeTaken}
+use Rattle.read_challenge.specs.declared.ServerNamesReading.the-variants.{Taken as NamesTaken}
 use Rattle.target_info.specs.declared.Timestamp.the-variants.{Time}
-use Rattle.challenge.specs.declared.TimestampReading.the-variants.{Taken as TimeTaken}
-use Rattle.challenge.specs.Challenge.{readChallenge, timestampOf, serverNamesOf}
-use Rattle.negotiate.specs.declared.Reading.the-variants.{Taken as NegotiateTaken}
-use Rattle.negotiate.specs.Negotiate.{readNegotiate}
-use Rattle.negotiate_writing.specs.Writing.{writeAnswer as negotiateAnswer, writeOut as negotiateOut}
-use Rattle.authenticate_writing.specs.Writing.{writeAnswer, writeOut}
+use Rattle.read_challenge.specs.declared.TimestampReading.the-variants.{Taken as TimeTaken}
+use Rattle.read_challenge.specs.Challenge.{readChallenge, timestampOf, serverNamesOf}
+use Rattle.read_negotiate.specs.declared.Reading.the-variants.{Taken as NegotiateTaken}
+use Rattle.read_negotiate.specs.Negotiate.{readNegotiate}
+use Rattle.write_negotiate.specs.Writing.{writeAnswer as negotiateAnswer, writeOut as negotiateOut}
+use Rattle.write_authenticate.specs.Writing.{writeAnswer, writeOut}
 use Rattle.respond.specs.declared.answer.Answered.the-variants.{Sent, Refused as Unanswered}
 use Rattle.respond.specs.Answer.{respondAnswer, respondOut}
 use Rattle.respond.specs.Decision.{defaults, benchSettings, oldServerSettings}
-use Rattle.response_pairs.specs.ResponsePairs.{listFor, writeAnswer as pairsAnswer, writeOut as pairsOut}
+use Rattle.write_response_pairs.specs.ResponsePairs.{listFor, writeAnswer as pairsAnswer, writeOut as pairsOut}
 use Rattle.line.specs.Line.{ntlmLine, nlAuthLine}
 use Rattle.nl_auth_flags.specs.declared.NlAuthFlags.{NlAuthFlags}
 use Rattle.nl_auth_flags.specs.Flags.{known}
-use Rattle.nl_auth.specs.declared.NlAuth.{NlAuth}
-use Rattle.nl_auth.specs.declared.Reading.the-variants.{Taken as NlTaken}
-use Rattle.nl_auth.specs.NlAuth.{noString, readNlAuth}
-use Rattle.nl_auth_writing.specs.Writing.{requestAnswer, requestOut, responseAnswer, responseOut}
+use Rattle.read_nl_auth.specs.declared.NlAuth.{NlAuth}
+use Rattle.read_nl_auth.specs.declared.Reading.the-variants.{Taken as NlTaken}
+use Rattle.read_nl_auth.specs.NlAuth.{noString, readNlAuth}
+use Rattle.write_nl_auth.specs.Writing.{requestAnswer, requestOut, responseAnswer, responseOut}
 use Rattle.demands.specs.Bench.{p12}
 
 -- this text and 0A

@@ -10,17 +10,17 @@ use mathlib.Core.List.{List, [], _∷_, _++_}
 use lib.Dec.{leb}
 use lib.ListN.{length, getD}
 use lib.Seq.{sets}
-use Rattle.text.specs.Text.{ascii}
+use Rattle.wire.specs.Text.{ascii}
 use Rattle.wire.specs.declared.refusal.Refusal.the-variants.{NoRoom}
-use Rattle.word.specs.Digits.{decimal}
+use Rattle.line_words.specs.Digits.{decimal}
 use Rattle.place.specs.declared.written.Written.the-variants.{Length, Refused}
 use Rattle.place.specs.Written.{bytesAnswer, bytesAfter}
 use Rattle.head.specs.declared.Kind.{Kind}
 use Rattle.head.specs.declared.Kind.the-variants.{Negotiate, Challenge, Authenticate}
 use Rattle.head.specs.Head.{kindOf}
-use Rattle.negotiate.specs.Negotiate.{readNegotiate}
-use Rattle.challenge.specs.Challenge.{readChallenge}
-use Rattle.authenticate.specs.Authenticate.{readAuthenticate}
+use Rattle.read_negotiate.specs.Negotiate.{readNegotiate}
+use Rattle.read_challenge.specs.Challenge.{readChallenge}
+use Rattle.read_authenticate.specs.Authenticate.{readAuthenticate}
 use Rattle.c_number.specs.Number.{writtenNumber}
 use Rattle.explain.specs.Explain.{explanation}
 use Rattle.demands.specs.Answers.{TellsWritten}

@@ -8,7 +8,7 @@ use Rattle.wire.specs.declared.refusal.Refusal.the-variants.{PastEnd, NoRoom}
 use Rattle.field.specs.declared.Field.{Field}
 use Rattle.place.specs.declared.written.Written.the-variants.{Length, Refused}
 use Rattle.place.specs.Written.{atFront}
-use Rattle.c_reading.specs.FieldCopy.{fieldCopyAnswer, fieldCopyOut}
+use Rattle.c_read.specs.FieldCopy.{fieldCopyAnswer, fieldCopyOut}
 use Rattle.demands.specs.Kept.{Kept}
 
 -- one of the four holds of every message, output and record: 6 is given as row 6 of document 01 has it, "a nonempty field ends past

@@ -2,14 +2,14 @@
 -- that each asks for, and its outcome.
 use Prim.Native.Nat.{ℕ}
 use mathlib.Core.List.{List}
-use Rattle.authenticate.specs.Authenticate.{readAuthenticate}
+use Rattle.read_authenticate.specs.Authenticate.{readAuthenticate}
 use Rattle.av_pairs.specs.AvPairs.{countPairs, askAt}
-use Rattle.challenge.specs.Challenge.{readChallenge, timestampOf, serverNamesOf}
-use Rattle.negotiate.specs.Negotiate.{readNegotiate}
-use Rattle.nl_auth.specs.NlAuth.{readNlAuth}
+use Rattle.read_challenge.specs.Challenge.{readChallenge, timestampOf, serverNamesOf}
+use Rattle.read_negotiate.specs.Negotiate.{readNegotiate}
+use Rattle.read_nl_auth.specs.NlAuth.{readNlAuth}
 use Rattle.respond.specs.Decision.{decisionOn}
 use Rattle.c_number.specs.Outcome.{Outcome}
-use Rattle.c_reading.specs.Numbers.{negotiateOutcome, authenticateOutcome, challengeOutcome, timestampOutcome, serverNamesOutcome, nlAuthOutcome}
+use Rattle.c_read.specs.Numbers.{negotiateOutcome, authenticateOutcome, challengeOutcome, timestampOutcome, serverNamesOutcome, nlAuthOutcome}
 use Rattle.c_pairs.specs.Pairs.{countOutcome, searchOutcome, askedOutcome}
 use Rattle.c_respond.specs.Settings.{settingsOf}
 use Rattle.c_respond.specs.Respond.{decidedOutcome}

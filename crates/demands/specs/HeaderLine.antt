@@ -9,7 +9,7 @@ use mathlib.Core.Logic.{_⊎_}
 use mathlib.Core.List.{List, [], _∷_, _++_}
 use lib.Dec.{eqb}
 use lib.ListN.{length, take, drop, getD, replicate}
-use Rattle.text.specs.Text.{ascii}
+use Rattle.wire.specs.Text.{ascii}
 use Rattle.place.specs.declared.written.Written.the-variants.{Length}
 use Rattle.base64.specs.Base64.{alphabet, encode}
 use Rattle.http_header.specs.HttpHeader.{exportAnswer, exportOut, importAnswer, importOut}

@@ -10,22 +10,22 @@ use lib.ListN.{length, getD}
 use Rattle.field.specs.declared.Field.{Field}
 use Rattle.field.specs.Field.{fieldBytes}
 use Rattle.wire.specs.Number.{u32At}
-use Rattle.authenticate.specs.declared.Authenticate.{Authenticate}
-use Rattle.authenticate.specs.declared.Fields.{Fields}
-use Rattle.authenticate.specs.declared.Reading.the-variants.{Taken}
-use Rattle.authenticate.specs.Authenticate.{readAuthenticate}
-use Rattle.challenge.specs.declared.Challenge.{Challenge}
-use Rattle.challenge.specs.declared.Reading.the-variants.{Taken as ChallengeTaken}
-use Rattle.challenge.specs.Challenge.{readChallenge, timestampOf, serverNamesOf}
+use Rattle.read_authenticate.specs.declared.Authenticate.{Authenticate}
+use Rattle.read_authenticate.specs.declared.Fields.{Fields}
+use Rattle.read_authenticate.specs.declared.Reading.the-variants.{Taken}
+use Rattle.read_authenticate.specs.Authenticate.{readAuthenticate}
+use Rattle.read_challenge.specs.declared.Challenge.{Challenge}
+use Rattle.read_challenge.specs.declared.Reading.the-variants.{Taken as ChallengeTaken}
+use Rattle.read_challenge.specs.Challenge.{readChallenge, timestampOf, serverNamesOf}
 use Rattle.head.specs.declared.Kind.the-variants.{Negotiate as AsNegotiate, Challenge as AsChallenge, Authenticate as AsAuthenticate}
 use Rattle.head.specs.Head.{kindOf}
-use Rattle.negotiate.specs.declared.Negotiate.{Negotiate}
-use Rattle.negotiate.specs.declared.Reading.the-variants.{Taken as NegotiateTaken}
-use Rattle.negotiate.specs.Negotiate.{readNegotiate}
-use Rattle.nl_auth.specs.declared.NlAuth.{NlAuth}
-use Rattle.nl_auth.specs.declared.Reading.the-variants.{Taken as NlTaken}
-use Rattle.nl_auth.specs.declared.string.NlString.{NlString}
-use Rattle.nl_auth.specs.NlAuth.{stringBytes, labelsOf, readNlAuth}
+use Rattle.read_negotiate.specs.declared.Negotiate.{Negotiate}
+use Rattle.read_negotiate.specs.declared.Reading.the-variants.{Taken as NegotiateTaken}
+use Rattle.read_negotiate.specs.Negotiate.{readNegotiate}
+use Rattle.read_nl_auth.specs.declared.NlAuth.{NlAuth}
+use Rattle.read_nl_auth.specs.declared.Reading.the-variants.{Taken as NlTaken}
+use Rattle.read_nl_auth.specs.declared.string.NlString.{NlString}
+use Rattle.read_nl_auth.specs.NlAuth.{stringBytes, labelsOf, readNlAuth}
 use Rattle.line.specs.Line.{negotiateLine, authenticateLine, challengeLine, ntlmLine, nlAuthLine}
 use Rattle.respond.specs.declared.decision.Settings.{Settings}
 use Rattle.respond.specs.Answer.{respondAnswer, respondOut}

@@ -9,8 +9,8 @@ use Rattle.wire.specs.declared.refusal.Refusal.{Refusal}
 use Rattle.place.specs.declared.written.Written.{Written}
 use Rattle.place.specs.declared.written.Written.the-variants.{Length, Refused}
 use Rattle.negotiate_flags.specs.declared.NegotiateFlags.{NegotiateFlags}
-use Rattle.authenticate_writing.specs.Writing.{writeAnswer, writeOut}
-use Rattle.negotiate_writing.specs.Writing.{writeAnswer as negotiateAnswer, writeOut as negotiateOut}
+use Rattle.write_authenticate.specs.Writing.{writeAnswer, writeOut}
+use Rattle.write_negotiate.specs.Writing.{writeAnswer as negotiateAnswer, writeOut as negotiateOut}
 use Rattle.respond.specs.declared.answer.Answer.{Answer}
 use Rattle.respond.specs.declared.answer.Answered.{Answered}
 use Rattle.respond.specs.declared.answer.Answered.the-variants.{Sent, Refused as Unanswered}
@@ -22,7 +22,7 @@ use Rattle.c_number.specs.Outcome.{Outcome, numbers, callNumber, callOut, twoAr
 use Rattle.c_respond.specs.Respond.{respondedNumber, respondedNumbers, respondedOut}
 use Rattle.nl_auth_flags.specs.declared.NlAuthFlags.{NlAuthFlags}
 use Rattle.nl_auth_flags.specs.Flags.{known}
-use Rattle.nl_auth_writing.specs.Writing.{requestAnswer, requestOut, responseAnswer, responseOut}
+use Rattle.write_nl_auth.specs.Writing.{requestAnswer, requestOut, responseAnswer, responseOut}
 use Rattle.demands.specs.FromC.{Call, count, outcome, TwoArrayCall, numberCount, byteCount, twoArrayOutcome, bytesBeside}
 
 -- a call's answer, and the lent output before and after it

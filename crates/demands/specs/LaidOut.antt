@@ -9,16 +9,16 @@ use mathlib.Core.Bool.{cond}
 use mathlib.Core.List.{List, [], _∷_, _++_}
 use lib.Dec.{eqb}
 use lib.ListN.{length, take, drop, replicate}
-use Rattle.text.specs.Text.{ascii}
+use Rattle.wire.specs.Text.{ascii}
 use Rattle.wire.specs.Number.{u32At}
 use Rattle.negotiate_flags.specs.declared.NegotiateFlags.{NegotiateFlags}
 use Rattle.place.specs.declared.written.Written.the-variants.{Length}
 use Rattle.place.specs.Place.{le16, le32}
-use Rattle.authenticate_writing.specs.Writing.{writeAnswer, writeOut}
-use Rattle.negotiate_writing.specs.Writing.{writeAnswer as negotiateAnswer, writeOut as negotiateOut}
+use Rattle.write_authenticate.specs.Writing.{writeAnswer, writeOut}
+use Rattle.write_negotiate.specs.Writing.{writeAnswer as negotiateAnswer, writeOut as negotiateOut}
 use Rattle.nl_auth_flags.specs.declared.NlAuthFlags.{NlAuthFlags}
 use Rattle.nl_auth_flags.specs.Flags.{known}
-use Rattle.nl_auth_writing.specs.Writing.{requestAnswer, requestOut, responseAnswer, responseOut}
+use Rattle.write_nl_auth.specs.Writing.{requestAnswer, requestOut, responseAnswer, responseOut}
 use Rattle.respond.specs.declared.answer.Answer.{Answer}
 use Rattle.respond.specs.declared.answer.Answered.the-variants.{Sent}
 use Rattle.respond.specs.declared.decision.Settings.{Settings}

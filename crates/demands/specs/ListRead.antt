@@ -9,11 +9,11 @@ use Rattle.target_info.specs.declared.Contents.{Contents}
 use Rattle.target_info.specs.declared.ListReading.{ListReading}
 use Rattle.target_info.specs.declared.ListReading.the-variants.{Taken as ListTaken, Refused as ListRefused}
 use Rattle.target_info.specs.TargetInfo.{readList}
-use Rattle.challenge.specs.declared.FullChallenge.{FullChallenge}
-use Rattle.challenge.specs.declared.FullReading.{FullReading}
-use Rattle.challenge.specs.declared.FullReading.the-variants.{Taken as FullTaken, Refused as FullRefused}
-use Rattle.challenge.specs.declared.Reading.the-variants.{Taken}
-use Rattle.challenge.specs.Challenge.{readChallenge, fullReadingOf}
+use Rattle.read_challenge.specs.declared.FullChallenge.{FullChallenge}
+use Rattle.read_challenge.specs.declared.FullReading.{FullReading}
+use Rattle.read_challenge.specs.declared.FullReading.the-variants.{Taken as FullTaken, Refused as FullRefused}
+use Rattle.read_challenge.specs.declared.Reading.the-variants.{Taken}
+use Rattle.read_challenge.specs.Challenge.{readChallenge, fullReadingOf}
 use Rattle.demands.specs.Answering.{TimestampIs}
 use Rattle.demands.specs.Message.{challenge, DifferInIgnored}
 use Rattle.demands.specs.PairList.{Holds, ListFails}

@@ -4,14 +4,14 @@ use Prim.Native.Nat.{ℕ, _-_, _≤_}
 use mathlib.Core.Path.{_≡_}
 use mathlib.Core.List.{List, [], _∷_, _++_}
 use lib.ListN.{length, getD}
-use Rattle.text.specs.Text.{ascii}
+use Rattle.wire.specs.Text.{ascii}
 use Rattle.field.specs.declared.Field.{Field}
-use Rattle.authenticate.specs.declared.Reading.{Reading}
-use Rattle.authenticate.specs.declared.Reading.the-variants.{Taken, Refused}
-use Rattle.challenge.specs.declared.Reading.{Reading as ChallengeReading}
-use Rattle.challenge.specs.declared.Reading.the-variants.{Taken as ChallengeTaken, Refused as ChallengeRefused}
-use Rattle.negotiate.specs.declared.Reading.{Reading as NegotiateReading}
-use Rattle.negotiate.specs.declared.Reading.the-variants.{Taken as NegotiateTaken, Refused as NegotiateRefused}
+use Rattle.read_authenticate.specs.declared.Reading.{Reading}
+use Rattle.read_authenticate.specs.declared.Reading.the-variants.{Taken, Refused}
+use Rattle.read_challenge.specs.declared.Reading.{Reading as ChallengeReading}
+use Rattle.read_challenge.specs.declared.Reading.the-variants.{Taken as ChallengeTaken, Refused as ChallengeRefused}
+use Rattle.read_negotiate.specs.declared.Reading.{Reading as NegotiateReading}
+use Rattle.read_negotiate.specs.declared.Reading.the-variants.{Taken as NegotiateTaken, Refused as NegotiateRefused}
 use Rattle.demands.specs.Message.{Format, lenOf, maxLenOf, Counts}
 
 -- a field's record without its MaxLen

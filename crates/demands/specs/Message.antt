@@ -5,7 +5,7 @@ use mathlib.Core.Path.{_≡_}
 use mathlib.Core.Logic.{_⊎_}
 use mathlib.Core.List.{List, [], _∷_, _++_}
 use lib.ListN.{length, take, getD}
-use Rattle.text.specs.Text.{ascii}
+use Rattle.wire.specs.Text.{ascii}
 use Rattle.wire.specs.Number.{u16At, u32At}
 use Rattle.demands.specs.Order.{check}
 

@@ -8,7 +8,7 @@ use mathlib.Core.List.{List, [], _∷_}
 use lib.Dec.{leb}
 use lib.ListN.{length, take, drop, getD}
 use Rattle.wire.specs.Number.{u32At}
-use Rattle.dns_name.specs.Rfc1035.{NameAt, FirstFault}
+use Rattle.read_dns_name.specs.Rfc1035.{NameAt, FirstFault}
 use Rattle.demands.specs.Order.{check}
 use Rattle.demands.specs.Message.{FlagSet}
 

@@ -8,7 +8,7 @@ use mathlib.Core.List.{List, [], _∷_, _++_}
 use lib.ListN.{length, take, drop, replicate, getD}
 use Rattle.wire.specs.Number.{u32At}
 use Rattle.target_info.specs.declared.Timestamp.the-variants.{Time, Nothing}
-use Rattle.dns_name.specs.Rfc1035.{NameAt}
+use Rattle.read_dns_name.specs.Rfc1035.{NameAt}
 use Rattle.hmac_md5.specs.Hmac.{hmac}
 use Rattle.c_number.specs.Outcome.{numbers}
 use Rattle.demands.specs.Answering.{TimestampIs}

@@ -10,28 +10,28 @@ use Rattle.field.specs.declared.Field.{Field}
 use Rattle.wire.specs.declared.refusal.Refusal.{Refusal}
 use Rattle.field.specs.Field.{fieldBytes}
 use Rattle.wire.specs.Number.{u32At, u64At}
-use Rattle.authenticate.specs.declared.Authenticate.{Authenticate}
-use Rattle.authenticate.specs.declared.Reading.the-variants.{Taken, Refused}
-use Rattle.authenticate.specs.Authenticate.{readAuthenticate}
+use Rattle.read_authenticate.specs.declared.Authenticate.{Authenticate}
+use Rattle.read_authenticate.specs.declared.Reading.the-variants.{Taken, Refused}
+use Rattle.read_authenticate.specs.Authenticate.{readAuthenticate}
 use Rattle.av_pairs.specs.declared.AvPair.{AvPair}
 use Rattle.av_pairs.specs.declared.Found.the-variants.{At, Nothing}
 use Rattle.target_info.specs.declared.Search.the-variants.{Done}
 use Rattle.target_info.specs.TargetInfo.{findPair}
-use Rattle.challenge.specs.declared.Challenge.{Challenge}
-use Rattle.challenge.specs.declared.Reading.the-variants.{Taken as ChallengeTaken, Refused as ChallengeRefused}
+use Rattle.read_challenge.specs.declared.Challenge.{Challenge}
+use Rattle.read_challenge.specs.declared.Reading.the-variants.{Taken as ChallengeTaken, Refused as ChallengeRefused}
 use Rattle.target_info.specs.declared.Timestamp.the-variants.{Time, Nothing as NoTime}
-use Rattle.challenge.specs.declared.TimestampReading.the-variants.{Taken as TimeTaken}
+use Rattle.read_challenge.specs.declared.TimestampReading.the-variants.{Taken as TimeTaken}
 use Rattle.target_info.specs.declared.ServerNames.{ServerNames}
-use Rattle.challenge.specs.declared.ServerNamesReading.the-variants.{Taken as NamesTaken}
-use Rattle.challenge.specs.Challenge.{readChallenge, timestampOf, serverNamesOf}
-use Rattle.negotiate.specs.declared.Negotiate.{Negotiate}
-use Rattle.negotiate.specs.declared.Reading.the-variants.{Taken as NegotiateTaken}
-use Rattle.negotiate.specs.Negotiate.{readNegotiate}
-use Rattle.nl_auth.specs.declared.NlAuth.{NlAuth}
-use Rattle.nl_auth.specs.declared.Reading.the-variants.{Taken as NlTaken}
-use Rattle.nl_auth.specs.declared.string.NlString.{NlString}
-use Rattle.nl_auth.specs.NlAuth.{noString, stringBytes, labelsOf, readNlAuth}
-use Rattle.dns_name.specs.Rfc1035.{NameAt}
+use Rattle.read_challenge.specs.declared.ServerNamesReading.the-variants.{Taken as NamesTaken}
+use Rattle.read_challenge.specs.Challenge.{readChallenge, timestampOf, serverNamesOf}
+use Rattle.read_negotiate.specs.declared.Negotiate.{Negotiate}
+use Rattle.read_negotiate.specs.declared.Reading.the-variants.{Taken as NegotiateTaken}
+use Rattle.read_negotiate.specs.Negotiate.{readNegotiate}
+use Rattle.read_nl_auth.specs.declared.NlAuth.{NlAuth}
+use Rattle.read_nl_auth.specs.declared.Reading.the-variants.{Taken as NlTaken}
+use Rattle.read_nl_auth.specs.declared.string.NlString.{NlString}
+use Rattle.read_nl_auth.specs.NlAuth.{noString, stringBytes, labelsOf, readNlAuth}
+use Rattle.read_dns_name.specs.Rfc1035.{NameAt}
 use Rattle.demands.specs.NlAuth.{typeOf, maskOf, BitSet, ZeroAt, StartsAt}
 use Rattle.demands.specs.Message.{Format, negotiate, authenticate, challenge, lenOf, maxLenOf, offsetOf, Counts, Nonempty, MicThere}
 use Rattle.demands.specs.PairList.{sizeOf, FirstWith, PairThere}

@@ -11,22 +11,22 @@ use lib.ListN.{length, take}
 use Rattle.field.specs.Field.{fieldBytes}
 use Rattle.place.specs.declared.written.Written.the-variants.{Length}
 use Rattle.negotiate_flags.specs.declared.NegotiateFlags.{NegotiateFlags}
-use Rattle.authenticate.specs.declared.Authenticate.{Authenticate}
-use Rattle.authenticate.specs.declared.Reading.the-variants.{Taken as AuthenticateTaken}
-use Rattle.authenticate.specs.Authenticate.{readAuthenticate}
-use Rattle.authenticate_writing.specs.Writing.{writeAnswer, writeOut}
-use Rattle.negotiate.specs.declared.Negotiate.{Negotiate}
-use Rattle.negotiate.specs.declared.Reading.the-variants.{Taken as NegotiateTaken}
-use Rattle.negotiate.specs.Negotiate.{readNegotiate}
-use Rattle.negotiate_writing.specs.Writing.{writeAnswer as negotiateAnswer, writeOut as negotiateOut}
+use Rattle.read_authenticate.specs.declared.Authenticate.{Authenticate}
+use Rattle.read_authenticate.specs.declared.Reading.the-variants.{Taken as AuthenticateTaken}
+use Rattle.read_authenticate.specs.Authenticate.{readAuthenticate}
+use Rattle.write_authenticate.specs.Writing.{writeAnswer, writeOut}
+use Rattle.read_negotiate.specs.declared.Negotiate.{Negotiate}
+use Rattle.read_negotiate.specs.declared.Reading.the-variants.{Taken as NegotiateTaken}
+use Rattle.read_negotiate.specs.Negotiate.{readNegotiate}
+use Rattle.write_negotiate.specs.Writing.{writeAnswer as negotiateAnswer, writeOut as negotiateOut}
 use Rattle.nl_auth_flags.specs.declared.NlAuthFlags.{NlAuthFlags}
-use Rattle.nl_auth.specs.declared.NlAuth.{NlAuth}
-use Rattle.nl_auth.specs.declared.Reading.the-variants.{Taken}
+use Rattle.read_nl_auth.specs.declared.NlAuth.{NlAuth}
+use Rattle.read_nl_auth.specs.declared.Reading.the-variants.{Taken}
 use Rattle.nl_auth_flags.specs.Flags.{nbDomain, nbComputer, dnsDomain, dnsHost, utf8Computer, known}
-use Rattle.nl_auth.specs.declared.string.NlString.{NlString}
-use Rattle.nl_auth.specs.NlAuth.{stringBytes, labelsOf, readNlAuth}
-use Rattle.nl_auth_text.specs.StringText.{utf8Text}
-use Rattle.nl_auth_writing.specs.Writing.{requestAnswer, requestOut, responseAnswer, responseOut}
+use Rattle.read_nl_auth.specs.declared.string.NlString.{NlString}
+use Rattle.read_nl_auth.specs.NlAuth.{stringBytes, labelsOf, readNlAuth}
+use Rattle.line_nl_string.specs.StringText.{utf8Text}
+use Rattle.write_nl_auth.specs.Writing.{requestAnswer, requestOut, responseAnswer, responseOut}
 use Rattle.demands.specs.DnsName.{TextLabels, Plain}
 
 -- the name x read back from the bytes s, of this text

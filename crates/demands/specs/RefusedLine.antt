@@ -7,12 +7,12 @@ use mathlib.Core.Logic.{_⊎_, _↔_}
 use mathlib.Core.List.{List, [], _∷_, _++_}
 use lib.ListN.{length, take}
 use lib.Seq.{sets}
-use Rattle.text.specs.Text.{ascii}
-use Rattle.word.specs.Digits.{decimal}
+use Rattle.wire.specs.Text.{ascii}
+use Rattle.line_words.specs.Digits.{decimal}
 use Rattle.head.specs.declared.Kind.{Kind}
 use Rattle.head.specs.declared.Kind.the-variants.{Negotiate, Challenge, Authenticate}
 use Rattle.head.specs.Head.{kindOf}
-use Rattle.nl_auth.specs.NlAuth.{readNlAuth}
+use Rattle.read_nl_auth.specs.NlAuth.{readNlAuth}
 use Rattle.line.specs.Line.{negotiateLine, challengeLine, authenticateLine, lineAs, ntlmLine, nlAuthLine, shownLine}
 use Rattle.demands.specs.Bench.{p1, p12}
 use Rattle.demands.specs.Examples.{challengeMessage}

@@ -9,7 +9,7 @@ use mathlib.Core.List.{List, [], _∷_}
 use lib.ListN.{length, take, drop}
 use Rattle.place.specs.declared.written.Written.{Written}
 use Rattle.place.specs.declared.written.Written.the-variants.{Length, Refused}
-use Rattle.response_pairs.specs.ResponsePairs.{writeAnswer, writeOut}
+use Rattle.write_response_pairs.specs.ResponsePairs.{writeAnswer, writeOut}
 use Rattle.wire.specs.Number.{u32At}
 use Rattle.demands.specs.Order.{FirstIn, check}
 use Rattle.demands.specs.Message.{challenge, FlagSet, Nonempty, DifferInIgnored}

@@ -11,11 +11,11 @@ use Rattle.av_id.specs.declared.AvId.{AvId}
 use Rattle.target_info.specs.declared.Search.{Search}
 use Rattle.target_info.specs.declared.Search.the-variants.{Done, Refused as Unsearched}
 use Rattle.av_pairs.specs.AvPairs.{checkPairs}
-use Rattle.challenge.specs.declared.TimestampReading.{TimestampReading}
-use Rattle.challenge.specs.declared.TimestampReading.the-variants.{Taken as TimeTaken, Refused as TimeRefused}
-use Rattle.challenge.specs.declared.ServerNamesReading.{ServerNamesReading}
-use Rattle.challenge.specs.declared.ServerNamesReading.the-variants.{Taken as NamesTaken, Refused as NamesRefused}
-use Rattle.challenge.specs.Challenge.{timestampOf, serverNamesOf}
+use Rattle.read_challenge.specs.declared.TimestampReading.{TimestampReading}
+use Rattle.read_challenge.specs.declared.TimestampReading.the-variants.{Taken as TimeTaken, Refused as TimeRefused}
+use Rattle.read_challenge.specs.declared.ServerNamesReading.{ServerNamesReading}
+use Rattle.read_challenge.specs.declared.ServerNamesReading.the-variants.{Taken as NamesTaken, Refused as NamesRefused}
+use Rattle.read_challenge.specs.Challenge.{timestampOf, serverNamesOf}
 use Rattle.target_info.specs.TargetInfo.{findPair}
 use Rattle.demands.specs.PairList.{Holds, ListFails}
 use Rattle.demands.specs.TakenExactly.{RefusalIs, InfoBytes, ChallengeHolds, ChallengeFails}

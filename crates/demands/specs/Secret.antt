@@ -6,9 +6,9 @@ use mathlib.Core.Path.{_≡_}
 use mathlib.Core.Logic.{_⊎_}
 use mathlib.Core.List.{List}
 use lib.ListN.{length, getD, set, take, replicate}
-use Rattle.authenticate.specs.declared.Authenticate.{Authenticate}
-use Rattle.authenticate.specs.declared.Reading.the-variants.{Taken}
-use Rattle.authenticate.specs.Authenticate.{readAuthenticate}
+use Rattle.read_authenticate.specs.declared.Authenticate.{Authenticate}
+use Rattle.read_authenticate.specs.declared.Reading.the-variants.{Taken}
+use Rattle.read_authenticate.specs.Authenticate.{readAuthenticate}
 use Rattle.head.specs.declared.Kind.the-variants.{Authenticate as AsAuthenticate}
 use Rattle.head.specs.Head.{kindOf}
 use Rattle.line.specs.Line.{authenticateLine, ntlmLine, shownLine}

@@ -4,17 +4,17 @@ use mathlib.Core.Path.{_≡_}
 use mathlib.Core.Bool.{false, cond}
 use mathlib.Core.List.{List, [], _∷_, _++_}
 use lib.ListN.{length, getD}
-use Rattle.text.specs.Text.{ascii}
+use Rattle.wire.specs.Text.{ascii}
 use Rattle.wire.specs.declared.refusal.Refusal.the-variants.{NoRoom}
 use Rattle.wire.specs.Number.{has}
 use Rattle.place.specs.declared.written.Written.the-variants.{Length, Refused}
 use Rattle.place.specs.Written.{atFront}
-use Rattle.nl_auth.specs.declared.NlAuth.{NlAuth}
-use Rattle.nl_auth.specs.declared.Reading.the-variants.{Taken}
-use Rattle.nl_auth.specs.NlAuth.{readNlAuth}
-use Rattle.nl_auth_text.specs.StringText.{stringText, textAnswer, textAfter}
-use Rattle.word.specs.Words.{lineEnd}
-use Rattle.line_nl.specs.Nl.{nlStart, nlText}
+use Rattle.read_nl_auth.specs.declared.NlAuth.{NlAuth}
+use Rattle.read_nl_auth.specs.declared.Reading.the-variants.{Taken}
+use Rattle.read_nl_auth.specs.NlAuth.{readNlAuth}
+use Rattle.line_nl_string.specs.StringText.{stringText, textAnswer, textAfter}
+use Rattle.line_words.specs.Words.{lineEnd}
+use Rattle.line_nl_auth.specs.Nl.{nlStart, nlText}
 use Rattle.c_number.specs.Number.{writtenNumber}
 use Rattle.demands.specs.Answers.{TellsWritten}
 use Rattle.demands.specs.Ignored.{NlDifferInIgnored}

@@ -7,21 +7,21 @@ use mathlib.Core.List.{List, []}
 use lib.ListN.{take, drop}
 use Rattle.wire.specs.declared.refusal.Refusal.{Refusal}
 use Rattle.wire.specs.Refusal.{numberOf, fieldOf, placeOf}
-use Rattle.authenticate.specs.declared.Reading.{Reading}
-use Rattle.authenticate.specs.declared.Reading.the-variants.{Taken, Refused}
-use Rattle.authenticate.specs.Authenticate.{readAuthenticate}
+use Rattle.read_authenticate.specs.declared.Reading.{Reading}
+use Rattle.read_authenticate.specs.declared.Reading.the-variants.{Taken, Refused}
+use Rattle.read_authenticate.specs.Authenticate.{readAuthenticate}
 use Rattle.av_pairs.specs.declared.Count.{Count}
 use Rattle.av_pairs.specs.declared.Count.the-variants.{Pairs, Refused as Uncounted}
 use Rattle.av_pairs.specs.AvPairs.{countPairs}
-use Rattle.challenge.specs.declared.Reading.{Reading as ChallengeReading}
-use Rattle.challenge.specs.declared.Reading.the-variants.{Taken as ChallengeTaken, Refused as ChallengeRefused}
-use Rattle.challenge.specs.Challenge.{readChallenge}
-use Rattle.negotiate.specs.declared.Reading.{Reading as NegotiateReading}
-use Rattle.negotiate.specs.declared.Reading.the-variants.{Taken as NegotiateTaken, Refused as NegotiateRefused}
-use Rattle.negotiate.specs.Negotiate.{readNegotiate}
-use Rattle.nl_auth.specs.declared.Reading.{Reading as NlReading}
-use Rattle.nl_auth.specs.declared.Reading.the-variants.{Taken as NlTaken, Refused as NlRefused}
-use Rattle.nl_auth.specs.NlAuth.{readNlAuth}
+use Rattle.read_challenge.specs.declared.Reading.{Reading as ChallengeReading}
+use Rattle.read_challenge.specs.declared.Reading.the-variants.{Taken as ChallengeTaken, Refused as ChallengeRefused}
+use Rattle.read_challenge.specs.Challenge.{readChallenge}
+use Rattle.read_negotiate.specs.declared.Reading.{Reading as NegotiateReading}
+use Rattle.read_negotiate.specs.declared.Reading.the-variants.{Taken as NegotiateTaken, Refused as NegotiateRefused}
+use Rattle.read_negotiate.specs.Negotiate.{readNegotiate}
+use Rattle.read_nl_auth.specs.declared.Reading.{Reading as NlReading}
+use Rattle.read_nl_auth.specs.declared.Reading.the-variants.{Taken as NlTaken, Refused as NlRefused}
+use Rattle.read_nl_auth.specs.NlAuth.{readNlAuth}
 use Rattle.demands.specs.NlAuth.{NlFails, NlFirst}
 use Rattle.demands.specs.Order.{First}
 use Rattle.demands.specs.Message.{Fails, negotiate, authenticate, challenge, Nonempty, lenOf, offsetOf}

@@ -9,16 +9,16 @@ use mathlib.Core.Logic.{_⊎_}
 use mathlib.Core.List.{List, [], _∷_, _++_}
 use lib.ListN.{length, getD, take, drop, replicate}
 use lib.Seq.{sets}
-use Rattle.text.specs.Text.{ascii}
+use Rattle.wire.specs.Text.{ascii}
 use Rattle.wire.specs.Number.{u16At, u32At}
-use Rattle.word.specs.Digits.{hex, decimal}
-use Rattle.dns_name.specs.Rfc1035.{NameAt}
-use Rattle.negotiate.specs.Negotiate.{readNegotiate}
-use Rattle.challenge.specs.Challenge.{readChallenge}
-use Rattle.authenticate.specs.Authenticate.{readAuthenticate}
+use Rattle.line_words.specs.Digits.{hex, decimal}
+use Rattle.read_dns_name.specs.Rfc1035.{NameAt}
+use Rattle.read_negotiate.specs.Negotiate.{readNegotiate}
+use Rattle.read_challenge.specs.Challenge.{readChallenge}
+use Rattle.read_authenticate.specs.Authenticate.{readAuthenticate}
 use Rattle.target_info.specs.declared.Timestamp.{Timestamp}
 use Rattle.target_info.specs.declared.Timestamp.the-variants.{Time, Nothing}
-use Rattle.nl_auth.specs.NlAuth.{readNlAuth}
+use Rattle.read_nl_auth.specs.NlAuth.{readNlAuth}
 use Rattle.line.specs.Line.{negotiateLine, challengeLine, authenticateLine, nlAuthLine}
 use Rattle.demands.specs.Answering.{TimestampIs}
 use Rattle.demands.specs.Bench.{p1}

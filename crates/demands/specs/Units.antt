@@ -5,13 +5,13 @@ use mathlib.Core.List.{List}
 use lib.ListN.{length, getD}
 use Rattle.wire.specs.Number.{u16At}
 use Rattle.field.specs.Field.{fieldBytes}
-use Rattle.word.specs.Name.{numbers16}
-use Rattle.authenticate.specs.declared.Authenticate.{Authenticate}
-use Rattle.authenticate.specs.declared.Reading.the-variants.{Taken}
-use Rattle.authenticate.specs.Authenticate.{readAuthenticate}
-use Rattle.challenge.specs.declared.Challenge.{Challenge}
-use Rattle.challenge.specs.declared.Reading.the-variants.{Taken as ChallengeTaken}
-use Rattle.challenge.specs.Challenge.{readChallenge}
+use Rattle.line_words.specs.Name.{numbers16}
+use Rattle.read_authenticate.specs.declared.Authenticate.{Authenticate}
+use Rattle.read_authenticate.specs.declared.Reading.the-variants.{Taken}
+use Rattle.read_authenticate.specs.Authenticate.{readAuthenticate}
+use Rattle.read_challenge.specs.declared.Challenge.{Challenge}
+use Rattle.read_challenge.specs.declared.Reading.the-variants.{Taken as ChallengeTaken}
+use Rattle.read_challenge.specs.Challenge.{readChallenge}
 use Rattle.demands.specs.Message.{authenticate, challenge, Set}
 
 -- the units of these bytes are all of them, two by two: unit k is the 16-bit number at 2k, the low byte first

@@ -13,11 +13,11 @@ use Rattle.negotiate_flags.specs.declared.NegotiateFlags.{NegotiateFlags}
 use Rattle.place.specs.declared.written.Written.{Written}
 use Rattle.place.specs.declared.written.Written.the-variants.{Length, Refused}
 use Rattle.place.specs.Written.{bytesAnswer, bytesAfter}
-use Rattle.authenticate_writing.specs.Writing.{writeAnswer}
-use Rattle.negotiate_writing.specs.Writing.{writeAnswer as negotiateAnswer}
+use Rattle.write_authenticate.specs.Writing.{writeAnswer}
+use Rattle.write_negotiate.specs.Writing.{writeAnswer as negotiateAnswer}
 use Rattle.nl_auth_flags.specs.declared.NlAuthFlags.{NlAuthFlags}
 use Rattle.nl_auth_flags.specs.Flags.{known}
-use Rattle.nl_auth_writing.specs.Writing.{requestAnswer, responseAnswer}
+use Rattle.write_nl_auth.specs.Writing.{requestAnswer, responseAnswer}
 use Rattle.demands.specs.Order.{FirstIn, check}
 use Rattle.demands.specs.Message.{FlagSet}
 use Rattle.demands.specs.DnsName.{LabelsFail, codedSize}

@@ -7,34 +7,33 @@ ghost use lib.ListN.{length};
 ghost use Rattle.place.specs.Written.{bytesAnswer, bytesAfter};
 ghost use Rattle.av_pairs.specs.AvPairs.{checkPairs, countPairs, askAt};
 ghost use Rattle.target_info.specs.TargetInfo.{findPair};
-ghost use Rattle.authenticate.specs.Authenticate.{readAuthenticate};
+ghost use Rattle.read_authenticate.specs.Authenticate.{readAuthenticate};
 ghost use Rattle.batch.specs.Batch.{bufferVerdict, filled};
-ghost use Rattle.authenticate_writing.specs.Writing.{writeAnswer, writeOut};
-ghost use Rattle.challenge.specs.Challenge.{readChallenge, timestampOf, serverNamesOf};
-ghost use Rattle.negotiate.specs.Negotiate.{readNegotiate};
-ghost use Rattle.negotiate_writing.specs.Writing.{writeAnswer as negotiateAnswer, writeOut as negotiateOut};
-ghost use Rattle.nl_auth.specs.NlAuth.{readNlAuth};
+ghost use Rattle.write_authenticate.specs.Writing.{writeAnswer, writeOut};
+ghost use Rattle.read_challenge.specs.Challenge.{readChallenge, timestampOf, serverNamesOf};
+ghost use Rattle.read_negotiate.specs.Negotiate.{readNegotiate};
+ghost use Rattle.write_negotiate.specs.Writing.{writeAnswer as negotiateAnswer, writeOut as negotiateOut};
+ghost use Rattle.read_nl_auth.specs.NlAuth.{readNlAuth};
 ghost use Rattle.nl_auth_flags.specs.Flags.{known};
-ghost use Rattle.nl_auth_text.specs.StringText.{textAnswer, textAfter};
-ghost use Rattle.nl_auth_writing.specs.Writing.{requestAnswer, requestOut, responseAnswer, responseOut};
+ghost use Rattle.line_nl_string.specs.StringText.{textAnswer, textAfter};
+ghost use Rattle.write_nl_auth.specs.Writing.{requestAnswer, requestOut, responseAnswer, responseOut};
 ghost use Rattle.http_header.specs.HttpHeader.{exportAnswer, exportOut, importAnswer, importOut};
 ghost use Rattle.explain.specs.Explain.{explanation};
 ghost use Rattle.line.specs.Line.{negotiateLine, authenticateLine, challengeLine, nlAuthLine, ntlmLine, shownLine};
 ghost use Rattle.respond.specs.Answer.{respondAnswer, respondOut};
 ghost use Rattle.respond.specs.Decision.{defaults, benchSettings, oldServerSettings, decisionOn};
 ghost use Rattle.respond.specs.Domain.{domainToSend};
-ghost use Rattle.response_pairs.specs.ResponsePairs.{writeAnswer as pairsAnswer, writeOut as pairsOut};
-ghost use Rattle.canonical.specs.Canonical.{canonicalAnswer, canonicalOut};
+ghost use Rattle.write_response_pairs.specs.ResponsePairs.{writeAnswer as pairsAnswer, writeOut as pairsOut};
+ghost use Rattle.write_canonical.specs.Canonical.{canonicalAnswer, canonicalOut};
 ghost use Rattle.c_number.specs.Number.{verdictNumber, writtenNumber};
 ghost use Rattle.c_number.specs.Outcome.{callNumber, callOut, twoArrayNumber, twoArrayOut, twoArrayBytes};
-ghost use Rattle.c_reading.specs.FieldCopy.{fieldCopyAnswer, fieldCopyOut};
-ghost use Rattle.c_reading.specs.Numbers.{negotiateOutcome, authenticateOutcome, challengeOutcome, timestampOutcome, serverNamesOutcome, nlAuthOutcome};
+ghost use Rattle.c_read.specs.FieldCopy.{fieldCopyAnswer, fieldCopyOut};
+ghost use Rattle.c_read.specs.Numbers.{negotiateOutcome, authenticateOutcome, challengeOutcome, timestampOutcome, serverNamesOutcome, nlAuthOutcome};
 ghost use Rattle.c_mic.specs.Numbers.{micOutcome, checkingNumber};
 ghost use Rattle.mic.specs.Mic.{workOut, checkMic};
 ghost use Rattle.c_pairs.specs.Pairs.{countOutcome, searchOutcome, askedOutcome};
 ghost use Rattle.c_respond.specs.Settings.{settingsOf};
 ghost use Rattle.c_respond.specs.Respond.{decidedOutcome, respondedNumber, respondedNumbers, respondedOut};
-use authenticate_writing::write;
 use batch::Entry;
 use c_number::copy;
 use c_number::line_number;
@@ -43,16 +42,17 @@ use c_number::written_number;
 use c_respond::settings::SettingsBits;
 use negotiate_flags::NegotiateFlags;
 use nl_auth_flags::NlAuthFlags;
-use nl_auth_writing::write_request;
-use nl_auth_writing::write_response;
 use respond::domain::domain_to_send;
+use write_authenticate::write;
+use write_nl_auth::write_request;
+use write_nl_auth::write_response;
 
 #[no_mangle]
 pub extern "C" fn dialtable_read_negotiate(msg: &[u8], numbers: &mut [u64]) -> u64
     ensures answer { λ r. ⌜ r ≡ callNumber 7 (negotiateOutcome (readNegotiate (now (msg .entry)))) (length (now (numbers .entry))) ⌝ }
     ensures content { λ _. ⌜ now (numbers .exit) ≡ callOut 7 (negotiateOutcome (readNegotiate (now (msg .entry)))) (now (numbers .entry)) ⌝ }
 {
-    c_reading::read_negotiate(msg, numbers)
+    c_read::read_negotiate(msg, numbers)
 }
 
 #[no_mangle]
@@ -65,7 +65,7 @@ pub extern "C" fn dialtable_read_authenticate(
     ensures content { λ _. ⌜ now (numbers .exit) ≡ twoArrayOut 20 16 (authenticateOutcome (readAuthenticate (now (msg .entry)) .reading)) (now (numbers .entry)) (length (now (mic .entry))) ⌝ }
     ensures beside { λ _. ⌜ now (mic .exit) ≡ twoArrayBytes 20 16 (authenticateOutcome (readAuthenticate (now (msg .entry)) .reading)) (readAuthenticate (now (msg .entry)) .mic) (length (now (numbers .entry))) (now (mic .entry)) ⌝ }
 {
-    c_reading::read_authenticate(msg, numbers, mic)
+    c_read::read_authenticate(msg, numbers, mic)
 }
 
 #[no_mangle]
@@ -74,7 +74,7 @@ pub extern "C" fn dialtable_read_challenge(msg: &[u8], numbers: &mut [u64], out:
     ensures content { λ _. ⌜ now (numbers .exit) ≡ twoArrayOut 7 8 (challengeOutcome (readChallenge (now (msg .entry)) .reading)) (now (numbers .entry)) (length (now (out .entry))) ⌝ }
     ensures beside { λ _. ⌜ now (out .exit) ≡ twoArrayBytes 7 8 (challengeOutcome (readChallenge (now (msg .entry)) .reading)) (readChallenge (now (msg .entry)) .«server_challenge») (length (now (numbers .entry))) (now (out .entry)) ⌝ }
 {
-    c_reading::read_challenge(msg, numbers, out)
+    c_read::read_challenge(msg, numbers, out)
 }
 
 #[no_mangle]
@@ -82,7 +82,7 @@ pub extern "C" fn dialtable_read_timestamp(msg: &[u8], numbers: &mut [u64]) -> u
     ensures answer { λ r. ⌜ r ≡ callNumber 2 (timestampOutcome (timestampOf (now (msg .entry)))) (length (now (numbers .entry))) ⌝ }
     ensures content { λ _. ⌜ now (numbers .exit) ≡ callOut 2 (timestampOutcome (timestampOf (now (msg .entry)))) (now (numbers .entry)) ⌝ }
 {
-    c_reading::read_timestamp(msg, numbers)
+    c_read::read_timestamp(msg, numbers)
 }
 
 #[no_mangle]
@@ -90,7 +90,7 @@ pub extern "C" fn dialtable_read_server_names(msg: &[u8], numbers: &mut [u64]) -
     ensures answer { λ r. ⌜ r ≡ callNumber 2 (serverNamesOutcome (serverNamesOf (now (msg .entry)))) (length (now (numbers .entry))) ⌝ }
     ensures content { λ _. ⌜ now (numbers .exit) ≡ callOut 2 (serverNamesOutcome (serverNamesOf (now (msg .entry)))) (now (numbers .entry)) ⌝ }
 {
-    c_reading::read_server_names(msg, numbers)
+    c_read::read_server_names(msg, numbers)
 }
 
 #[no_mangle]
@@ -98,7 +98,7 @@ pub extern "C" fn dialtable_read_nl_auth(msg: &[u8], numbers: &mut [u64]) -> u64
     ensures answer { λ r. ⌜ r ≡ callNumber 15 (nlAuthOutcome (readNlAuth (now (msg .entry)))) (length (now (numbers .entry))) ⌝ }
     ensures content { λ _. ⌜ now (numbers .exit) ≡ callOut 15 (nlAuthOutcome (readNlAuth (now (msg .entry)))) (now (numbers .entry)) ⌝ }
 {
-    c_reading::read_nl_auth(msg, numbers)
+    c_read::read_nl_auth(msg, numbers)
 }
 
 #[no_mangle]
@@ -316,7 +316,7 @@ pub extern "C" fn dialtable_nl_auth_name(msg: &[u8], which: u32, out: &mut [u8])
     ensures answer { λ r. ⌜ r ≡ writtenNumber (textAnswer (now (msg .entry)) which (now (out .entry))) ⌝ }
     ensures content { λ _. ⌜ now (out .exit) ≡ textAfter (now (msg .entry)) which (now (out .entry)) ⌝ }
 {
-    written_number(nl_auth_text::write(msg, which, out))
+    written_number(line_nl_string::write(msg, which, out))
 }
 
 #[no_mangle]
@@ -363,7 +363,7 @@ pub extern "C" fn dialtable_field_bytes(msg: &[u8], offset: u32, len: u16, out: 
     ensures answer { λ r. ⌜ r ≡ writtenNumber (fieldCopyAnswer (now (msg .entry)) (record { offset = offset; len = len; «max_len» = 0 }) (now (out .entry))) ⌝ }
     ensures content { λ _. ⌜ now (out .exit) ≡ fieldCopyOut (now (msg .entry)) (record { offset = offset; len = len; «max_len» = 0 }) (now (out .entry)) ⌝ }
 {
-    c_reading::field_bytes(msg, offset, len, out)
+    c_read::field_bytes(msg, offset, len, out)
 }
 
 #[no_mangle]
@@ -390,7 +390,7 @@ pub extern "C" fn dialtable_write_negotiate(
     ensures content { λ _. ⌜ now (out .exit) ≡ negotiateOut (now (out .entry)) (record { bits = flags }) (now (version .entry)) (now (domain .entry)) (now (workstation .entry)) ⌝ }
 {
     let flags = NegotiateFlags { bits: flags };
-    written_number(negotiate_writing::write(out, flags, version, domain, workstation))
+    written_number(write_negotiate::write(out, flags, version, domain, workstation))
 }
 
 #[no_mangle]
@@ -460,7 +460,13 @@ pub extern "C" fn dialtable_write_response_pairs(
     ensures answer { λ r. ⌜ r ≡ writtenNumber (pairsAnswer (length (now (out .entry))) (now (challenge .entry)) (now («target_name» .entry)) (not (eqb unverified 0)) (now (bindings .entry))) ⌝ }
     ensures content { λ _. ⌜ now (out .exit) ≡ pairsOut (now (out .entry)) (now (challenge .entry)) (now («target_name» .entry)) (not (eqb unverified 0)) (now (bindings .entry)) ⌝ }
 {
-    written_number(response_pairs::write(out, challenge, target_name, !(unverified == 0), bindings))
+    written_number(write_response_pairs::write(
+        out,
+        challenge,
+        target_name,
+        !(unverified == 0),
+        bindings,
+    ))
 }
 
 #[no_mangle]
@@ -476,7 +482,7 @@ pub extern "C" fn dialtable_canonical_authenticate(out: &mut [u8], msg: &[u8]) -
     ensures answer { λ r. ⌜ r ≡ writtenNumber (canonicalAnswer (length (now (out .entry))) (now (msg .entry))) ⌝ }
     ensures content { λ _. ⌜ now (out .exit) ≡ canonicalOut (now (out .entry)) (now (msg .entry)) ⌝ }
 {
-    written_number(canonical::write(out, msg))
+    written_number(write_canonical::write(out, msg))
 }
 
 #[no_mangle]

@@ -16,9 +16,9 @@ use Rattle.field.specs.Field.{noField}
 use Rattle.head.specs.declared.Kind.{Kind}
 use Rattle.head.specs.declared.Kind.the-variants.{Negotiate, Challenge, Authenticate}
 use Rattle.head.specs.Head.{flagsAt, kindOf}
-use Rattle.negotiate.specs.Negotiate as N
-use Rattle.challenge.specs.Challenge as C
-use Rattle.authenticate.specs.Authenticate as A
+use Rattle.read_negotiate.specs.Negotiate as N
+use Rattle.read_challenge.specs.Challenge as C
+use Rattle.read_authenticate.specs.Authenticate as A
 use Rattle.verdict.specs.Verdict.{readAs, hasPair}
 use Rattle.line_checks.specs.declared.Figures.{Figures}
 use Rattle.line_checks.specs.Checks.{checkLines}

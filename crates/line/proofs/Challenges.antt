@@ -3,13 +3,13 @@ use Prim.Native.Nat.{ℕ}
 use mathlib.Core.Path.{_≡_, sym, _∙_}
 use mathlib.Core.List.{List}
 use Rattle.wire.specs.declared.refusal.Refusal.{Refusal}
-use Rattle.challenge.specs.declared.FullChallenge.{FullChallenge}
-use Rattle.challenge.specs.declared.FullReading.{FullReading}
-use Rattle.challenge.specs.declared.FullReading.the-variants.{Taken, Refused}
-use Rattle.challenge.specs.Challenge.{readChallenge, fullReadingOf}
-use Rattle.challenge.proofs.Laws.{full-reads, refusal-alone}
+use Rattle.read_challenge.specs.declared.FullChallenge.{FullChallenge}
+use Rattle.read_challenge.specs.declared.FullReading.{FullReading}
+use Rattle.read_challenge.specs.declared.FullReading.the-variants.{Taken, Refused}
+use Rattle.read_challenge.specs.Challenge.{readChallenge, fullReadingOf}
+use Rattle.read_challenge.proofs.Laws.{full-reads, refusal-alone}
 use Rattle.line_refused.specs.Refused.{refusedLine}
-use Rattle.line_chal.specs.Chal.{chalText}
+use Rattle.line_challenge.specs.Chal.{chalText}
 use Rattle.line.specs.Line.{challengeLine}
 
 module _ (s : List ℕ) (r : FullReading) (p : r ≡ fullReadingOf s) where

@@ -3,22 +3,22 @@ use mathlib.Core.Path.{_≡_, sym, _∙_}
 use Prim.Native.Nat.{ℕ}
 use mathlib.Core.List.{List}
 use Rattle.wire.specs.declared.refusal.Refusal.{Refusal}
-use Rattle.authenticate.specs.declared.Answer.{Answer}
-use Rattle.authenticate.specs.declared.Authenticate.{Authenticate}
-use Rattle.authenticate.specs.declared.Reading.the-variants.{Taken, Refused as NotTaken}
-use Rattle.authenticate.specs.Authenticate.{readAuthenticate}
-use Rattle.nl_auth.specs.declared.NlAuth.{NlAuth}
-use Rattle.nl_auth.specs.declared.Reading.{Reading as NlReading}
-use Rattle.nl_auth.specs.declared.Reading.the-variants.{Taken as NlTaken, Refused as NlRefused}
-use Rattle.nl_auth.specs.NlAuth.{readNlAuth}
-use Rattle.negotiate.specs.declared.Negotiate.{Negotiate}
-use Rattle.negotiate.specs.declared.Reading.{Reading as NegoReading}
-use Rattle.negotiate.specs.declared.Reading.the-variants.{Taken as NegoTaken, Refused as NegoRefused}
-use Rattle.negotiate.specs.Negotiate.{readNegotiate}
+use Rattle.read_authenticate.specs.declared.Answer.{Answer}
+use Rattle.read_authenticate.specs.declared.Authenticate.{Authenticate}
+use Rattle.read_authenticate.specs.declared.Reading.the-variants.{Taken, Refused as NotTaken}
+use Rattle.read_authenticate.specs.Authenticate.{readAuthenticate}
+use Rattle.read_nl_auth.specs.declared.NlAuth.{NlAuth}
+use Rattle.read_nl_auth.specs.declared.Reading.{Reading as NlReading}
+use Rattle.read_nl_auth.specs.declared.Reading.the-variants.{Taken as NlTaken, Refused as NlRefused}
+use Rattle.read_nl_auth.specs.NlAuth.{readNlAuth}
+use Rattle.read_negotiate.specs.declared.Negotiate.{Negotiate}
+use Rattle.read_negotiate.specs.declared.Reading.{Reading as NegoReading}
+use Rattle.read_negotiate.specs.declared.Reading.the-variants.{Taken as NegoTaken, Refused as NegoRefused}
+use Rattle.read_negotiate.specs.Negotiate.{readNegotiate}
 use Rattle.line_refused.specs.Refused.{refusedLine}
-use Rattle.line_nego.specs.Nego.{negoText}
-use Rattle.line_auth.specs.Auth.{authText}
-use Rattle.line_nl.specs.Nl.{nlText}
+use Rattle.line_negotiate.specs.Nego.{negoText}
+use Rattle.line_authenticate.specs.Auth.{authText}
+use Rattle.line_nl_auth.specs.Nl.{nlText}
 use Rattle.line.specs.Line.{negotiateLine, authenticateLine, nlAuthLine}
 
 -- AUTHENTICATE's

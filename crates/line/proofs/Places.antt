@@ -17,31 +17,31 @@ use Rattle.field.specs.declared.Field.{Field}
 use Rattle.field.specs.Field.{endsInside, beginsAfter, evenName}
 use Rattle.negotiate_flags.specs.declared.NegotiateFlags.{NegotiateFlags}
 use Rattle.negotiate_flags.specs.Flags.{unicode}
-use Rattle.nl_auth.specs.declared.Reading.{Reading as NlReading}
-use Rattle.nl_auth.specs.declared.Reading.the-variants.{Refused as NlRefused}
-use Rattle.nl_auth.specs.NlAuth.{readNlAuth}
-use Rattle.nl_auth.proofs.Places.{nl-auth-placeless}
+use Rattle.read_nl_auth.specs.declared.Reading.{Reading as NlReading}
+use Rattle.read_nl_auth.specs.declared.Reading.the-variants.{Refused as NlRefused}
+use Rattle.read_nl_auth.specs.NlAuth.{readNlAuth}
+use Rattle.read_nl_auth.proofs.Places.{nl-auth-placeless}
 use Rattle.head.proofs.Heads.{of-flags-read}
-use Rattle.negotiate.specs.declared.Fields.{Fields as NegoFields}
-use Rattle.negotiate.specs.declared.Reading.{Reading as NegoReading}
-use Rattle.negotiate.specs.declared.Reading.the-variants.{Taken as NegoTaken, Refused as NegoRefused}
-use Rattle.negotiate.specs.Negotiate as N
-use Rattle.negotiate.specs.Negotiate.{readNegotiate}
-use Rattle.authenticate.specs.declared.Answer.{Answer}
-use Rattle.authenticate.specs.declared.Fields.{Fields as AuthFields}
-use Rattle.authenticate.specs.declared.Reading.{Reading as AuthReading}
-use Rattle.authenticate.specs.declared.Reading.the-variants.{Taken as AuthTaken, Refused as AuthRefused}
-use Rattle.authenticate.specs.Authenticate as A
-use Rattle.authenticate.specs.Authenticate.{readAuthenticate}
-use Rattle.challenge.specs.declared.Challenge.{Challenge}
-use Rattle.challenge.specs.declared.Fields.{Fields as ChalFields}
-use Rattle.challenge.specs.declared.FullReading.{FullReading}
-use Rattle.challenge.specs.declared.FullReading.the-variants.{Refused as FullRefused}
-use Rattle.challenge.specs.declared.Reading.{Reading as ChalReading}
-use Rattle.challenge.specs.declared.Reading.the-variants.{Taken as ChalTaken, Refused as ChalRefused}
-use Rattle.challenge.specs.Challenge as C
-use Rattle.challenge.specs.Challenge.{fieldsOf, onTaken, infoOf, inMessage, checkInfo, readingOf, fullReadingOf}
-use Rattle.challenge.proofs.Laws.{inside-message, fields-short, refusal-alone}
+use Rattle.read_negotiate.specs.declared.Fields.{Fields as NegoFields}
+use Rattle.read_negotiate.specs.declared.Reading.{Reading as NegoReading}
+use Rattle.read_negotiate.specs.declared.Reading.the-variants.{Taken as NegoTaken, Refused as NegoRefused}
+use Rattle.read_negotiate.specs.Negotiate as N
+use Rattle.read_negotiate.specs.Negotiate.{readNegotiate}
+use Rattle.read_authenticate.specs.declared.Answer.{Answer}
+use Rattle.read_authenticate.specs.declared.Fields.{Fields as AuthFields}
+use Rattle.read_authenticate.specs.declared.Reading.{Reading as AuthReading}
+use Rattle.read_authenticate.specs.declared.Reading.the-variants.{Taken as AuthTaken, Refused as AuthRefused}
+use Rattle.read_authenticate.specs.Authenticate as A
+use Rattle.read_authenticate.specs.Authenticate.{readAuthenticate}
+use Rattle.read_challenge.specs.declared.Challenge.{Challenge}
+use Rattle.read_challenge.specs.declared.Fields.{Fields as ChalFields}
+use Rattle.read_challenge.specs.declared.FullReading.{FullReading}
+use Rattle.read_challenge.specs.declared.FullReading.the-variants.{Refused as FullRefused}
+use Rattle.read_challenge.specs.declared.Reading.{Reading as ChalReading}
+use Rattle.read_challenge.specs.declared.Reading.the-variants.{Taken as ChalTaken, Refused as ChalRefused}
+use Rattle.read_challenge.specs.Challenge as C
+use Rattle.read_challenge.specs.Challenge.{fieldsOf, onTaken, infoOf, inMessage, checkInfo, readingOf, fullReadingOf}
+use Rattle.read_challenge.proofs.Laws.{inside-message, fields-short, refusal-alone}
 
 -- a place that is 0 has 32 bits
 short : (e : Refusal) → placeOf e ≡ 0 → placeOf e < 2 ^ 32

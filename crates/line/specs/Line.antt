@@ -9,23 +9,23 @@ use Rattle.place.specs.Written.{roomHolds}
 use Rattle.head.specs.declared.Kind.{Kind}
 use Rattle.head.specs.declared.Kind.the-variants.{Negotiate, Challenge, Authenticate}
 use Rattle.head.specs.Head.{kindOf}
-use Rattle.negotiate.specs.declared.Reading.{Reading as NegoReading}
-use Rattle.negotiate.specs.declared.Reading.the-variants.{Taken as NegoTaken, Refused as NegoRefused}
-use Rattle.negotiate.specs.Negotiate.{readNegotiate}
-use Rattle.authenticate.specs.declared.Reading.{Reading}
-use Rattle.authenticate.specs.declared.Reading.the-variants.{Taken, Refused}
-use Rattle.authenticate.specs.Authenticate.{readAuthenticate}
-use Rattle.nl_auth.specs.declared.Reading.{Reading as NlReading}
-use Rattle.nl_auth.specs.declared.Reading.the-variants.{Taken as NlTaken, Refused as NlRefused}
-use Rattle.nl_auth.specs.NlAuth.{readNlAuth}
-use Rattle.challenge.specs.declared.Reading.{Reading as ChalReading}
-use Rattle.challenge.specs.declared.Reading.the-variants.{Taken as ChalTaken, Refused as ChalRefused}
-use Rattle.challenge.specs.Challenge.{readChallenge}
+use Rattle.read_negotiate.specs.declared.Reading.{Reading as NegoReading}
+use Rattle.read_negotiate.specs.declared.Reading.the-variants.{Taken as NegoTaken, Refused as NegoRefused}
+use Rattle.read_negotiate.specs.Negotiate.{readNegotiate}
+use Rattle.read_authenticate.specs.declared.Reading.{Reading}
+use Rattle.read_authenticate.specs.declared.Reading.the-variants.{Taken, Refused}
+use Rattle.read_authenticate.specs.Authenticate.{readAuthenticate}
+use Rattle.read_nl_auth.specs.declared.Reading.{Reading as NlReading}
+use Rattle.read_nl_auth.specs.declared.Reading.the-variants.{Taken as NlTaken, Refused as NlRefused}
+use Rattle.read_nl_auth.specs.NlAuth.{readNlAuth}
+use Rattle.read_challenge.specs.declared.Reading.{Reading as ChalReading}
+use Rattle.read_challenge.specs.declared.Reading.the-variants.{Taken as ChalTaken, Refused as ChalRefused}
+use Rattle.read_challenge.specs.Challenge.{readChallenge}
 use Rattle.line_refused.specs.Refused.{refusedLine}
-use Rattle.line_nego.specs.Nego.{negoText}
-use Rattle.line_auth.specs.Auth.{authText}
-use Rattle.line_nl.specs.Nl.{nlText}
-use Rattle.line_chal.specs.Chal.{chalText}
+use Rattle.line_negotiate.specs.Nego.{negoText}
+use Rattle.line_authenticate.specs.Auth.{authText}
+use Rattle.line_nl_auth.specs.Nl.{nlText}
+use Rattle.line_challenge.specs.Chal.{chalText}
 
 -- the line of a message read as AUTHENTICATE
 abbrev pub authLine : List ℕ → Reading → List ℕ

@@ -2,13 +2,13 @@
 ghost use mathlib.Core.Path.{_≡_};
 ghost use Rattle.line.specs.Line.{negotiateLine, authenticateLine, nlAuthLine, challengeLine, ntlmLine, shownLine};
 ghost use Rattle.place.specs.Written.{bytesAnswer, bytesAfter};
-use authenticate::Reading;
-use challenge::FullReading;
 use head::Kind;
 use head::kind_of;
-use negotiate::Reading as NegotiateReading;
-use nl_auth::Reading as NlAuthReading;
 use place::written::Written;
+use read_authenticate::Reading;
+use read_challenge::FullReading;
+use read_negotiate::Reading as NegotiateReading;
+use read_nl_auth::Reading as NlAuthReading;
 use wire::refusal::Refusal;
 
 // The line of a message read as AUTHENTICATE, at the start of the output: its length, or 33 with the output as it was.
@@ -16,10 +16,10 @@ pub fn authenticate_line(msg: &[u8], out: &mut [u8]) -> Written
     ensures answer { λ r. ⌜ r ≡ bytesAnswer (authenticateLine (now (msg .entry))) (now (out .entry)) ⌝ }
     ensures content { λ _. ⌜ now (out .exit) ≡ bytesAfter (authenticateLine (now (msg .entry))) (now (out .entry)) ⌝ }
 {
-    let answer = authenticate::read(msg);
+    let answer = read_authenticate::read(msg);
     let reading = answer.reading;
     match reading {
-        Reading::Taken(a) => line_auth::write(out, msg, a),
+        Reading::Taken(a) => line_authenticate::write(out, msg, a),
         Reading::Refused(e) => line_refused::write(out, e),
     }
 }
@@ -29,9 +29,9 @@ pub fn nl_auth_line(msg: &[u8], out: &mut [u8]) -> Written
     ensures answer { λ r. ⌜ r ≡ bytesAnswer (nlAuthLine (now (msg .entry))) (now (out .entry)) ⌝ }
     ensures content { λ _. ⌜ now (out .exit) ≡ bytesAfter (nlAuthLine (now (msg .entry))) (now (out .entry)) ⌝ }
 {
-    let reading = nl_auth::read(msg);
+    let reading = read_nl_auth::read(msg);
     match reading {
-        NlAuthReading::Taken(m) => line_nl::write(out, msg, m),
+        NlAuthReading::Taken(m) => line_nl_auth::write(out, msg, m),
         NlAuthReading::Refused(e) => line_refused::write(out, e),
     }
 }
@@ -41,8 +41,8 @@ pub fn challenge_line(msg: &[u8], out: &mut [u8]) -> Written
     ensures answer { λ r. ⌜ r ≡ bytesAnswer (challengeLine (now (msg .entry))) (now (out .entry)) ⌝ }
     ensures content { λ _. ⌜ now (out .exit) ≡ bytesAfter (challengeLine (now (msg .entry))) (now (out .entry)) ⌝ }
 {
-    match challenge::read_full(msg) {
-        FullReading::Taken(f) => line_chal::write(out, msg, f),
+    match read_challenge::read_full(msg) {
+        FullReading::Taken(f) => line_challenge::write(out, msg, f),
         FullReading::Refused(e) => line_refused::write(out, e),
     }
 }
@@ -52,8 +52,8 @@ pub fn negotiate_line(msg: &[u8], out: &mut [u8]) -> Written
     ensures answer { λ r. ⌜ r ≡ bytesAnswer (negotiateLine (now (msg .entry))) (now (out .entry)) ⌝ }
     ensures content { λ _. ⌜ now (out .exit) ≡ bytesAfter (negotiateLine (now (msg .entry))) (now (out .entry)) ⌝ }
 {
-    match negotiate::read(msg) {
-        NegotiateReading::Taken(m) => line_nego::write(out, msg, m),
+    match read_negotiate::read(msg) {
+        NegotiateReading::Taken(m) => line_negotiate::write(out, msg, m),
         NegotiateReading::Refused(e) => line_refused::write(out, e),
     }
 }

@@ -3,8 +3,8 @@ use Prim.Native.Nat.{ℕ}
 use mathlib.Core.Bool.{Bool, true, _&&_, not, cond}
 use mathlib.Core.List.{List, [], _∷_, _++_}
 use lib.Dec.{leb, eqb}
-use Rattle.text.specs.Text.{ascii}
-use Rattle.word.specs.Words.{numberWord, lineEnd}
+use Rattle.wire.specs.Text.{ascii}
+use Rattle.line_words.specs.Words.{numberWord, lineEnd}
 use Rattle.line_checks.specs.declared.Figures.{Figures}
 
 -- check D held, check D not reached: the number and a word

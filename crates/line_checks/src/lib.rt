@@ -4,16 +4,16 @@ ghost use Prim.Native.Nat.{_-_};
 ghost use lib.ListN.{length};
 ghost use Rattle.place.specs.Place.{Wrote};
 ghost use Rattle.place.specs.Written.{roomHolds, bytesAnswer, bytesAfter};
-ghost use Rattle.word.specs.Words.{Room};
+ghost use Rattle.line_words.specs.Words.{Room};
 ghost use Rattle.line_checks.specs.Checks.{plainWords, aboutPair, pairText, pairWords, messageWords, figureWords, failedWords, wordsOf, lineOf, checkLines};
 use field::Field;
+use line_words::words::put_number_word;
+use line_words::words::room_after_number_word;
 use place::Place;
 use place::written::Written;
 use place::written::room_after;
 use wire::check::Checked;
 use wire::refusal::Refusal;
-use word::words::put_number_word;
-use word::words::room_after_number_word;
 
 // What the print shows of the check that failed; all are 0 where none did.
 pub struct Figures {

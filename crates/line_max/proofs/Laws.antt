@@ -6,7 +6,7 @@ use lib.ListN.{length}
 use borrow.Author.Tests.{eq-eqb, ne-eqb}
 use Rattle.field.specs.declared.Field.{Field}
 use Rattle.place.specs.Place.{Wrote}
-use Rattle.word.specs.Words.{Room}
+use Rattle.line_words.specs.Words.{Room}
 use Rattle.line_max.specs.Max.{maxDigit, maxWord, maxEnd}
 
 module _ (f : Field) where

@@ -3,9 +3,9 @@ use Prim.Native.Nat.{ℕ}
 use mathlib.Core.Bool.{cond}
 use mathlib.Core.List.{List, [], _∷_, _++_}
 use lib.Dec.{eqb}
-use Rattle.text.specs.Text.{ascii}
+use Rattle.wire.specs.Text.{ascii}
 use Rattle.field.specs.declared.Field.{Field}
-use Rattle.word.specs.Words.{lineEnd}
+use Rattle.line_words.specs.Words.{lineEnd}
 
 -- 1 where MaxLen is unlike Len, else 0; a field that doesn't count has 0 for both, so that its digit is 0
 unfoldable pub maxDigit : Field → ℕ

@@ -3,7 +3,7 @@ ghost use mathlib.Core.Path.{_≡_};
 ghost use mathlib.Core.List.{[], _∷_};
 ghost use lib.ListN.{length};
 ghost use Rattle.place.specs.Place.{Wrote};
-ghost use Rattle.word.specs.Words.{Room};
+ghost use Rattle.line_words.specs.Words.{Room};
 ghost use Rattle.line_max.specs.Max.{maxDigit, maxEnd};
 use field::Field;
 use place::Place;

@@ -3,13 +3,13 @@ use Prim.Native.Nat.{ℕ, _+_, _-_, _^_, _<_}
 use mathlib.Core.Path.{_≡_, ap, _∙_}
 use native.Mathlib.Omega.{arith}
 use lib.ListN.{length, length-append}
-use Rattle.text.specs.Text.{ascii}
+use Rattle.wire.specs.Text.{ascii}
 use Rattle.wire.specs.declared.check.Checked.{Checked}
 use Rattle.wire.specs.declared.refusal.Refusal.{Refusal}
 use Rattle.wire.specs.Refusal.{numberOf, fieldOf, placeOf}
 use Rattle.place.specs.Written.{roomHolds}
-use Rattle.word.specs.Words.{numberWord}
-use Rattle.word.proofs.Calls.{of-left}
+use Rattle.line_words.specs.Words.{numberWord}
+use Rattle.line_words.proofs.Calls.{of-left}
 use Rattle.line_refused.specs.Refused.{refusedEnd, refusedText, refusedLine}
 
 -- the line, by the number, the field and the place that it was asked for

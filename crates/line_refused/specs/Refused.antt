@@ -1,10 +1,10 @@
 -- The line of a refusal: refused D field=D at=D
 use Prim.Native.Nat.{ℕ}
 use mathlib.Core.List.{List, _++_}
-use Rattle.text.specs.Text.{ascii}
+use Rattle.wire.specs.Text.{ascii}
 use Rattle.wire.specs.declared.refusal.Refusal.{Refusal}
 use Rattle.wire.specs.Refusal.{numberOf, fieldOf, placeOf}
-use Rattle.word.specs.Words.{numberWord, lineEnd}
+use Rattle.line_words.specs.Words.{numberWord, lineEnd}
 
 unfoldable pub refusedEnd : ℕ → List ℕ
 refusedEnd place = numberWord (ascii " at=") place ++ lineEnd

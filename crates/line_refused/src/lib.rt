@@ -4,16 +4,16 @@ ghost use Prim.Native.Nat.{_<_, _^_};
 ghost use lib.ListN.{length};
 ghost use Rattle.wire.specs.Refusal.{placeOf};
 ghost use Rattle.place.specs.Place.{Wrote};
-ghost use Rattle.word.specs.Words.{Room};
+ghost use Rattle.line_words.specs.Words.{Room};
 ghost use Rattle.line_refused.specs.Refused.{refusedEnd, refusedText, refusedLine};
 ghost use Rattle.place.specs.Written.{roomHolds, bytesAnswer, bytesAfter};
+use line_words::words::put_number_word;
+use line_words::words::room_after_number_word;
 use place::Place;
 use place::written::Written;
 use place::written::room_holds;
 use wire::check::Checked;
 use wire::refusal::Refusal;
-use word::words::put_number_word;
-use word::words::room_after_number_word;
 
 // Check 33, by what the words leave of the room: the line's end is still to come.
 fn fits(number: u8, field: u8, place: u32, room: usize) -> Checked

@@ -2,7 +2,7 @@
 use Prim.Native.Nat.{ℕ}
 use mathlib.Core.Path.{_≡_, refl}
 use mathlib.Core.List.{List, [], _∷_}
-use Rattle.text.specs.Text.{ascii}
+use Rattle.wire.specs.Text.{ascii}
 use Rattle.md5.specs.Words.{sines}
 use Rattle.md5.specs.Block.{step, steppedBy, turns, round, added, blockTaken}
 use Rattle.md5.specs.Digest.{padding, start, wordBytes, md5}

@@ -20,22 +20,22 @@ use Rattle.head.specs.declared.Head.the-variants.{Flags, Refused as Stopped}
 use Rattle.head.specs.Head.{readHead, onFlags}
 use Rattle.head.proofs.Heads.{head-short}
 use Rattle.negotiate_flags.specs.declared.NegotiateFlags.{NegotiateFlags}
-use Rattle.negotiate.specs.declared.Reading.{Reading as NegotiateReading}
-use Rattle.negotiate.specs.declared.Reading.the-variants.{Taken as NegotiateTaken, Refused as NegotiateRefused}
-use Rattle.negotiate.specs.Negotiate.{layout as negotiateLayout, readNegotiate}
-use Rattle.challenge.specs.declared.Answer.{Answer as ChallengeAnswer}
-use Rattle.challenge.specs.declared.Challenge.{Challenge}
-use Rattle.challenge.specs.declared.Reading.{Reading as ChallengeReading}
-use Rattle.challenge.specs.declared.Reading.the-variants.{Taken as ChallengeTaken, Refused as ChallengeRefused}
-use Rattle.challenge.specs.Challenge.{fieldsOf, onTaken, readingOf, readChallenge}
-use Rattle.challenge.proofs.Laws.{fields-short}
-use Rattle.authenticate.specs.declared.Answer.{Answer as AuthenticateAnswer}
-use Rattle.authenticate.specs.declared.Authenticate.{Authenticate}
-use Rattle.authenticate.specs.declared.Reading.{Reading as AuthenticateReading}
-use Rattle.authenticate.specs.declared.Reading.the-variants.{Taken as AuthenticateTaken, Refused as AuthenticateRefused}
-use Rattle.authenticate.specs.Authenticate.{layout as authenticateLayout, readingOf as authenticateReadingOf, readAuthenticate}
-use Rattle.authenticate.proofs.Laws.{taken-by}
-use Rattle.authenticate.proofs.Mic.{mic-room}
+use Rattle.read_negotiate.specs.declared.Reading.{Reading as NegotiateReading}
+use Rattle.read_negotiate.specs.declared.Reading.the-variants.{Taken as NegotiateTaken, Refused as NegotiateRefused}
+use Rattle.read_negotiate.specs.Negotiate.{layout as negotiateLayout, readNegotiate}
+use Rattle.read_challenge.specs.declared.Answer.{Answer as ChallengeAnswer}
+use Rattle.read_challenge.specs.declared.Challenge.{Challenge}
+use Rattle.read_challenge.specs.declared.Reading.{Reading as ChallengeReading}
+use Rattle.read_challenge.specs.declared.Reading.the-variants.{Taken as ChallengeTaken, Refused as ChallengeRefused}
+use Rattle.read_challenge.specs.Challenge.{fieldsOf, onTaken, readingOf, readChallenge}
+use Rattle.read_challenge.proofs.Laws.{fields-short}
+use Rattle.read_authenticate.specs.declared.Answer.{Answer as AuthenticateAnswer}
+use Rattle.read_authenticate.specs.declared.Authenticate.{Authenticate}
+use Rattle.read_authenticate.specs.declared.Reading.{Reading as AuthenticateReading}
+use Rattle.read_authenticate.specs.declared.Reading.the-variants.{Taken as AuthenticateTaken, Refused as AuthenticateRefused}
+use Rattle.read_authenticate.specs.Authenticate.{layout as authenticateLayout, readingOf as authenticateReadingOf, readAuthenticate}
+use Rattle.read_authenticate.proofs.Laws.{taken-by}
+use Rattle.read_authenticate.proofs.Mic.{mic-room}
 use Rattle.md5.specs.State.{taken}
 use Rattle.md5.specs.declared.state.State.{State}
 use Rattle.md5.proofs.States.{taken-append}

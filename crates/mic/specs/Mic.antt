@@ -13,9 +13,9 @@ use Rattle.wire.specs.Number.{standsAt}
 use Rattle.head.specs.declared.Kind.the-variants.{Negotiate, Challenge}
 use Rattle.verdict.specs.Verdict.{readAs}
 use Rattle.hmac_md5.specs.Hmac.{hmac}
-use Rattle.authenticate.specs.declared.Reading.{Reading as AuthenticateReading}
-use Rattle.authenticate.specs.declared.Reading.the-variants.{Taken as AuthenticateTaken, Refused as AuthenticateRefused}
-use Rattle.authenticate.specs.Authenticate.{readAuthenticate}
+use Rattle.read_authenticate.specs.declared.Reading.{Reading as AuthenticateReading}
+use Rattle.read_authenticate.specs.declared.Reading.the-variants.{Taken as AuthenticateTaken, Refused as AuthenticateRefused}
+use Rattle.read_authenticate.specs.Authenticate.{readAuthenticate}
 use Rattle.mic.specs.declared.Worked.{Worked}
 use Rattle.mic.specs.declared.Checking.{Checking}
 use Rattle.mic.specs.declared.Checking.the-variants.{Compared, Refused}

@@ -6,7 +6,7 @@ ghost use Rattle.wire.specs.declared.check.Verdict.the-variants.{Clear, Refused
 ghost use Rattle.wire.specs.declared.refusal.Refusal.the-variants.{NoMic};
 ghost use Rattle.wire.specs.Check.{checked, after};
 ghost use Rattle.wire.specs.Number.{standsAt};
-ghost use Rattle.authenticate.specs.Authenticate.{readAuthenticate};
+ghost use Rattle.read_authenticate.specs.Authenticate.{readAuthenticate};
 ghost use Rattle.md5.specs.State.{taken};
 ghost use Rattle.hmac_md5.specs.Hmac.{begun};
 ghost use Rattle.mic.specs.Mic.{zeroed, micOf, authenticateVerdict, checkMessages, workOut, checkMic};
@@ -34,10 +34,10 @@ pub enum Checking {
 fn authenticate_verdict(auth: &[u8]) -> Verdict
     ensures { λ r. ⌜ r ≡ authenticateVerdict (readAuthenticate (now (auth .entry)) .reading) ⌝ }
 {
-    let reading = authenticate::read(auth).reading;
+    let reading = read_authenticate::read(auth).reading;
     match reading {
-        authenticate::Reading::Taken(a) => mic_verdict(a.mic_present),
-        authenticate::Reading::Refused(e) => Verdict::Refused(e),
+        read_authenticate::Reading::Taken(a) => mic_verdict(a.mic_present),
+        read_authenticate::Reading::Refused(e) => Verdict::Refused(e),
     }
 }
 

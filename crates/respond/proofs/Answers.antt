@@ -11,7 +11,7 @@ use Rattle.wire.specs.declared.refusal.Refusal.{Refusal}
 use Rattle.negotiate_flags.specs.Flags.{sign, seal, keyExch}
 use Rattle.place.specs.declared.written.Written.{Written}
 use Rattle.place.specs.declared.written.Written.the-variants.{Length, Refused as Unwritten}
-use Rattle.authenticate_writing.specs.Writing.{writeAnswer, writeOut}
+use Rattle.write_authenticate.specs.Writing.{writeAnswer, writeOut}
 use Rattle.target_info.specs.declared.Timestamp.{Timestamp}
 use Rattle.respond.specs.declared.decision.Settings.{Settings}
 use Rattle.respond.specs.declared.decision.Decision.{Decision}

@@ -11,15 +11,15 @@ use Rattle.wire.specs.declared.refusal.Refusal.the-variants.{TooLong}
 use Rattle.wire.specs.Check.{checked}
 use Rattle.negotiate_flags.specs.Flags.{negotiate128}
 use Rattle.wire.proofs.Laws.{chain}
-use Rattle.challenge.specs.declared.Challenge.{Challenge}
-use Rattle.challenge.specs.declared.Reading.{Reading}
-use Rattle.challenge.specs.declared.Reading.the-variants.{Taken}
-use Rattle.challenge.specs.declared.FullChallenge.{FullChallenge}
-use Rattle.challenge.specs.declared.FullReading.{FullReading}
-use Rattle.challenge.specs.declared.FullReading.the-variants.{Taken as FullTaken, Refused as Unread}
-use Rattle.challenge.proofs.Laws.{full-reads, full-holds, refusal-alone, full-there}
+use Rattle.read_challenge.specs.declared.Challenge.{Challenge}
+use Rattle.read_challenge.specs.declared.Reading.{Reading}
+use Rattle.read_challenge.specs.declared.Reading.the-variants.{Taken}
+use Rattle.read_challenge.specs.declared.FullChallenge.{FullChallenge}
+use Rattle.read_challenge.specs.declared.FullReading.{FullReading}
+use Rattle.read_challenge.specs.declared.FullReading.the-variants.{Taken as FullTaken, Refused as Unread}
+use Rattle.read_challenge.proofs.Laws.{full-reads, full-holds, refusal-alone, full-there}
 use Rattle.target_info.specs.declared.ServerNames.{ServerNames}
-use Rattle.challenge.specs.Challenge.{readingOf, infoOf, fullReadingOf, fullRefusal}
+use Rattle.read_challenge.specs.Challenge.{readingOf, infoOf, fullReadingOf, fullRefusal}
 use Rattle.target_info.specs.TargetInfo.{timestampIn, serverNamesIn}
 use Rattle.respond.specs.declared.decision.Settings.{Settings}
 use Rattle.respond.specs.declared.decision.Decision.{Decision}

@@ -21,11 +21,11 @@ use Rattle.av_pairs.specs.declared.Found.the-variants.{At, Nothing}
 use Rattle.av_pairs.specs.AvPairs.{pairsOf}
 use Rattle.target_info.specs.TargetInfo.{firstBy, firstPair}
 use Rattle.target_info.proofs.Searches.{found-in}
-use Rattle.challenge.specs.declared.Answer.{Answer}
-use Rattle.challenge.specs.declared.Challenge.{Challenge}
-use Rattle.challenge.specs.declared.Reading.{Reading}
-use Rattle.challenge.specs.declared.Reading.the-variants.{Taken, Refused}
-use Rattle.challenge.specs.Challenge.{readingOf, readChallenge, onTaken, infoOf}
+use Rattle.read_challenge.specs.declared.Answer.{Answer}
+use Rattle.read_challenge.specs.declared.Challenge.{Challenge}
+use Rattle.read_challenge.specs.declared.Reading.{Reading}
+use Rattle.read_challenge.specs.declared.Reading.the-variants.{Taken, Refused}
+use Rattle.read_challenge.specs.Challenge.{readingOf, readChallenge, onTaken, infoOf}
 use Rattle.respond.specs.Domain.{Part, ownPart, valuePart, onFound, domainPart, domainToSend, lent, Within}
 
 -- ---- the search for pair 2

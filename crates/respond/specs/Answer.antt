@@ -7,7 +7,7 @@ use Rattle.negotiate_flags.specs.declared.NegotiateFlags.{NegotiateFlags}
 use Rattle.negotiate_flags.specs.Flags.{sign, seal, keyExch}
 use Rattle.place.specs.declared.written.Written.{Written}
 use Rattle.place.specs.declared.written.Written.the-variants.{Length, Refused as Unwritten}
-use Rattle.authenticate_writing.specs.Writing.{writeAnswer, writeOut}
+use Rattle.write_authenticate.specs.Writing.{writeAnswer, writeOut}
 use Rattle.target_info.specs.declared.Timestamp.{Timestamp}
 use Rattle.target_info.specs.declared.Timestamp.the-variants.{Time, Nothing}
 use Rattle.respond.specs.declared.decision.Settings.{Settings}

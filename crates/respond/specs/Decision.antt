@@ -10,7 +10,7 @@ use Rattle.av_id.specs.AvId.{implies}
 use Rattle.wire.specs.Check.{checked, after}
 use Rattle.negotiate_flags.specs.Flags.{negotiate128}
 use Rattle.target_info.specs.declared.ServerNames.{ServerNames}
-use Rattle.challenge.specs.Challenge.{readingOf, onTaken, infoOf}
+use Rattle.read_challenge.specs.Challenge.{readingOf, onTaken, infoOf}
 use Rattle.target_info.specs.TargetInfo.{timestampIn, serverNamesIn}
 use Rattle.respond.specs.declared.decision.Settings.{Settings}
 use Rattle.respond.specs.declared.decision.Decision.{Decision}

@@ -12,8 +12,8 @@ use Rattle.av_pairs.specs.declared.Found.{Found}
 use Rattle.av_pairs.specs.declared.Found.the-variants.{At, Nothing}
 use Rattle.av_pairs.specs.AvPairs.{pairsOf, valueIn}
 use Rattle.target_info.specs.TargetInfo.{firstBy}
-use Rattle.challenge.specs.declared.Challenge.{Challenge}
-use Rattle.challenge.specs.Challenge.{readingOf, onTaken, infoOf}
+use Rattle.read_challenge.specs.declared.Challenge.{Challenge}
+use Rattle.read_challenge.specs.Challenge.{readingOf, onTaken, infoOf}
 
 -- a part of one of the two that are lent: whether it is the challenge, where the part starts in it, and its bytes
 pub record Part : Type 0 where

@@ -8,14 +8,14 @@ use crate::decision::Decision;
 use crate::decision::Settings;
 use crate::decision::decide_on;
 use crate::domain::domain_of;
-use authenticate_writing::write;
-use challenge::FullReading;
-use challenge::read_full;
 use negotiate_flags::NegotiateFlags;
 use place::written::Written;
+use read_challenge::FullReading;
+use read_challenge::read_full;
 use target_info::Timestamp;
 use wire::number::fill;
 use wire::refusal::Refusal;
+use write_authenticate::write;
 
 pub struct Answer {
     pub len: usize,

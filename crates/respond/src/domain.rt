@@ -2,14 +2,14 @@
 ghost use mathlib.Core.Path.{_≡_};
 ghost use lib.ListN.{length};
 ghost use Rattle.field.specs.Field.{PartAt};
-ghost use Rattle.challenge.specs.declared.Reading.the-variants.{Taken};
-ghost use Rattle.challenge.specs.Challenge.{readingOf};
+ghost use Rattle.read_challenge.specs.declared.Reading.the-variants.{Taken};
+ghost use Rattle.read_challenge.specs.Challenge.{readingOf};
 ghost use Rattle.respond.specs.Domain.{domainPart, domainToSend, lent, Within};
 use av_id::AvId;
 use av_pairs::Found;
-use challenge::Challenge;
-use challenge::Reading;
-use challenge::read;
+use read_challenge::Challenge;
+use read_challenge::Reading;
+use read_challenge::read;
 use target_info::first_pair;
 
 // The domain to send, for a challenge that was taken as `c`.

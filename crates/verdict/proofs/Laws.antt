@@ -6,19 +6,19 @@ use Rattle.wire.specs.declared.check.Verdict.the-variants.{Clear, Refused as No
 use Rattle.wire.specs.declared.refusal.Refusal.{Refusal}
 use Rattle.head.specs.declared.Kind.{Kind}
 use Rattle.head.specs.declared.Kind.the-variants.{Negotiate, Challenge, Authenticate}
-use Rattle.negotiate.specs.declared.Negotiate.{Negotiate as NegoMessage}
-use Rattle.negotiate.specs.declared.Reading.{Reading as NegoReading}
-use Rattle.negotiate.specs.declared.Reading.the-variants.{Taken as NegoTaken, Refused as NegoRefused}
-use Rattle.negotiate.specs.Negotiate.{readNegotiate}
-use Rattle.challenge.specs.declared.FullChallenge.{FullChallenge}
-use Rattle.challenge.specs.declared.FullReading.{FullReading}
-use Rattle.challenge.specs.declared.FullReading.the-variants.{Taken as ChalTaken, Refused as ChalRefused}
-use Rattle.challenge.specs.Challenge.{readChallenge, fullReadingOf}
-use Rattle.challenge.proofs.Laws.{full-reads, refusal-alone}
-use Rattle.authenticate.specs.declared.Answer.{Answer as AuthAnswer}
-use Rattle.authenticate.specs.declared.Authenticate.{Authenticate as AuthMessage}
-use Rattle.authenticate.specs.declared.Reading.the-variants.{Taken as AuthTaken, Refused as AuthRefused}
-use Rattle.authenticate.specs.Authenticate.{readAuthenticate}
+use Rattle.read_negotiate.specs.declared.Negotiate.{Negotiate as NegoMessage}
+use Rattle.read_negotiate.specs.declared.Reading.{Reading as NegoReading}
+use Rattle.read_negotiate.specs.declared.Reading.the-variants.{Taken as NegoTaken, Refused as NegoRefused}
+use Rattle.read_negotiate.specs.Negotiate.{readNegotiate}
+use Rattle.read_challenge.specs.declared.FullChallenge.{FullChallenge}
+use Rattle.read_challenge.specs.declared.FullReading.{FullReading}
+use Rattle.read_challenge.specs.declared.FullReading.the-variants.{Taken as ChalTaken, Refused as ChalRefused}
+use Rattle.read_challenge.specs.Challenge.{readChallenge, fullReadingOf}
+use Rattle.read_challenge.proofs.Laws.{full-reads, refusal-alone}
+use Rattle.read_authenticate.specs.declared.Answer.{Answer as AuthAnswer}
+use Rattle.read_authenticate.specs.declared.Authenticate.{Authenticate as AuthMessage}
+use Rattle.read_authenticate.specs.declared.Reading.the-variants.{Taken as AuthTaken, Refused as AuthRefused}
+use Rattle.read_authenticate.specs.Authenticate.{readAuthenticate}
 use Rattle.verdict.specs.Verdict.{readAs}
 
 module _ (k : Kind) (s : List ℕ) where

@@ -27,23 +27,23 @@ use Rattle.head.specs.declared.Head.the-variants.{Flags, Refused as Stopped}
 use Rattle.head.specs.declared.Layout.{Layout}
 use Rattle.head.specs.Head.{lengthHolds, fixedPartHolds, signatureHolds, typeHolds, flagsAt, readHead, onFlags}
 use Rattle.head.proofs.Heads.{head-long}
-use Rattle.negotiate.specs.declared.Fields.{Fields as NegoFields}
-use Rattle.negotiate.specs.declared.Reading.{Reading as NegoReading}
-use Rattle.negotiate.specs.declared.Reading.the-variants.{Taken as NegoTaken, Refused as NegoRefused}
-use Rattle.negotiate.specs.Negotiate as N
-use Rattle.negotiate.specs.Negotiate.{readNegotiate}
-use Rattle.authenticate.specs.declared.Fields.{Fields as AuthFields}
-use Rattle.authenticate.specs.declared.Reading.{Reading as AuthReading}
-use Rattle.authenticate.specs.declared.Reading.the-variants.{Taken as AuthTaken, Refused as AuthRefused}
-use Rattle.authenticate.specs.Authenticate as A
-use Rattle.authenticate.specs.Authenticate.{readAuthenticate}
-use Rattle.challenge.specs.declared.Challenge.{Challenge as ChalMessage}
-use Rattle.challenge.specs.declared.Fields.{Fields as ChalFields}
-use Rattle.challenge.specs.declared.Reading.{Reading as ChalReading}
-use Rattle.challenge.specs.declared.Reading.the-variants.{Taken as ChalTaken, Refused as ChalRefused}
-use Rattle.challenge.specs.Challenge as C
-use Rattle.challenge.specs.Challenge.{readChallenge, checkInfo, infoOf, inMessage, onTaken}
-use Rattle.challenge.proofs.Laws.{fields-short}
+use Rattle.read_negotiate.specs.declared.Fields.{Fields as NegoFields}
+use Rattle.read_negotiate.specs.declared.Reading.{Reading as NegoReading}
+use Rattle.read_negotiate.specs.declared.Reading.the-variants.{Taken as NegoTaken, Refused as NegoRefused}
+use Rattle.read_negotiate.specs.Negotiate as N
+use Rattle.read_negotiate.specs.Negotiate.{readNegotiate}
+use Rattle.read_authenticate.specs.declared.Fields.{Fields as AuthFields}
+use Rattle.read_authenticate.specs.declared.Reading.{Reading as AuthReading}
+use Rattle.read_authenticate.specs.declared.Reading.the-variants.{Taken as AuthTaken, Refused as AuthRefused}
+use Rattle.read_authenticate.specs.Authenticate as A
+use Rattle.read_authenticate.specs.Authenticate.{readAuthenticate}
+use Rattle.read_challenge.specs.declared.Challenge.{Challenge as ChalMessage}
+use Rattle.read_challenge.specs.declared.Fields.{Fields as ChalFields}
+use Rattle.read_challenge.specs.declared.Reading.{Reading as ChalReading}
+use Rattle.read_challenge.specs.declared.Reading.the-variants.{Taken as ChalTaken, Refused as ChalRefused}
+use Rattle.read_challenge.specs.Challenge as C
+use Rattle.read_challenge.specs.Challenge.{readChallenge, checkInfo, infoOf, inMessage, onTaken}
+use Rattle.read_challenge.proofs.Laws.{fields-short}
 use Rattle.av_pairs.specs.AvPairs.{checkPairs}
 use Rattle.verdict.specs.Verdict.{negoVerdict, chalVerdict, authVerdict, readAs, placeIn, fixedOf, hasPair, FixedPart, Placed, Known}
 use Rattle.verdict.proofs.Faults.{Fault, past-end, missing, end-pair, pair-size, fault-of, list-inside}

@@ -3,7 +3,7 @@ use borrow.Author.Needs.{needs}
 use Rattle.c_number.proofs.Calls.{fits-from-start}
 use Rattle.c_number.proofs.copy.Statement.{statement}
 use Rattle.c_number.proofs.copy.Tie as tie
-use Rattle.word.proofs.Calls.{no-room, as-it-was, its-length, its-bytes}
+use Rattle.line_words.proofs.Calls.{no-room, as-it-was, its-length, its-bytes}
 
 pub copy-spec : {M : Type 1} → statement M
 copy-spec =

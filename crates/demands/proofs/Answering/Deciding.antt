@@ -16,12 +16,12 @@ use Rattle.av_id.specs.AvId.{isNbComputerName, isNbDomainName}
 use Rattle.av_pairs.specs.AvPairs.{pairsOf, isThere}
 use Rattle.negotiate_flags.specs.Flags.{negotiate128}
 use Rattle.head.specs.Head.{flagsAt}
-use Rattle.challenge.specs.declared.Challenge.{Challenge}
-use Rattle.challenge.specs.declared.Reading.{Reading}
-use Rattle.challenge.specs.declared.Reading.the-variants.{Taken as Read, Refused as Unread}
+use Rattle.read_challenge.specs.declared.Challenge.{Challenge}
+use Rattle.read_challenge.specs.declared.Reading.{Reading}
+use Rattle.read_challenge.specs.declared.Reading.the-variants.{Taken as Read, Refused as Unread}
 use Rattle.target_info.specs.declared.Timestamp.{Timestamp}
 use Rattle.target_info.specs.declared.Timestamp.the-variants.{Time, Nothing}
-use Rattle.challenge.specs.Challenge.{readingOf, readChallenge, onTaken, infoOf}
+use Rattle.read_challenge.specs.Challenge.{readingOf, readChallenge, onTaken, infoOf}
 use Rattle.respond.specs.declared.decision.Decided.{Decided}
 use Rattle.respond.specs.declared.decision.Decided.the-variants.{Taken, Refused}
 use Rattle.respond.specs.declared.decision.Decision.{Decision}

@@ -17,10 +17,10 @@ use Rattle.field.specs.declared.Field.{Field}
 use Rattle.field.specs.Field.{isEmpty, fieldStart}
 use Rattle.head.specs.Head.{flagsAt}
 use Rattle.negotiate_flags.specs.Flags.{unicode}
-use Rattle.challenge.specs.declared.Challenge.{Challenge}
-use Rattle.challenge.specs.declared.Reading.{Reading}
-use Rattle.challenge.specs.declared.Reading.the-variants.{Taken, Refused}
-use Rattle.challenge.specs.Challenge.{fieldsAt, readingOf, readChallenge, onTaken, infoOf}
+use Rattle.read_challenge.specs.declared.Challenge.{Challenge}
+use Rattle.read_challenge.specs.declared.Reading.{Reading}
+use Rattle.read_challenge.specs.declared.Reading.the-variants.{Taken, Refused}
+use Rattle.read_challenge.specs.Challenge.{fieldsAt, readingOf, readChallenge, onTaken, infoOf}
 use Rattle.respond.specs.Domain.{Part, ownPart, valuePart, onFound, domainPart}
 use Rattle.target_info.specs.TargetInfo.{firstBy}
 use Rattle.demands.specs.Message.{challenge, Set, Nonempty, lenOf, offsetOf, Fails}

@@ -6,33 +6,33 @@ use mathlib.Core.List.{List}
 use native.Mathlib.Omega.{arith}
 use lib.Dec.{leb, eqb}
 use lib.ListN.{length, drop, length-append}
-use Rattle.text.specs.Text.{ascii}
+use Rattle.wire.specs.Text.{ascii}
 use Rattle.field.specs.declared.Field.{Field}
 use Rattle.field.specs.Field.{fieldBytes}
 use Rattle.negotiate_flags.specs.Flags.{unicode}
 use Rattle.nl_auth_flags.specs.Flags.{nbDomain, nbComputer, dnsDomain, dnsHost, utf8Computer}
-use Rattle.authenticate.specs.declared.Authenticate.{Authenticate}
-use Rattle.challenge.specs.declared.Challenge.{Challenge}
-use Rattle.negotiate.specs.declared.Negotiate.{Negotiate}
-use Rattle.nl_auth.specs.declared.NlAuth.{NlAuth}
-use Rattle.nl_auth.specs.declared.string.NlString.{NlString}
-use Rattle.nl_auth.specs.NlAuth.{stringBytes, labelsOf}
-use Rattle.nl_auth.proofs.Names.{string-small}
-use Rattle.nl_auth_text.specs.StringText.{oemText, utf8Text}
-use Rattle.dns_name_text.specs.DnsNameText.{nameText as dnsText}
-use Rattle.dns_name_text.proofs.Names.{text-bound}
+use Rattle.read_authenticate.specs.declared.Authenticate.{Authenticate}
+use Rattle.read_challenge.specs.declared.Challenge.{Challenge}
+use Rattle.read_negotiate.specs.declared.Negotiate.{Negotiate}
+use Rattle.read_nl_auth.specs.declared.NlAuth.{NlAuth}
+use Rattle.read_nl_auth.specs.declared.string.NlString.{NlString}
+use Rattle.read_nl_auth.specs.NlAuth.{stringBytes, labelsOf}
+use Rattle.read_nl_auth.proofs.Names.{string-small}
+use Rattle.line_nl_string.specs.StringText.{oemText, utf8Text}
+use Rattle.line_dns_name.specs.DnsNameText.{nameText as dnsText}
+use Rattle.line_dns_name.proofs.Names.{text-bound}
 use Rattle.target_info.specs.declared.Timestamp.{Timestamp}
 use Rattle.target_info.specs.declared.Timestamp.the-variants.{Time, Nothing as NoTime}
-use Rattle.word.specs.Name.{nameText}
-use Rattle.word.specs.Words.{numberWord, nameWord, stringWord, kindWord}
-use Rattle.word.proofs.Labels.{flags-word-size, start-size, mic-size}
-use Rattle.word.proofs.Names.{name-bound, field-small}
-use Rattle.line_auth.specs.Auth.{authNames, authLengths, authEnd, authText}
-use Rattle.line_chal.specs.Chal.{timeWord, chalEnd, chalWords}
-use Rattle.line_chal.proofs.Laws.{time-size}
+use Rattle.line_words.specs.Name.{nameText}
+use Rattle.line_words.specs.Words.{numberWord, nameWord, stringWord, kindWord}
+use Rattle.line_words.proofs.Labels.{flags-word-size, start-size, mic-size}
+use Rattle.line_words.proofs.Names.{name-bound, field-small}
+use Rattle.line_authenticate.specs.Auth.{authNames, authLengths, authEnd, authText}
+use Rattle.line_challenge.specs.Chal.{timeWord, chalEnd, chalWords}
+use Rattle.line_challenge.proofs.Laws.{time-size}
 use Rattle.line_max.proofs.Laws.{two-size, six-size}
-use Rattle.line_nego.specs.Nego.{negoNames, negoText}
-use Rattle.line_nl.specs.Nl.{nlStart, nlOem, nlUtf8, nlText}
+use Rattle.line_negotiate.specs.Nego.{negoNames, negoText}
+use Rattle.line_nl_auth.specs.Nl.{nlStart, nlOem, nlUtf8, nlText}
 
 -- ---- a name
 

@@ -8,7 +8,7 @@ use native.Mathlib.Omega.{arith}
 use lib.Dec.{leb, eqb}
 use lib.ListN.{length, length-append}
 use borrow.Author.Tests.{leb-true, leb-false, eqb-true, eqb-false}
-use Rattle.text.specs.Text.{ascii}
+use Rattle.wire.specs.Text.{ascii}
 use Rattle.wire.specs.declared.check.Checked.{Checked}
 use Rattle.wire.specs.declared.check.Checked.the-variants.{Held, Failed}
 use Rattle.wire.specs.declared.refusal.Refusal.{Refusal}
@@ -19,38 +19,38 @@ use Rattle.wire.specs.Refusal.{numberOf, fieldOf, placeOf}
 use Rattle.place.specs.Written.{roomHolds}
 use Rattle.field.specs.declared.Field.{Field}
 use Rattle.negotiate_flags.specs.Flags.{unicode}
-use Rattle.authenticate.specs.declared.Authenticate.{Authenticate}
-use Rattle.authenticate.specs.declared.Reading.{Reading}
-use Rattle.authenticate.specs.declared.Reading.the-variants.{Taken, Refused}
-use Rattle.authenticate.specs.Authenticate.{readAuthenticate}
+use Rattle.read_authenticate.specs.declared.Authenticate.{Authenticate}
+use Rattle.read_authenticate.specs.declared.Reading.{Reading}
+use Rattle.read_authenticate.specs.declared.Reading.the-variants.{Taken, Refused}
+use Rattle.read_authenticate.specs.Authenticate.{readAuthenticate}
 use Rattle.av_pairs.specs.AvPairs.{pairsOf}
 use Rattle.av_pairs.proofs.Walks.{few-pairs}
-use Rattle.challenge.specs.declared.Challenge.{Challenge}
-use Rattle.challenge.specs.declared.Reading.{Reading as ChallengeReading}
-use Rattle.challenge.specs.declared.Reading.the-variants.{Taken as ChallengeTaken, Refused as ChallengeRefused}
-use Rattle.challenge.specs.Challenge.{infoOf, readChallenge}
+use Rattle.read_challenge.specs.declared.Challenge.{Challenge}
+use Rattle.read_challenge.specs.declared.Reading.{Reading as ChallengeReading}
+use Rattle.read_challenge.specs.declared.Reading.the-variants.{Taken as ChallengeTaken, Refused as ChallengeRefused}
+use Rattle.read_challenge.specs.Challenge.{infoOf, readChallenge}
 use Rattle.head.specs.declared.Kind.{Kind}
 use Rattle.head.specs.declared.Kind.the-variants.{Negotiate as AsNegotiate, Challenge as AsChallenge, Authenticate as AsAuthenticate}
 use Rattle.head.specs.Head.{kindOf}
-use Rattle.negotiate.specs.declared.Negotiate.{Negotiate}
-use Rattle.negotiate.specs.declared.Reading.{Reading as NegotiateReading}
-use Rattle.negotiate.specs.declared.Reading.the-variants.{Taken as NegotiateTaken, Refused as NegotiateRefused}
-use Rattle.negotiate.specs.Negotiate.{readNegotiate}
-use Rattle.nl_auth.specs.declared.NlAuth.{NlAuth}
-use Rattle.nl_auth.specs.declared.Reading.{Reading as NlReading}
-use Rattle.nl_auth.specs.declared.Reading.the-variants.{Taken as NlTaken, Refused as NlRefused}
-use Rattle.nl_auth.specs.declared.string.NlString.{NlString}
-use Rattle.nl_auth.specs.NlAuth.{noString, readNlAuth}
-use Rattle.word.specs.Digits.{decimal}
-use Rattle.word.specs.Words.{numberWord}
-use Rattle.word.proofs.Names.{field-small}
-use Rattle.word.proofs.Numbers.{decimal-small}
-use Rattle.line_auth.specs.Auth.{authLengths}
+use Rattle.read_negotiate.specs.declared.Negotiate.{Negotiate}
+use Rattle.read_negotiate.specs.declared.Reading.{Reading as NegotiateReading}
+use Rattle.read_negotiate.specs.declared.Reading.the-variants.{Taken as NegotiateTaken, Refused as NegotiateRefused}
+use Rattle.read_negotiate.specs.Negotiate.{readNegotiate}
+use Rattle.read_nl_auth.specs.declared.NlAuth.{NlAuth}
+use Rattle.read_nl_auth.specs.declared.Reading.{Reading as NlReading}
+use Rattle.read_nl_auth.specs.declared.Reading.the-variants.{Taken as NlTaken, Refused as NlRefused}
+use Rattle.read_nl_auth.specs.declared.string.NlString.{NlString}
+use Rattle.read_nl_auth.specs.NlAuth.{noString, readNlAuth}
+use Rattle.line_words.specs.Digits.{decimal}
+use Rattle.line_words.specs.Words.{numberWord}
+use Rattle.line_words.proofs.Names.{field-small}
+use Rattle.line_words.proofs.Numbers.{decimal-small}
+use Rattle.line_authenticate.specs.Auth.{authLengths}
 use Rattle.line_refused.specs.Refused.{refusedEnd, refusedText, refusedLine}
 use Rattle.line.proofs.Places as place
 use Rattle.line.specs.Line.{negoLine, negotiateLine, authLine, authenticateLine, chalLine, challengeLine, nlLine, nlAuthLine, lineAs, ntlmLine, shownLine}
 use Rattle.target_info.specs.TargetInfo.{timestampIn}
-use Rattle.line_chal.specs.Chal.{chalWords, chalText}
+use Rattle.line_challenge.specs.Chal.{chalWords, chalText}
 use Rattle.demands.proofs.TakenExactly.Places.{place-in-message}
 use Rattle.demands.specs.Answers.{negotiate-line, authenticate-line, challenge-line, nl-auth-line, ntlm-line, ntlm-program-line, nl-auth-program-line, LineShort}
 use Rattle.demands.specs.Message.{Format, negotiate, authenticate, challenge}

@@ -14,17 +14,17 @@ use Rattle.wire.specs.declared.refusal.Refusal.the-variants.{PairMissing, No128
 use Rattle.wire.specs.Check.{checked, after, onClear}
 use Rattle.wire.specs.Number.{u16At}
 use Rattle.wire.proofs.Places.{moved-number, of-after}
-use Rattle.challenge.specs.declared.Challenge.{Challenge}
+use Rattle.read_challenge.specs.declared.Challenge.{Challenge}
 use Rattle.wire.specs.Refusal.{numberOf, fieldOf}
 use Rattle.place.specs.declared.written.Written.{Written}
 use Rattle.place.specs.declared.written.Written.the-variants.{Length, Refused as Unwritten}
 use Rattle.place.specs.Written.{sizeHolds as sizeToHold, roomHolds, answered, bytesHold, bytesAnswer}
 use Rattle.negotiate_flags.specs.declared.NegotiateFlags.{NegotiateFlags}
 use Rattle.negotiate_flags.specs.Flags.{unicode, charsetHolds}
-use Rattle.authenticate.specs.declared.Reading.{Reading}
-use Rattle.authenticate.specs.declared.Reading.the-variants.{Taken, Refused}
-use Rattle.authenticate.specs.Authenticate.{readAuthenticate}
-use Rattle.authenticate_writing.specs.Writing.{authenticateBytes, evenToWrite, checkNamesToWrite, keyHolds, sizeToWrite, checkToWrite, writeAnswer}
+use Rattle.read_authenticate.specs.declared.Reading.{Reading}
+use Rattle.read_authenticate.specs.declared.Reading.the-variants.{Taken, Refused}
+use Rattle.read_authenticate.specs.Authenticate.{readAuthenticate}
+use Rattle.write_authenticate.specs.Writing.{authenticateBytes, evenToWrite, checkNamesToWrite, keyHolds, sizeToWrite, checkToWrite, writeAnswer}
 use Rattle.av_id.specs.declared.AvId.{AvId}
 use Rattle.av_id.specs.AvId.{isEnd}
 use Rattle.av_pairs.specs.declared.Count.the-variants.{Pairs, Refused as Uncounted}
@@ -32,28 +32,28 @@ use Rattle.target_info.specs.declared.Search.the-variants.{Done, Refused as Uns
 use Rattle.av_pairs.specs.declared.Step.{Step}
 use Rattle.av_pairs.specs.declared.Step.the-variants.{Pair, End, Refused as Faulty}
 use Rattle.av_pairs.specs.AvPairs.{left, pairThere, endPairHolds, valueInside, sizeHolds, pairOf, idAt, stepAt, pairsOf, checkPairs, countPairs, askAt}
-use Rattle.challenge.specs.declared.Reading.{Reading as ChallengeReading}
-use Rattle.challenge.specs.declared.Reading.the-variants.{Taken as ChallengeTaken, Refused as ChallengeRefused}
-use Rattle.challenge.specs.declared.ServerNamesReading.the-variants.{Taken as NamesTaken, Refused as NamesRefused}
-use Rattle.challenge.specs.declared.TimestampReading.the-variants.{Taken as TimeTaken, Refused as TimeRefused}
-use Rattle.challenge.specs.Challenge.{fieldsOf, onTaken, infoOf, inMessage, checkInfo, readingOf, readChallenge, timestampOf, serverNamesOf}
-use Rattle.negotiate.specs.declared.Reading.{Reading as NegotiateReading}
-use Rattle.negotiate.specs.declared.Reading.the-variants.{Taken as NegotiateTaken, Refused as NegotiateRefused}
-use Rattle.negotiate.specs.Negotiate.{readNegotiate}
-use Rattle.negotiate_writing.specs.Writing.{negotiateBytes, sizeToWrite as negotiateSize, checkToWrite as negotiateChecks, writeAnswer as negotiateAnswer}
-use Rattle.nl_auth.specs.declared.Reading.{Reading as NlReading}
-use Rattle.nl_auth.specs.declared.Reading.the-variants.{Taken as NlTaken, Refused as NlRefused}
-use Rattle.nl_auth.specs.NlAuth.{readNlAuth}
+use Rattle.read_challenge.specs.declared.Reading.{Reading as ChallengeReading}
+use Rattle.read_challenge.specs.declared.Reading.the-variants.{Taken as ChallengeTaken, Refused as ChallengeRefused}
+use Rattle.read_challenge.specs.declared.ServerNamesReading.the-variants.{Taken as NamesTaken, Refused as NamesRefused}
+use Rattle.read_challenge.specs.declared.TimestampReading.the-variants.{Taken as TimeTaken, Refused as TimeRefused}
+use Rattle.read_challenge.specs.Challenge.{fieldsOf, onTaken, infoOf, inMessage, checkInfo, readingOf, readChallenge, timestampOf, serverNamesOf}
+use Rattle.read_negotiate.specs.declared.Reading.{Reading as NegotiateReading}
+use Rattle.read_negotiate.specs.declared.Reading.the-variants.{Taken as NegotiateTaken, Refused as NegotiateRefused}
+use Rattle.read_negotiate.specs.Negotiate.{readNegotiate}
+use Rattle.write_negotiate.specs.Writing.{negotiateBytes, sizeToWrite as negotiateSize, checkToWrite as negotiateChecks, writeAnswer as negotiateAnswer}
+use Rattle.read_nl_auth.specs.declared.Reading.{Reading as NlReading}
+use Rattle.read_nl_auth.specs.declared.Reading.the-variants.{Taken as NlTaken, Refused as NlRefused}
+use Rattle.read_nl_auth.specs.NlAuth.{readNlAuth}
 use Rattle.nl_auth_flags.specs.declared.NlAuthFlags.{NlAuthFlags}
 use Rattle.nl_auth_flags.specs.Flags.{nbDomain, nbComputer, dnsDomain, dnsHost, utf8Computer, known, stringsHold}
-use Rattle.nl_auth_writing.specs.Writing.{requestBytes, responseBytes, noZero, checkZeros, labelsUnder, checkLabels, codedUnder, checkCoded, checkNames, checkRequest, requestAnswer, responseAnswer}
+use Rattle.write_nl_auth.specs.Writing.{requestBytes, responseBytes, noZero, checkZeros, labelsUnder, checkLabels, codedUnder, checkCoded, checkNames, checkRequest, requestAnswer, responseAnswer}
 use Rattle.respond.specs.declared.decision.Decided.{Decided}
 use Rattle.respond.specs.declared.decision.Decided.the-variants.{Taken as Decides, Refused as Declines}
 use Rattle.respond.specs.declared.decision.Settings.{Settings}
 use Rattle.respond.specs.Decision.{decisionOn, strengthHolds, serverNamesHold}
-use Rattle.response_pairs.specs.ResponsePairs.{evenName, checkList, listFor, listAnswer, writeAnswer as pairsAnswer}
+use Rattle.write_response_pairs.specs.ResponsePairs.{evenName, checkList, listFor, listAnswer, writeAnswer as pairsAnswer}
 use Rattle.c_number.specs.Outcome.{Outcome, numbers, refused}
-use Rattle.c_reading.specs.Numbers.{negotiateOutcome, authenticateOutcome, challengeOutcome, timestampOutcome, serverNamesOutcome, nlAuthOutcome}
+use Rattle.c_read.specs.Numbers.{negotiateOutcome, authenticateOutcome, challengeOutcome, timestampOutcome, serverNamesOutcome, nlAuthOutcome}
 use Rattle.c_pairs.specs.Pairs.{countOutcome, searchOutcome, stepOutcome}
 use Rattle.c_respond.specs.Settings.{settingsOf}
 use Rattle.c_respond.specs.Respond.{decidedOutcome}

@@ -14,8 +14,8 @@ use Rattle.head.specs.declared.Kind.{Kind}
 use Rattle.head.specs.declared.Kind.the-variants.{Negotiate, Challenge, Authenticate}
 use Rattle.head.specs.Head.{signatureHolds, readHead}
 use Rattle.av_pairs.specs.AvPairs.{checkPairs, stepAt, pairOf, left}
-use Rattle.challenge.specs.Challenge.{fieldsAt as challengeFieldsAt, checkEnds as challengeEnds, checkBegins as challengeBegins, checkNames as challengeNames, checkFields as challengeChecks, fieldsOf, checkInfo, readingOf as challengeReadingOf, readChallenge}
-use Rattle.authenticate.specs.Authenticate.{fieldsAt, checkEnds, checkBegins, checkNames, checkShared, checkFields, micPresent, readingOf, readAuthenticate}
+use Rattle.read_challenge.specs.Challenge.{fieldsAt as challengeFieldsAt, checkEnds as challengeEnds, checkBegins as challengeBegins, checkNames as challengeNames, checkFields as challengeChecks, fieldsOf, checkInfo, readingOf as challengeReadingOf, readChallenge}
+use Rattle.read_authenticate.specs.Authenticate.{fieldsAt, checkEnds, checkBegins, checkNames, checkShared, checkFields, micPresent, readingOf, readAuthenticate}
 use Rattle.batch.specs.declared.Entry.{Entry}
 use Rattle.batch.specs.Batch.{answered}
 use Rattle.demands.specs.Bench.{p1}

@@ -15,11 +15,11 @@ use Rattle.wire.specs.Refusal.{numberOf, fieldOf}
 use Rattle.field.specs.declared.Field.{Field}
 use Rattle.field.specs.Field.{fieldBytes}
 use Rattle.place.specs.declared.written.Written.{Written}
-use Rattle.authenticate.specs.declared.Authenticate.{Authenticate}
-use Rattle.authenticate.specs.declared.Reading.{Reading}
-use Rattle.authenticate.specs.declared.Reading.the-variants.{Taken, Refused}
-use Rattle.authenticate.specs.Authenticate.{readAuthenticate}
-use Rattle.canonical.specs.Canonical.{Meaning, meaningOf, zeroVersion, meaningAnswer, canonicalAnswer}
+use Rattle.read_authenticate.specs.declared.Authenticate.{Authenticate}
+use Rattle.read_authenticate.specs.declared.Reading.{Reading}
+use Rattle.read_authenticate.specs.declared.Reading.the-variants.{Taken, Refused}
+use Rattle.read_authenticate.specs.Authenticate.{readAuthenticate}
+use Rattle.write_canonical.specs.Canonical.{Meaning, meaningOf, zeroVersion, meaningAnswer, canonicalAnswer}
 use Rattle.demands.specs.Canonical.{keyLen, canonicalSize, CanonicalFails, canonicalOrder, CanonicalIsWritten, NoOtherRefusal}
 use Rattle.demands.specs.Message.{authenticate, FlagSet, lenOf, Nonempty, Fails}
 use Rattle.demands.specs.Order.{BeforeBy, First, FirstIn, placeIn}

@@ -2,13 +2,13 @@
 use mathlib.Core.Path.{refl}
 use Rattle.field.specs.Field.{fieldAt, fieldBytes}
 use Rattle.head.specs.Head.{signatureHolds, readHead, kindOf}
-use Rattle.word.specs.Digits.{hexDigit, decimalSize, decimal}
-use Rattle.word.specs.Words.{numberWord}
+use Rattle.line_words.specs.Digits.{hexDigit, decimalSize, decimal}
+use Rattle.line_words.specs.Words.{numberWord}
 use Rattle.av_pairs.specs.AvPairs.{checkPairs, stepAt, pairOf, left}
-use Rattle.negotiate.specs.Negotiate as N
-use Rattle.negotiate.specs.Negotiate.{readNegotiate}
-use Rattle.challenge.specs.Challenge.{fieldsAt as challengeFieldsAt, checkEnds as challengeEnds, checkBegins as challengeBegins, checkNames as challengeNames, checkFields as challengeChecks, fieldsOf, checkInfo, readingOf as challengeReadingOf, readChallenge}
-use Rattle.authenticate.specs.Authenticate.{fieldsAt, checkEnds, checkBegins, checkNames, checkShared, checkFields, micPresent, readingOf, readAuthenticate}
+use Rattle.read_negotiate.specs.Negotiate as N
+use Rattle.read_negotiate.specs.Negotiate.{readNegotiate}
+use Rattle.read_challenge.specs.Challenge.{fieldsAt as challengeFieldsAt, checkEnds as challengeEnds, checkBegins as challengeBegins, checkNames as challengeNames, checkFields as challengeChecks, fieldsOf, checkInfo, readingOf as challengeReadingOf, readChallenge}
+use Rattle.read_authenticate.specs.Authenticate.{fieldsAt, checkEnds, checkBegins, checkNames, checkShared, checkFields, micPresent, readingOf, readAuthenticate}
 use Rattle.line_checks.specs.Checks.{plainWords, pairText, pairWords, messageWords, figureWords, failedWords, wordsOf, lineOf, checkLines}
 use Rattle.explain.specs.Explain.{figuresOf, figuresAs, explainedAs, explanation}
 use Rattle.demands.specs.Explained.{ExplainedExample}

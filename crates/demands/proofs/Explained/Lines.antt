@@ -6,8 +6,8 @@ use mathlib.Core.List.{List, [], _∷_, _++_, append-assoc}
 use native.Mathlib.Omega.{arith}
 use lib.Dec.{ltb, eqb}
 use borrow.Author.Tests.{eqb-true, eqb-false, eq-eqb, ne-eqb, ltb-true, ltb-false, lt-ltb, le-ltb}
-use Rattle.text.specs.Text.{ascii}
-use Rattle.word.specs.Words.{numberWord, lineEnd}
+use Rattle.wire.specs.Text.{ascii}
+use Rattle.line_words.specs.Words.{numberWord, lineEnd}
 use Rattle.line_checks.specs.declared.Figures.{Figures as Given}
 use Rattle.line_checks.specs.Checks.{plainWords, pairText, pairWords, messageWords, figureWords, failedWords, wordsOf, lineOf, linesFrom}
 use Rattle.demands.specs.Order.{placeIn}

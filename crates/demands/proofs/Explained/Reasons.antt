@@ -13,7 +13,7 @@ use Rattle.field.specs.Field.{isEmpty}
 use Rattle.head.specs.declared.Kind.{Kind}
 use Rattle.head.specs.declared.Kind.the-variants.{Negotiate, Challenge, Authenticate}
 use Rattle.head.specs.Head.{flagsAt}
-use Rattle.challenge.specs.Challenge as C
+use Rattle.read_challenge.specs.Challenge as C
 use Rattle.demands.specs.Order.{First, placeIn}
 use Rattle.demands.specs.Message.{Format, negotiate, authenticate, challenge, Nonempty, Fails}
 use Rattle.demands.specs.TakenExactly.{InfoBytes, ChallengeFails, in-fields, in-list}

@@ -18,13 +18,13 @@ use Rattle.field.specs.Field.{fieldBytes}
 use Rattle.negotiate_flags.specs.Flags.{unicode, requestTarget, targetInfo}
 use Rattle.head.specs.Head.{flagsAt}
 use Rattle.av_pairs.specs.AvPairs.{checkPairs}
-use Rattle.challenge.specs.declared.Challenge.{Challenge as Message}
-use Rattle.challenge.specs.declared.Fields.{Fields}
-use Rattle.challenge.specs.declared.Reading.{Reading}
-use Rattle.challenge.specs.declared.Reading.the-variants.{Taken, Refused}
-use Rattle.challenge.specs.declared.ServerNamesReading.the-variants.{Taken as NamesTaken, Refused as NamesRefused}
-use Rattle.challenge.specs.declared.TimestampReading.the-variants.{Taken as TimeTaken, Refused as TimeRefused}
-use Rattle.challenge.specs.Challenge.{fieldsAt, checkEnds, checkBegins, checkNames, checkFields, fieldsOf, onTaken, infoOf, inMessage, checkInfo, readingOf, serverChallenge, readChallenge, timestampOf, serverNamesOf}
+use Rattle.read_challenge.specs.declared.Challenge.{Challenge as Message}
+use Rattle.read_challenge.specs.declared.Fields.{Fields}
+use Rattle.read_challenge.specs.declared.Reading.{Reading}
+use Rattle.read_challenge.specs.declared.Reading.the-variants.{Taken, Refused}
+use Rattle.read_challenge.specs.declared.ServerNamesReading.the-variants.{Taken as NamesTaken, Refused as NamesRefused}
+use Rattle.read_challenge.specs.declared.TimestampReading.the-variants.{Taken as TimeTaken, Refused as TimeRefused}
+use Rattle.read_challenge.specs.Challenge.{fieldsAt, checkEnds, checkBegins, checkNames, checkFields, fieldsOf, onTaken, infoOf, inMessage, checkInfo, readingOf, serverChallenge, readChallenge, timestampOf, serverNamesOf}
 use Rattle.target_info.specs.TargetInfo.{timestampIn, serverNamesIn}
 use Rattle.demands.specs.Message.{challenge, Fails, Ignored, DifferInIgnored, SameMaxLen}
 use Rattle.demands.specs.Ignored.{SameBytes, ChallengeIgnored}

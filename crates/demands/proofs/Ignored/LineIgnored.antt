@@ -4,41 +4,41 @@ use mathlib.Core.Path.{_≡_, refl, sym, ap, _∙_, subst}
 use mathlib.Core.List.{List, [], _++_, append-assoc}
 use native.Mathlib.Omega.{arith}
 use lib.ListN.{length, length-append}
-use Rattle.text.specs.Text.{ascii}
+use Rattle.wire.specs.Text.{ascii}
 use Rattle.field.specs.Field.{fieldBytes}
 use Rattle.negotiate_flags.specs.Flags.{unicode}
 use Rattle.av_pairs.specs.AvPairs.{pairsOf}
 use Rattle.target_info.specs.TargetInfo.{timestampIn}
-use Rattle.word.specs.Words.{numberWord, nameWord, startText, flagsWord, micWord, kindWord, lineEnd}
+use Rattle.line_words.specs.Words.{numberWord, nameWord, startText, flagsWord, micWord, kindWord, lineEnd}
 use Rattle.line_refused.specs.Refused.{refusedLine}
 use Rattle.line_max.specs.Max.{maxDigits, maxWord, maxEnd}
-use Rattle.authenticate.specs.Authenticate as A
-use Rattle.challenge.specs.Challenge as C
-use Rattle.negotiate.specs.Negotiate as N
-use Rattle.challenge.specs.declared.Challenge.{Challenge as Asked}
-use Rattle.negotiate.specs.declared.Negotiate.{Negotiate as Opening}
-use Rattle.authenticate.specs.declared.Authenticate.{Authenticate as Message}
-use Rattle.authenticate.specs.declared.Answer.{Answer}
-use Rattle.authenticate.specs.declared.Reading.{Reading}
-use Rattle.authenticate.specs.declared.Reading.the-variants.{Taken, Refused}
-use Rattle.authenticate.specs.Authenticate.{readAuthenticate}
-use Rattle.challenge.specs.declared.Answer.{Answer as ChallengeAnswer}
-use Rattle.challenge.specs.declared.Reading.{Reading as ChallengeReading}
-use Rattle.challenge.specs.declared.Reading.the-variants.{Taken as ChallengeTaken, Refused as ChallengeRefused}
-use Rattle.challenge.specs.Challenge.{infoOf, readChallenge}
+use Rattle.read_authenticate.specs.Authenticate as A
+use Rattle.read_challenge.specs.Challenge as C
+use Rattle.read_negotiate.specs.Negotiate as N
+use Rattle.read_challenge.specs.declared.Challenge.{Challenge as Asked}
+use Rattle.read_negotiate.specs.declared.Negotiate.{Negotiate as Opening}
+use Rattle.read_authenticate.specs.declared.Authenticate.{Authenticate as Message}
+use Rattle.read_authenticate.specs.declared.Answer.{Answer}
+use Rattle.read_authenticate.specs.declared.Reading.{Reading}
+use Rattle.read_authenticate.specs.declared.Reading.the-variants.{Taken, Refused}
+use Rattle.read_authenticate.specs.Authenticate.{readAuthenticate}
+use Rattle.read_challenge.specs.declared.Answer.{Answer as ChallengeAnswer}
+use Rattle.read_challenge.specs.declared.Reading.{Reading as ChallengeReading}
+use Rattle.read_challenge.specs.declared.Reading.the-variants.{Taken as ChallengeTaken, Refused as ChallengeRefused}
+use Rattle.read_challenge.specs.Challenge.{infoOf, readChallenge}
 use Rattle.head.specs.Head.{flagsAt, kindOf}
-use Rattle.negotiate.specs.declared.Reading.{Reading as NegotiateReading}
-use Rattle.negotiate.specs.declared.Reading.the-variants.{Taken as NegotiateTaken, Refused as NegotiateRefused}
-use Rattle.negotiate.specs.Negotiate.{readNegotiate}
-use Rattle.nl_auth.specs.declared.Reading.{Reading as NlReading}
-use Rattle.nl_auth.specs.declared.Reading.the-variants.{Taken as NlTaken, Refused as NlRefused}
-use Rattle.nl_auth.specs.NlAuth.{readNlAuth}
-use Rattle.line_nego.specs.Nego.{negoNames, negoText}
-use Rattle.line_auth.specs.Auth.{authNames, authLengths, authEnd, authText}
+use Rattle.read_negotiate.specs.declared.Reading.{Reading as NegotiateReading}
+use Rattle.read_negotiate.specs.declared.Reading.the-variants.{Taken as NegotiateTaken, Refused as NegotiateRefused}
+use Rattle.read_negotiate.specs.Negotiate.{readNegotiate}
+use Rattle.read_nl_auth.specs.declared.Reading.{Reading as NlReading}
+use Rattle.read_nl_auth.specs.declared.Reading.the-variants.{Taken as NlTaken, Refused as NlRefused}
+use Rattle.read_nl_auth.specs.NlAuth.{readNlAuth}
+use Rattle.line_negotiate.specs.Nego.{negoNames, negoText}
+use Rattle.line_authenticate.specs.Auth.{authNames, authLengths, authEnd, authText}
 use Rattle.line.specs.Line.{negoLine, negotiateLine, authLine, authenticateLine, chalLine, challengeLine, ntlmLine, nlLine, nlAuthLine}
-use Rattle.line_chal.specs.Chal.{timeWord, chalEnd, chalWords, chalText}
-use Rattle.line_nl.specs.Nl.{nlOem, nlUtf8, nlText}
-use Rattle.nl_auth_text.specs.StringText.{oemText, utf8Text}
+use Rattle.line_challenge.specs.Chal.{timeWord, chalEnd, chalWords, chalText}
+use Rattle.line_nl_auth.specs.Nl.{nlOem, nlUtf8, nlText}
+use Rattle.line_nl_string.specs.StringText.{oemText, utf8Text}
 use Rattle.demands.specs.Ignored.{SameBytes, SameFields, SameAnswer, SameNegotiate, SameChallenge, SameNlAuth, AuthenticateLineIgnored, NegotiateLineIgnored, ChallengeLineIgnored, MaxWordSaid, NtlmLineIgnored, NlAuthLineIgnored}
 use Rattle.demands.specs.Message.{Format, negotiate, authenticate, challenge, DifferInIgnored}
 use Rattle.demands.specs.MaxLen.{bareAuthenticate, bareChallenge, bareNegotiate, EndsInMax, AlikeToMax}

@@ -12,20 +12,20 @@ use borrow.Author.Tests.{eqb-true, eqb-false}
 use Rattle.wire.specs.declared.refusal.Refusal.the-variants.{TooLong, TooShort, WrongType, Unterminated}
 use Rattle.wire.specs.Check.{checked, after}
 use Rattle.wire.specs.Number.{u32At}
-use Rattle.nl_auth.proofs.Names.{own-bytes}
+use Rattle.read_nl_auth.proofs.Names.{own-bytes}
 use Rattle.nl_auth_flags.specs.declared.NlAuthFlags.{NlAuthFlags}
-use Rattle.nl_auth.specs.declared.NlAuth.{NlAuth}
-use Rattle.nl_auth.specs.declared.Reading.{Reading}
-use Rattle.nl_auth.specs.declared.Reading.the-variants.{Taken, Refused}
-use Rattle.nl_auth.specs.declared.string.NlString.{NlString}
-use Rattle.nl_auth.specs.declared.name.NameScan.the-variants.{Found as Named, Refused as Not}
-use Rattle.dns_name.specs.declared.Reading.{Reading as NameReading}
-use Rattle.dns_name.specs.declared.Reading.the-variants.{Taken as Read, Refused as Faulty}
-use Rattle.dns_name.specs.DnsName.{readName}
-use Rattle.nl_auth.specs.declared.string.Scan.{Scan}
-use Rattle.nl_auth.specs.declared.string.Scan.the-variants.{Found, Missing}
+use Rattle.read_nl_auth.specs.declared.NlAuth.{NlAuth}
+use Rattle.read_nl_auth.specs.declared.Reading.{Reading}
+use Rattle.read_nl_auth.specs.declared.Reading.the-variants.{Taken, Refused}
+use Rattle.read_nl_auth.specs.declared.string.NlString.{NlString}
+use Rattle.read_nl_auth.specs.declared.name.NameScan.the-variants.{Found as Named, Refused as Not}
+use Rattle.read_dns_name.specs.declared.Reading.{Reading as NameReading}
+use Rattle.read_dns_name.specs.declared.Reading.the-variants.{Taken as Read, Refused as Faulty}
+use Rattle.read_dns_name.specs.DnsName.{readName}
+use Rattle.read_nl_auth.specs.declared.string.Scan.{Scan}
+use Rattle.read_nl_auth.specs.declared.string.Scan.the-variants.{Found, Missing}
 use Rattle.nl_auth_flags.specs.Flags.{nbDomain, nbComputer, dnsDomain, dnsHost, utf8Computer}
-use Rattle.nl_auth.specs.NlAuth.{noString, labelsOf, beforeZero, holdsZero, stringAt, stringUnder, onFound, refusalIn, nameString, onName, nameAt, nameUnder, onNamed, flagsAt, readUtf8, readRequest, readResponse, readNlAuth}
+use Rattle.read_nl_auth.specs.NlAuth.{noString, labelsOf, beforeZero, holdsZero, stringAt, stringUnder, onFound, refusalIn, nameString, onName, nameAt, nameUnder, onNamed, flagsAt, readUtf8, readRequest, readResponse, readNlAuth}
 use Rattle.demands.specs.Ignored.{SameString, NlDifferInIgnored, NlAuthIgnored}
 use Rattle.demands.specs.NlAuth.{typeOf, numbered, maskOf, StandsAt, plain, name, Strings}
 use Rattle.demands.specs.OwnBytes.{OwnString, OwnName, OwnRequest, OwnResponse}

@@ -11,8 +11,8 @@ use Rattle.negotiate_flags.specs.Flags.{unicode}
 use Rattle.av_id.specs.AvId.{isNbDomainName}
 use Rattle.av_pairs.specs.AvPairs.{pairsOf}
 use Rattle.field.specs.Field.{fieldStart}
-use Rattle.challenge.specs.declared.Challenge.{Challenge}
-use Rattle.challenge.specs.Challenge.{readingOf, onTaken, infoOf}
+use Rattle.read_challenge.specs.declared.Challenge.{Challenge}
+use Rattle.read_challenge.specs.Challenge.{readingOf, onTaken, infoOf}
 use Rattle.respond.specs.declared.answer.Answered.the-variants.{Refused as Unanswered}
 use Rattle.respond.specs.declared.decision.Decided.{Decided}
 use Rattle.respond.specs.declared.decision.Decided.the-variants.{Taken, Refused}

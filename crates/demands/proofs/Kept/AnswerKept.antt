@@ -15,8 +15,8 @@ use Rattle.negotiate_flags.specs.Flags.{unicode, charsetHolds}
 use Rattle.place.specs.declared.written.Written.{Written}
 use Rattle.place.specs.declared.written.Written.the-variants.{Length, Refused as Unwritten}
 use Rattle.place.specs.Written.{sizeHolds, roomHolds}
-use Rattle.authenticate_writing.specs.Writing.{authenticateBytes, checkNamesToWrite, keyHolds, sizeToWrite, checkToWrite, writeAnswer, writeOut}
-use Rattle.authenticate_writing.proofs.Sent.{length-message}
+use Rattle.write_authenticate.specs.Writing.{authenticateBytes, checkNamesToWrite, keyHolds, sizeToWrite, checkToWrite, writeAnswer, writeOut}
+use Rattle.write_authenticate.proofs.Sent.{length-message}
 use Rattle.target_info.specs.declared.Timestamp.{Timestamp}
 use Rattle.respond.specs.declared.answer.Answered.the-variants.{Refused}
 use Rattle.respond.specs.declared.decision.Decided.{Decided}

@@ -9,9 +9,9 @@ use lib.Dec.{eqb}
 use lib.ListN.{length}
 use borrow.Author.Tests.{eq-eqb}
 use Rattle.wire.proofs.Bools.{and-left, and-right}
-use Rattle.word.specs.Digits.{hex}
-use Rattle.word.specs.Name.{plain, escape, unitText}
-use Rattle.dns_name_text.specs.DnsNameText.{byteText, labelText, partText, joined, nameText}
+use Rattle.line_words.specs.Digits.{hex}
+use Rattle.line_words.specs.Name.{plain, escape, unitText}
+use Rattle.line_dns_name.specs.DnsNameText.{byteText, labelText, partText, joined, nameText}
 use Rattle.demands.specs.HeaderLine.{Bytes}
 use Rattle.demands.proofs.Bools.{true-not-false}
 use Rattle.demands.specs.LineShows.{Labels, LabelsShow, LabelsVisible}

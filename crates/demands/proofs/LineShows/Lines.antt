@@ -6,27 +6,27 @@ use mathlib.Core.List.{List, [], _∷_, _++_, append-assoc}
 use lib.Dec.{leb, eqb}
 use lib.ListN.{length, drop}
 use lib.Seq.{drop-at}
-use Rattle.text.specs.Text.{ascii}
+use Rattle.wire.specs.Text.{ascii}
 use Rattle.wire.specs.declared.refusal.Refusal.{Refusal}
 use Rattle.wire.specs.Refusal.{numberOf, fieldOf, placeOf}
 use Rattle.field.specs.declared.Field.{Field}
 use Rattle.field.specs.Field.{fieldBytes}
 use Rattle.negotiate_flags.specs.declared.NegotiateFlags.{NegotiateFlags}
 use Rattle.negotiate_flags.specs.Flags.{unicode}
-use Rattle.word.specs.Digits.{hex, decimal}
-use Rattle.word.specs.Name.{nameText}
-use Rattle.word.specs.Words.{numberWord, nameWord, startText, flagsWord, setWord, micWord, kindWord}
+use Rattle.line_words.specs.Digits.{hex, decimal}
+use Rattle.line_words.specs.Name.{nameText}
+use Rattle.line_words.specs.Words.{numberWord, nameWord, startText, flagsWord, setWord, micWord, kindWord}
 use Rattle.line_max.specs.Max.{maxDigit, maxDigits, maxWord, maxEnd}
 use Rattle.line_refused.specs.Refused.{refusedEnd, refusedText, refusedLine}
-use Rattle.line_nego.specs.Nego.{negoNames, negoText}
-use Rattle.line_auth.specs.Auth.{authNames, authLengths, authEnd, authText}
-use Rattle.line_chal.specs.Chal.{timeText, timeWord, chalEnd, chalWords}
-use Rattle.negotiate.specs.declared.Negotiate.{Negotiate}
-use Rattle.negotiate.specs.Negotiate.{allFields}
-use Rattle.authenticate.specs.declared.Authenticate.{Authenticate}
-use Rattle.authenticate.specs.Authenticate as A
-use Rattle.challenge.specs.declared.Challenge.{Challenge}
-use Rattle.challenge.specs.Challenge as C
+use Rattle.line_negotiate.specs.Nego.{negoNames, negoText}
+use Rattle.line_authenticate.specs.Auth.{authNames, authLengths, authEnd, authText}
+use Rattle.line_challenge.specs.Chal.{timeText, timeWord, chalEnd, chalWords}
+use Rattle.read_negotiate.specs.declared.Negotiate.{Negotiate}
+use Rattle.read_negotiate.specs.Negotiate.{allFields}
+use Rattle.read_authenticate.specs.declared.Authenticate.{Authenticate}
+use Rattle.read_authenticate.specs.Authenticate as A
+use Rattle.read_challenge.specs.declared.Challenge.{Challenge}
+use Rattle.read_challenge.specs.Challenge as C
 use Rattle.target_info.specs.declared.Timestamp.{Timestamp}
 use Rattle.target_info.specs.declared.Timestamp.the-variants.{Time, Nothing}
 use Rattle.demands.proofs.LineShows.Words.{visible, IsLine}

@@ -10,8 +10,8 @@ use lib.ListN.{length, getD, take, drop}
 use lib.Seq.{take-at, drop-at}
 use borrow.Author.Tests.{leb-true, eq-eqb}
 use Rattle.wire.proofs.Bools.{and-left, and-right}
-use Rattle.word.specs.Digits.{hex, decimal}
-use Rattle.word.specs.Name.{plain, escape, unitText, textOf, numbers16, units, nameText}
+use Rattle.line_words.specs.Digits.{hex, decimal}
+use Rattle.line_words.specs.Name.{plain, escape, unitText, textOf, numbers16, units, nameText}
 use Rattle.demands.specs.Digits.{IsHexDigit, valueOf}
 use Rattle.demands.specs.HeaderLine.{Bytes}
 use Rattle.demands.proofs.Bools.{true-not-false}

@@ -8,21 +8,21 @@ use native.Mathlib.Omega.{arith}
 use lib.Dec.{leb}
 use lib.ListN.{length, getD, drop, length-take, length-drop}
 use borrow.Author.Tests.{eqb-true}
-use Rattle.text.specs.Text.{ascii}
+use Rattle.wire.specs.Text.{ascii}
 use Rattle.wire.proofs.Bools.{and-both}
 use Rattle.wire.specs.Number.{has, u32At}
-use Rattle.word.specs.Digits.{hex, decimal}
-use Rattle.word.specs.Name.{nameText}
-use Rattle.dns_name_text.specs.DnsNameText.{nameText as dnsText}
-use Rattle.word.specs.Words.{numberWord, stringWord, flagsWord, lineEnd}
-use Rattle.dns_name.specs.Rfc1035.{NameFrom, end, label, jump}
+use Rattle.line_words.specs.Digits.{hex, decimal}
+use Rattle.line_words.specs.Name.{nameText}
+use Rattle.line_dns_name.specs.DnsNameText.{nameText as dnsText}
+use Rattle.line_words.specs.Words.{numberWord, stringWord, flagsWord, lineEnd}
+use Rattle.read_dns_name.specs.Rfc1035.{NameFrom, end, label, jump}
 use Rattle.nl_auth_flags.specs.Flags.{nbDomain, nbComputer, dnsDomain, dnsHost, utf8Computer}
-use Rattle.nl_auth.specs.declared.NlAuth.{NlAuth}
-use Rattle.nl_auth.specs.declared.Reading.the-variants.{Taken as NlTaken}
-use Rattle.nl_auth.specs.declared.string.NlString.{NlString}
-use Rattle.nl_auth.specs.NlAuth.{stringBytes, labelsOf, readNlAuth}
-use Rattle.nl_auth_text.specs.StringText.{oemText, utf8Text}
-use Rattle.line_nl.specs.Nl.{nlStart, nlOem, nlUtf8, nlText}
+use Rattle.read_nl_auth.specs.declared.NlAuth.{NlAuth}
+use Rattle.read_nl_auth.specs.declared.Reading.the-variants.{Taken as NlTaken}
+use Rattle.read_nl_auth.specs.declared.string.NlString.{NlString}
+use Rattle.read_nl_auth.specs.NlAuth.{stringBytes, labelsOf, readNlAuth}
+use Rattle.line_nl_string.specs.StringText.{oemText, utf8Text}
+use Rattle.line_nl_auth.specs.Nl.{nlStart, nlOem, nlUtf8, nlText}
 use Rattle.line.specs.Line.{nlAuthLine}
 use Rattle.demands.specs.HeaderLine.{Bytes}
 use Rattle.demands.specs.NlAuth.{typeOf, BitSet}

@@ -9,7 +9,7 @@ use lib.Dec.{eqb}
 use lib.ListN.{length, getD, take, drop}
 use lib.Seq.{getD-drop, ext-getD}
 use borrow.Author.Tests.{eqb-true, eqb-false}
-use Rattle.text.specs.Text.{ascii}
+use Rattle.wire.specs.Text.{ascii}
 use Rattle.wire.specs.declared.refusal.Refusal.{Refusal}
 use Rattle.wire.specs.Number.{has, u32At}
 use Rattle.wire.specs.Refusal.{numberOf, fieldOf, placeOf}
@@ -18,25 +18,25 @@ use Rattle.field.specs.Field.{fits, fieldBytes}
 use Rattle.head.specs.Head.{flagsAt}
 use Rattle.negotiate_flags.specs.declared.NegotiateFlags.{NegotiateFlags}
 use Rattle.negotiate_flags.specs.Flags.{unicode}
-use Rattle.word.specs.Digits.{hex, decimal}
-use Rattle.word.specs.Name.{nameText}
+use Rattle.line_words.specs.Digits.{hex, decimal}
+use Rattle.line_words.specs.Name.{nameText}
 use Rattle.line_max.specs.Max.{maxDigit, maxDigits}
 use Rattle.line_refused.specs.Refused.{refusedLine}
-use Rattle.line_nego.specs.Nego.{negoText}
-use Rattle.line_auth.specs.Auth.{authText}
-use Rattle.line_chal.specs.Chal.{chalWords, chalText}
+use Rattle.line_negotiate.specs.Nego.{negoText}
+use Rattle.line_authenticate.specs.Auth.{authText}
+use Rattle.line_challenge.specs.Chal.{chalWords, chalText}
 use Rattle.line.specs.Line.{negotiateLine, authenticateLine, challengeLine}
-use Rattle.negotiate.specs.declared.Negotiate.{Negotiate}
-use Rattle.negotiate.specs.declared.Reading.the-variants.{Taken as NegotiateTaken}
-use Rattle.negotiate.specs.Negotiate as N
-use Rattle.authenticate.specs.declared.Authenticate.{Authenticate}
-use Rattle.authenticate.specs.declared.Reading.the-variants.{Taken}
-use Rattle.authenticate.specs.Authenticate as A
+use Rattle.read_negotiate.specs.declared.Negotiate.{Negotiate}
+use Rattle.read_negotiate.specs.declared.Reading.the-variants.{Taken as NegotiateTaken}
+use Rattle.read_negotiate.specs.Negotiate as N
+use Rattle.read_authenticate.specs.declared.Authenticate.{Authenticate}
+use Rattle.read_authenticate.specs.declared.Reading.the-variants.{Taken}
+use Rattle.read_authenticate.specs.Authenticate as A
 use Rattle.av_pairs.specs.AvPairs.{pairsOf}
-use Rattle.challenge.specs.declared.Challenge.{Challenge}
-use Rattle.challenge.specs.declared.Reading.the-variants.{Taken as ChallengeTaken}
-use Rattle.challenge.specs.Challenge as C
-use Rattle.challenge.specs.declared.TimestampReading.the-variants.{Taken as TimeTaken}
+use Rattle.read_challenge.specs.declared.Challenge.{Challenge}
+use Rattle.read_challenge.specs.declared.Reading.the-variants.{Taken as ChallengeTaken}
+use Rattle.read_challenge.specs.Challenge as C
+use Rattle.read_challenge.specs.declared.TimestampReading.the-variants.{Taken as TimeTaken}
 use Rattle.target_info.specs.declared.Timestamp.{Timestamp}
 use Rattle.target_info.specs.declared.Timestamp.the-variants.{Time, Nothing}
 use Rattle.target_info.specs.TargetInfo.{timestampIn}

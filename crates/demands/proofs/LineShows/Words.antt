@@ -8,7 +8,7 @@ use lib.Dec.{leb}
 use lib.ListN.{length, getD, length-append}
 use borrow.Author.Tests.{leb-true, le-leb}
 use Rattle.wire.proofs.Bools.{and-left, and-right, and-both}
-use Rattle.word.specs.Words.{lineEnd}
+use Rattle.line_words.specs.Words.{lineEnd}
 use Rattle.demands.specs.LineShows.{OneLine, logOf, LogShows}
 
 -- ---- bytes from a lowest one to 0x7E

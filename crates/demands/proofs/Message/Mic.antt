@@ -12,8 +12,8 @@ use Rattle.field.specs.declared.Field.{Field}
 use Rattle.field.specs.Field.{isEmpty, begins}
 use Rattle.head.specs.Head.{flagsAt}
 use Rattle.wire.proofs.Bools.{and-left, and-right, and-both}
-use Rattle.authenticate.specs.Authenticate.{fieldsAt, allFields, micPresent}
-use Rattle.authenticate.proofs.Mic.{room, some, lowest}
+use Rattle.read_authenticate.specs.Authenticate.{fieldsAt, allFields, micPresent}
+use Rattle.read_authenticate.proofs.Mic.{room, some, lowest}
 use Rattle.demands.specs.Message.{authenticate, offsetOf, Nonempty, MicThere}
 use Rattle.demands.proofs.Message.{Stands, test-held}
 use Rattle.demands.proofs.TakenExactly.{six}

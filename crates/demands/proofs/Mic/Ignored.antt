@@ -4,9 +4,9 @@ use mathlib.Core.Path.{_≡_, refl, sym, ap, _∙_}
 use mathlib.Core.List.{List}
 use lib.ListN.{length}
 use Rattle.head.specs.declared.Kind.the-variants.{Negotiate, Challenge}
-use Rattle.authenticate.specs.declared.Reading.{Reading}
-use Rattle.authenticate.specs.declared.Reading.the-variants.{Taken, Refused}
-use Rattle.authenticate.specs.Authenticate.{readAuthenticate}
+use Rattle.read_authenticate.specs.declared.Reading.{Reading}
+use Rattle.read_authenticate.specs.declared.Reading.the-variants.{Taken, Refused}
+use Rattle.read_authenticate.specs.Authenticate.{readAuthenticate}
 use Rattle.mic.specs.Mic.{authenticateVerdict, checkMessages}
 use Rattle.demands.specs.MaxLen.{bareAuthenticate}
 use Rattle.demands.specs.Message.{negotiate, challenge, authenticate, DifferInIgnored}

@@ -18,15 +18,15 @@ use Rattle.av_pairs.specs.declared.AvPair.{AvPair}
 use Rattle.av_pairs.specs.declared.Found.{Found}
 use Rattle.av_pairs.specs.declared.Found.the-variants.{At, Nothing}
 use Rattle.av_pairs.specs.AvPairs.{pairsOf, isThere}
-use Rattle.challenge.specs.declared.Challenge.{Challenge}
-use Rattle.challenge.specs.declared.Reading.{Reading}
-use Rattle.challenge.specs.declared.Reading.the-variants.{Taken, Refused}
+use Rattle.read_challenge.specs.declared.Challenge.{Challenge}
+use Rattle.read_challenge.specs.declared.Reading.{Reading}
+use Rattle.read_challenge.specs.declared.Reading.the-variants.{Taken, Refused}
 use Rattle.target_info.specs.declared.ServerNames.{ServerNames}
-use Rattle.challenge.specs.declared.ServerNamesReading.the-variants.{Taken as NamesTaken, Refused as NamesRefused}
+use Rattle.read_challenge.specs.declared.ServerNamesReading.the-variants.{Taken as NamesTaken, Refused as NamesRefused}
 use Rattle.target_info.specs.declared.Timestamp.{Timestamp}
 use Rattle.target_info.specs.declared.Timestamp.the-variants.{Time, Nothing as NoTime}
-use Rattle.challenge.specs.declared.TimestampReading.the-variants.{Taken as TimeTaken, Refused as TimeRefused}
-use Rattle.challenge.specs.Challenge.{fieldsAt, fieldsOf, onTaken, infoOf, checkInfo, readingOf, serverChallenge, readChallenge, timestampOf, serverNamesOf}
+use Rattle.read_challenge.specs.declared.TimestampReading.the-variants.{Taken as TimeTaken, Refused as TimeRefused}
+use Rattle.read_challenge.specs.Challenge.{fieldsAt, fieldsOf, onTaken, infoOf, checkInfo, readingOf, serverChallenge, readChallenge, timestampOf, serverNamesOf}
 use Rattle.target_info.specs.TargetInfo.{firstBy, timeOf, timestampIn, serverNamesIn}
 use Rattle.demands.specs.Message.{challenge, Fails}
 use Rattle.demands.specs.PairList.{FirstWith, PairThere}

@@ -22,14 +22,14 @@ use Rattle.head.specs.Head.{signature}
 use Rattle.place.specs.Place.{le32}
 use Rattle.place.specs.Written.{sizeHolds, roomHolds}
 use Rattle.place.proofs.Numbers.{length-le32, back32}
-use Rattle.field_writing.specs.Writing.{versionBytes}
-use Rattle.field_writing.proofs.Laws.{length-version}
-use Rattle.negotiate.specs.declared.Fields.{Fields}
-use Rattle.negotiate.specs.declared.Reading.{Reading}
-use Rattle.negotiate.specs.declared.Reading.the-variants.{Taken, Refused}
-use Rattle.negotiate.specs.Negotiate.{readNegotiate}
-use Rattle.negotiate_writing.specs.Writing.{nonempty, flagsToWrite, fieldsTo, afterType, fixedBytes, negotiateBytes, sizeToWrite, checkToWrite, writeAnswer, writeOut}
-use Rattle.negotiate_writing.proofs.Sent.{length-message}
+use Rattle.write_field.specs.Writing.{versionBytes}
+use Rattle.write_field.proofs.Laws.{length-version}
+use Rattle.read_negotiate.specs.declared.Fields.{Fields}
+use Rattle.read_negotiate.specs.declared.Reading.{Reading}
+use Rattle.read_negotiate.specs.declared.Reading.the-variants.{Taken, Refused}
+use Rattle.read_negotiate.specs.Negotiate.{readNegotiate}
+use Rattle.write_negotiate.specs.Writing.{nonempty, flagsToWrite, fieldsTo, afterType, fixedBytes, negotiateBytes, sizeToWrite, checkToWrite, writeAnswer, writeOut}
+use Rattle.write_negotiate.proofs.Sent.{length-message}
 use Rattle.demands.specs.Message.{negotiate, lenOf, offsetOf, Set, Nonempty, Fails}
 use Rattle.demands.specs.TakenExactly.{IsTakenNegotiate}
 use Rattle.demands.specs.ReadBack.{BitsByNames, NegotiateBack, NegotiateReadsBack}

@@ -10,8 +10,8 @@ use Rattle.field.specs.Field.{headAt}
 use Rattle.wire.specs.Number.{u16At, u32At}
 use Rattle.place.specs.Place.{le16, le32}
 use Rattle.place.proofs.Numbers.{length-le16, back16, back32}
-use Rattle.field_writing.specs.Writing.{fieldOf, headBytes}
-use Rattle.field_writing.proofs.Laws.{length-head}
+use Rattle.write_field.specs.Writing.{fieldOf, headBytes}
+use Rattle.write_field.proofs.Laws.{length-head}
 
 -- a head reads back, with MaxLen as it was written
 head-back : (p r : List ℕ) (g : Field) → headAt (p ++ (headBytes g ++ r)) (length p) ≡ fieldOf (g .offset) (g .len)

@@ -22,10 +22,10 @@ use Rattle.wire.proofs.Bools.{and-right}
 use Rattle.place.specs.Place.{le32}
 use Rattle.place.specs.Written.{sizeHolds}
 use Rattle.place.proofs.Numbers.{length-le32, back32}
-use Rattle.authenticate.specs.declared.Fields.{Fields}
-use Rattle.authenticate.specs.declared.Reading.{Reading}
-use Rattle.authenticate.specs.declared.Reading.the-variants.{Taken, Refused}
-use Rattle.authenticate.specs.Authenticate.{readAuthenticate}
+use Rattle.read_authenticate.specs.declared.Fields.{Fields}
+use Rattle.read_authenticate.specs.declared.Reading.{Reading}
+use Rattle.read_authenticate.specs.declared.Reading.the-variants.{Taken, Refused}
+use Rattle.read_authenticate.specs.Authenticate.{readAuthenticate}
 use Rattle.demands.proofs.Bools.{true-not-false, or-either, after-held}
 use Rattle.demands.proofs.Kept.{clear-both}
 use Rattle.demands.proofs.NlAuth.{above, five}
@@ -38,9 +38,9 @@ use Rattle.demands.proofs.ReadBack.Sent.{Before, headsThen, HeadsBack, 
 use Rattle.demands.proofs.ReadBack.{written-is}
 use Rattle.demands.proofs.TakenExactly.{authenticate-taken}
 use Rattle.demands.specs.Message.{authenticate, lenOf, offsetOf, Nonempty, Set, MicThere, Fails}
-use Rattle.field_writing.specs.Writing.{versionBytes}
-use Rattle.field_writing.proofs.Laws.{length-head, length-version}
-use Rattle.authenticate_writing.specs.Writing.{fieldsTo, headsBytes, afterHeads, fixedBytes, payloadBytes, authenticateBytes, evenToWrite, checkNamesToWrite, keyHolds, sizeToWrite, checkToWrite, writeAnswer, writeOut}
+use Rattle.write_field.specs.Writing.{versionBytes}
+use Rattle.write_field.proofs.Laws.{length-head, length-version}
+use Rattle.write_authenticate.specs.Writing.{fieldsTo, headsBytes, afterHeads, fixedBytes, payloadBytes, authenticateBytes, evenToWrite, checkNamesToWrite, keyHolds, sizeToWrite, checkToWrite, writeAnswer, writeOut}
 
 pub three : (P : ℕ → Type 0) → P 3 → P 4 → P 5 → (k : ℕ) → 3 ≤ k → k ≤ 5 → P k
 three P a b c k l r = go (eqb k 3) (eqb k 4) refl refl where

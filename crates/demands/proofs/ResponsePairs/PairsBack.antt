@@ -20,9 +20,9 @@ use Rattle.av_pairs.proofs.Walks as walks
 use Rattle.av_pairs.proofs.Walks.{pairsAt, valuesAt, pairs-pair}
 use Rattle.place.specs.Place.{le32}
 use Rattle.place.proofs.Numbers.{length-le32, back32}
-use Rattle.response_pairs.specs.ResponsePairs.{pairWith, hasPair, isNone, leftOut, kept, dueBits, bitsDue, flagsSet, withBits, addsFlags, addedPairs, pairBytes, bytesOf, listBytes}
-use Rattle.response_pairs.proofs.Fits.{fitPair, length-pair}
-use Rattle.response_pairs.proofs.Standing.{id-there, size-there, value-there, long}
+use Rattle.write_response_pairs.specs.ResponsePairs.{pairWith, hasPair, isNone, leftOut, kept, dueBits, bitsDue, flagsSet, withBits, addsFlags, addedPairs, pairBytes, bytesOf, listBytes}
+use Rattle.write_response_pairs.proofs.Fits.{fitPair, length-pair}
+use Rattle.write_response_pairs.proofs.Standing.{id-there, size-there, value-there, long}
 use Rattle.target_info.specs.TargetInfo.{firstBy}
 use Rattle.wire.specs.Number.{u32At, has}
 use Rattle.wire.specs.Refusal.{numberOf}

@@ -12,7 +12,7 @@ use Rattle.negotiate_flags.specs.Flags.{keyExch, sign, seal}
 use Rattle.place.specs.declared.written.Written.{Written}
 use Rattle.place.specs.declared.written.Written.the-variants.{Length, Refused as Unwritten}
 use Rattle.place.specs.Written.{answered}
-use Rattle.authenticate_writing.specs.Writing.{payloadBytes, authenticateBytes, checkToWrite, writeAnswer, writeOut}
+use Rattle.write_authenticate.specs.Writing.{payloadBytes, authenticateBytes, checkToWrite, writeAnswer, writeOut}
 use Rattle.respond.specs.declared.answer.Answer.{Answer}
 use Rattle.respond.specs.declared.answer.Answered.{Answered}
 use Rattle.respond.specs.declared.answer.Answered.the-variants.{Sent, Refused}

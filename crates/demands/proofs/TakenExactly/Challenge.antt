@@ -23,10 +23,10 @@ use Rattle.wire.proofs.Places.{moved-number, moved-at}
 use Rattle.line.proofs.Places.{PlacelessC, fields-placeless}
 use Rattle.av_pairs.specs.declared.Count.the-variants.{Pairs, Refused as Uncounted}
 use Rattle.av_pairs.specs.AvPairs.{checkPairs, countPairs, pairsOf}
-use Rattle.challenge.specs.declared.Challenge.{Challenge}
-use Rattle.challenge.specs.declared.Reading.{Reading}
-use Rattle.challenge.specs.declared.Reading.the-variants.{Taken, Refused}
-use Rattle.challenge.specs.Challenge.{layout, fieldsAt, allFields, names, checkEnds, checkBegins, checkNames, checkFields, fieldsOf, onTaken, infoOf, inMessage, checkInfo, readingOf, readChallenge}
+use Rattle.read_challenge.specs.declared.Challenge.{Challenge}
+use Rattle.read_challenge.specs.declared.Reading.{Reading}
+use Rattle.read_challenge.specs.declared.Reading.the-variants.{Taken, Refused}
+use Rattle.read_challenge.specs.Challenge.{layout, fieldsAt, allFields, names, checkEnds, checkBegins, checkNames, checkFields, fieldsOf, onTaken, infoOf, inMessage, checkInfo, readingOf, readChallenge}
 use Rattle.demands.specs.Order.{First}
 use Rattle.demands.specs.Message.{challenge, Fails, lenOf, offsetOf}
 use Rattle.demands.specs.PairList.{Holds, ListFails}

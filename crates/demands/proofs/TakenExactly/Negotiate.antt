@@ -19,11 +19,11 @@ use Rattle.negotiate_flags.specs.Flags.{oemDomainSupplied, oemWorkstationSuppli
 use Rattle.head.specs.declared.Head.{Head}
 use Rattle.head.specs.declared.Head.the-variants.{Flags, Refused as Stopped}
 use Rattle.head.specs.Head.{flagsAt, readHead, onFlags}
-use Rattle.negotiate.specs.declared.Negotiate.{Negotiate}
-use Rattle.negotiate.specs.declared.Fields.{Fields}
-use Rattle.negotiate.specs.declared.Reading.{Reading}
-use Rattle.negotiate.specs.declared.Reading.the-variants.{Taken, Refused}
-use Rattle.negotiate.specs.Negotiate.{layout, fieldsAt, allFields, checkEnds, checkBegins, checkFields, readNegotiate}
+use Rattle.read_negotiate.specs.declared.Negotiate.{Negotiate}
+use Rattle.read_negotiate.specs.declared.Fields.{Fields}
+use Rattle.read_negotiate.specs.declared.Reading.{Reading}
+use Rattle.read_negotiate.specs.declared.Reading.the-variants.{Taken, Refused}
+use Rattle.read_negotiate.specs.Negotiate.{layout, fieldsAt, allFields, checkEnds, checkBegins, checkFields, readNegotiate}
 use Rattle.demands.specs.Order.{First}
 use Rattle.demands.specs.Message.{negotiate, Fails, DifferInIgnored, SameMaxLen}
 use Rattle.demands.specs.TakenExactly.{IsTakenNegotiate, NegotiateRefusedWith, NegotiateIsTaken, NegotiateIsRefused}

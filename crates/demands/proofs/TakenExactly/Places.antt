@@ -1,6 +1,6 @@
 -- Only pairs have a place, and in a message it has 16 bits.
 use Rattle.wire.proofs.Places.{placeless-number}
-use Rattle.challenge.specs.Challenge.{readChallenge}
+use Rattle.read_challenge.specs.Challenge.{readChallenge}
 use Rattle.line.proofs.Places.{chal-place}
 use Rattle.demands.specs.TakenExactly.{PlaceOfPairsOnly, PlaceInMessage}
 

@@ -7,20 +7,20 @@ use mathlib.Core.List.{List, [], _∷_, _++_, append-nil}
 use native.Mathlib.Omega.{arith}
 use lib.Dec.{eqb}
 use borrow.Author.Tests.{eq-eqb, ne-eqb}
-use Rattle.text.specs.Text.{ascii}
+use Rattle.wire.specs.Text.{ascii}
 use Rattle.wire.proofs.Bools.{and-both}
 use Rattle.wire.specs.Number.{has, u32At}
-use Rattle.word.specs.Digits.{hex, decimal}
-use Rattle.word.specs.Name.{plain, escape, nameText}
-use Rattle.word.specs.Words.{numberWord, stringWord, flagsWord}
-use Rattle.dns_name_text.specs.DnsNameText.{byteText, labelText, partText, joined, nameText as dnsText}
+use Rattle.line_words.specs.Digits.{hex, decimal}
+use Rattle.line_words.specs.Name.{plain, escape, nameText}
+use Rattle.line_words.specs.Words.{numberWord, stringWord, flagsWord}
+use Rattle.line_dns_name.specs.DnsNameText.{byteText, labelText, partText, joined, nameText as dnsText}
 use Rattle.nl_auth_flags.specs.Flags.{nbDomain, nbComputer, dnsDomain, dnsHost, utf8Computer}
-use Rattle.nl_auth.specs.declared.NlAuth.{NlAuth}
-use Rattle.nl_auth.specs.declared.Reading.{Reading as NlReading}
-use Rattle.nl_auth.specs.declared.Reading.the-variants.{Taken as NlTaken, Refused as NlRefused}
-use Rattle.nl_auth.specs.declared.string.NlString.{NlString}
-use Rattle.nl_auth.specs.NlAuth.{stringBytes, labelsOf, readNlAuth}
-use Rattle.nl_auth_text.specs.StringText.{oemText, utf8Text}
+use Rattle.read_nl_auth.specs.declared.NlAuth.{NlAuth}
+use Rattle.read_nl_auth.specs.declared.Reading.{Reading as NlReading}
+use Rattle.read_nl_auth.specs.declared.Reading.the-variants.{Taken as NlTaken, Refused as NlRefused}
+use Rattle.read_nl_auth.specs.declared.string.NlString.{NlString}
+use Rattle.read_nl_auth.specs.NlAuth.{stringBytes, labelsOf, readNlAuth}
+use Rattle.line_nl_string.specs.StringText.{oemText, utf8Text}
 use Rattle.line.specs.Line.{nlAuthLine}
 use Rattle.demands.specs.Message.{FlagSet}
 use Rattle.demands.specs.NlAuth.{typeOf, maskOf, BitSet}

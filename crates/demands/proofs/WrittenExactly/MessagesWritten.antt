@@ -13,10 +13,10 @@ use Rattle.wire.specs.declared.refusal.Refusal.the-variants.{OddNameToWrite}
 use Rattle.wire.proofs.Laws.{held-true}
 use Rattle.negotiate_flags.specs.declared.NegotiateFlags.{NegotiateFlags}
 use Rattle.negotiate_flags.specs.Flags.{unicode, oem, keyExch, charsetHolds}
-use Rattle.authenticate_writing.specs.Writing.{evenToWrite, checkNamesToWrite, keyHolds, sizeToWrite, checkToWrite, authenticateBytes, writeAnswer}
-use Rattle.authenticate_writing.proofs.Sent.{length-payload, length-message}
-use Rattle.negotiate_writing.specs.Writing.{negotiateBytes, sizeToWrite as negotiateToWrite, checkToWrite as checkNegotiate, writeAnswer as negotiateAnswer}
-use Rattle.negotiate_writing.proofs.Sent.{length-message as length-negotiate}
+use Rattle.write_authenticate.specs.Writing.{evenToWrite, checkNamesToWrite, keyHolds, sizeToWrite, checkToWrite, authenticateBytes, writeAnswer}
+use Rattle.write_authenticate.proofs.Sent.{length-payload, length-message}
+use Rattle.write_negotiate.specs.Writing.{negotiateBytes, sizeToWrite as negotiateToWrite, checkToWrite as checkNegotiate, writeAnswer as negotiateAnswer}
+use Rattle.write_negotiate.proofs.Sent.{length-message as length-negotiate}
 use Rattle.demands.specs.Order.{placeIn}
 use Rattle.demands.specs.Message.{FlagSet}
 use Rattle.demands.specs.WrittenExactly.{Fails5, authenticateSize, AuthenticateWritingFails, authenticateOrder, AuthenticateIsWritten, negotiateSize, NegotiateWritingFails, NegotiateIsWritten}

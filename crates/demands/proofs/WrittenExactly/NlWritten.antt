@@ -19,12 +19,12 @@ use Rattle.place.specs.declared.written.Written.the-variants.{Length, Refused}
 use Rattle.place.specs.Written.{answered}
 use Rattle.nl_auth_flags.specs.declared.NlAuthFlags.{NlAuthFlags}
 use Rattle.nl_auth_flags.specs.Flags.{nbDomain, nbComputer, dnsDomain, dnsHost, utf8Computer, known, stringsHold}
-use Rattle.nl_auth.specs.NlAuth.{beforeZero, holdsZero}
-use Rattle.nl_auth_writing.specs.Writing.{stringBytes, bytesUnder, nameUnder, requestBytes, responseBytes, noZero, checkZeros, names, labelsUnder, checkLabels, codedUnder, checkCoded, checkNames, checkRequest, requestAnswer, responseAnswer}
-use Rattle.nl_auth_writing.proofs.Sent.{length-request, length-response}
-use Rattle.dns_name.specs.Rfc1035.{codedLength}
-use Rattle.dns_name_writing.specs.Writing.{labelsOf, coded, nameBytes, codedHolds}
-use Rattle.dns_name_writing.proofs.Holding.{coded-size}
+use Rattle.read_nl_auth.specs.NlAuth.{beforeZero, holdsZero}
+use Rattle.write_nl_auth.specs.Writing.{stringBytes, bytesUnder, nameUnder, requestBytes, responseBytes, noZero, checkZeros, names, labelsUnder, checkLabels, codedUnder, checkCoded, checkNames, checkRequest, requestAnswer, responseAnswer}
+use Rattle.write_nl_auth.proofs.Sent.{length-request, length-response}
+use Rattle.read_dns_name.specs.Rfc1035.{codedLength}
+use Rattle.write_dns_name.specs.Writing.{labelsOf, coded, nameBytes, codedHolds}
+use Rattle.write_dns_name.proofs.Holding.{coded-size}
 use Rattle.demands.specs.DnsName.{LabelsFail, codedSize}
 use Rattle.demands.proofs.DnsText.{text-failed, text-held, coded-is}
 use Rattle.demands.specs.Order.{placeIn}

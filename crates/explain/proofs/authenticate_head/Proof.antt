@@ -1,7 +1,7 @@
 -- `authenticate_head` is the head of the field with the number.
 use borrow.Author.Needs.{needs}
 use Rattle.wire.proofs.Laws.{branches}
-use Rattle.authenticate.specs.Authenticate.{fieldsAt}
+use Rattle.read_authenticate.specs.Authenticate.{fieldsAt}
 use Rattle.explain.proofs.Laws.{in-fixed, key-head}
 use Rattle.explain.proofs.authenticate_head.Statement.{statement}
 use Rattle.explain.proofs.authenticate_head.Tie as tie

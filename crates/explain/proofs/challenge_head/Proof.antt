@@ -1,7 +1,7 @@
 -- `challenge_head` is the head of the field with the number.
 use borrow.Author.Needs.{needs}
 use Rattle.wire.proofs.Laws.{branches}
-use Rattle.challenge.specs.Challenge.{fieldsAt}
+use Rattle.read_challenge.specs.Challenge.{fieldsAt}
 use Rattle.explain.proofs.Laws.{in-fixed, name-head, info-head}
 use Rattle.explain.proofs.challenge_head.Statement.{statement}
 use Rattle.explain.proofs.challenge_head.Tie as tie

@@ -1,7 +1,7 @@
 -- `negotiate_head` is the head of the field with the number.
 use borrow.Author.Needs.{needs}
 use Rattle.wire.proofs.Laws.{branches}
-use Rattle.negotiate.specs.Negotiate.{fieldsAt}
+use Rattle.read_negotiate.specs.Negotiate.{fieldsAt}
 use Rattle.explain.proofs.Laws.{in-fixed, domain-head, workstation-head}
 use Rattle.explain.proofs.negotiate_head.Statement.{statement}
 use Rattle.explain.proofs.negotiate_head.Tie as tie

@@ -1,6 +1,6 @@
 -- `write` writes the print of the kind that it chose.
 use borrow.Author.Needs.{needs}
-use Rattle.word.proofs.Calls.{same-line}
+use Rattle.line_words.proofs.Calls.{same-line}
 use Rattle.explain.proofs.Laws.{chosen}
 use Rattle.explain.proofs.write.Statement.{statement}
 use Rattle.explain.proofs.write.Tie as tie

@@ -1,6 +1,6 @@
 -- `authenticate_line` writes the line of a message that is taken, and that of its refusal.
 use borrow.Author.Needs.{needs}
-use Rattle.word.proofs.Calls.{same-line}
+use Rattle.line_words.proofs.Calls.{same-line}
 use Rattle.line.proofs.Lines.{auth-read, auth-taken, auth-refused}
 use Rattle.line.proofs.Places.{auth-short}
 use Rattle.line.proofs.authenticate_line.Statement.{statement}

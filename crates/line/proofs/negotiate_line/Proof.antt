@@ -1,6 +1,6 @@
 -- `negotiate_line` writes the line of a message that is taken, and that of its refusal.
 use borrow.Author.Needs.{needs}
-use Rattle.word.proofs.Calls.{same-line}
+use Rattle.line_words.proofs.Calls.{same-line}
 use Rattle.line.proofs.Lines.{nego-read, nego-taken, nego-refused}
 use Rattle.line.proofs.Places.{nego-short}
 use Rattle.line.proofs.negotiate_line.Statement.{statement}

@@ -1,6 +1,6 @@
 -- `nl_auth_line` writes the line of a message that is taken, and that of its refusal.
 use borrow.Author.Needs.{needs}
-use Rattle.word.proofs.Calls.{same-line}
+use Rattle.line_words.proofs.Calls.{same-line}
 use Rattle.line.proofs.Lines.{nl-read, nl-taken, nl-refused}
 use Rattle.line.proofs.Places.{nl-short}
 use Rattle.line.proofs.nl_auth_line.Statement.{statement}

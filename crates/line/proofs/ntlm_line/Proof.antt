@@ -1,6 +1,6 @@
 -- `ntlm_line` writes the line of the kind that it chose.
 use borrow.Author.Needs.{needs}
-use Rattle.word.proofs.Calls.{same-line}
+use Rattle.line_words.proofs.Calls.{same-line}
 use Rattle.line.proofs.Programs.{chosen}
 use Rattle.line.proofs.ntlm_line.Statement.{statement}
 use Rattle.line.proofs.ntlm_line.Tie as tie

@@ -1,7 +1,7 @@
 -- `put_message` writes the message's figure and the pair's.
 use borrow.Author.Needs.{needs}
 use native.Mathlib.Omega.{arith}
-use Rattle.word.proofs.Rooms.{parts}
+use Rattle.line_words.proofs.Rooms.{parts}
 use Rattle.place.proofs.Laws.{and-then}
 use Rattle.line_checks.specs.Checks.{messageWords}
 use Rattle.line_checks.proofs.put_message.Statement.{statement}

@@ -1,7 +1,7 @@
 -- `put_plain` writes a check's number and a word.
 use borrow.Author.Needs.{needs}
 use native.Mathlib.Omega.{arith}
-use Rattle.word.proofs.Rooms.{parts}
+use Rattle.line_words.proofs.Rooms.{parts}
 use Rattle.place.proofs.Laws.{and-then}
 use Rattle.line_checks.specs.Checks.{plainWords}
 use Rattle.line_checks.proofs.put_plain.Statement.{statement}

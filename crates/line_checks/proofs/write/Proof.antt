@@ -1,6 +1,6 @@
 -- `write` writes the lines, or refuses by check 33.
 use borrow.Author.Needs.{needs}
-use Rattle.word.proofs.Calls.{has-room, no-room, as-it-was, its-length, its-bytes}
+use Rattle.line_words.proofs.Calls.{has-room, no-room, as-it-was, its-length, its-bytes}
 use Rattle.line_checks.proofs.write.Statement.{statement}
 use Rattle.line_checks.proofs.write.Tie as tie
 

@@ -1,7 +1,7 @@
 -- `put` writes the line.
 use borrow.Author.Needs.{needs}
 use native.Mathlib.Omega.{arith}
-use Rattle.word.proofs.Rooms.{parts3}
+use Rattle.line_words.proofs.Rooms.{parts3}
 use Rattle.line_refused.proofs.put.Statement.{statement}
 use Rattle.line_refused.proofs.put.Tie as tie
 use Rattle.line_refused.specs.Refused.{refusedText}

@@ -1,7 +1,7 @@
 -- `put_end` writes the place and the line's end.
 use borrow.Author.Needs.{needs}
 use native.Mathlib.Omega.{arith}
-use Rattle.word.proofs.Rooms.{parts}
+use Rattle.line_words.proofs.Rooms.{parts}
 use Rattle.line_refused.proofs.put_end.Statement.{statement}
 use Rattle.line_refused.proofs.put_end.Tie as tie
 use Rattle.line_refused.specs.Refused.{refusedEnd}

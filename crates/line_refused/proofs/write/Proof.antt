@@ -1,6 +1,6 @@
 -- `write` writes the line of a refusal.
 use borrow.Author.Needs.{needs}
-use Rattle.word.proofs.Calls.{same-line}
+use Rattle.line_words.proofs.Calls.{same-line}
 use Rattle.line_refused.proofs.Laws.{refusal-line, place-fits}
 use Rattle.line_refused.proofs.write.Statement.{statement}
 use Rattle.line_refused.proofs.write.Tie as tie

@@ -1,6 +1,6 @@
 -- `write_numbers` writes the line, or refuses by check 33.
 use borrow.Author.Needs.{needs}
-use Rattle.word.proofs.Calls.{has-room, no-room, as-it-was, its-length, its-bytes}
+use Rattle.line_words.proofs.Calls.{has-room, no-room, as-it-was, its-length, its-bytes}
 use Rattle.line_refused.proofs.write_numbers.Statement.{statement}
 use Rattle.line_refused.proofs.write_numbers.Tie as tie
 

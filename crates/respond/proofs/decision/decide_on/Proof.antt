@@ -1,6 +1,6 @@
 -- `decide_on` makes checks 20 and 21.
 use borrow.Author.Needs.{needs}
-use Rattle.challenge.proofs.Laws.{info-clear}
+use Rattle.read_challenge.proofs.Laws.{info-clear}
 use Rattle.respond.proofs.Decisions.{decision, read-as}
 use Rattle.respond.proofs.decision.decide_on.Statement.{statement}
 use Rattle.respond.proofs.decision.decide_on.Tie as tie

@@ -1,6 +1,6 @@
 -- `domain_of` hands out the domain as a part of the one that it came from.
 use borrow.Author.Needs.{needs}
-use Rattle.challenge.proofs.Laws.{info-clear}
+use Rattle.read_challenge.proofs.Laws.{info-clear}
 use Rattle.respond.proofs.Domains.{own, value, value-end, end-fits}
 use Rattle.respond.proofs.domain.domain_of.Statement.{statement}
 use Rattle.respond.proofs.domain.domain_of.Tie as tie

@@ -1,0 +1,302 @@
+-- Laws of what is written: the strings of set bits, a message's length, and its checks.
+use Prim.Native.Nat.{ℕ, _+_, _-_, _^_, _≤_, _<_, min}
+use mathlib.Core.Path.{_≡_, refl, sym, ap, _∙_}
+use mathlib.Core.Bool.{Bool, true, false, not}
+use mathlib.Core.List.{List, [], _∷_, _++_, append-assoc}
+use native.Mathlib.Nat.{add-zero}
+use native.Mathlib.Omega.{arith}
+use lib.Dec.{leb, ltb}
+use lib.ListN.{length, take, drop, length-take, length-drop, length-append}
+use mir.Syntax.{w64}
+use mir.Val.{Fits}
+use borrow.Author.Tests.{leb-true}
+use Rattle.wire.specs.declared.check.Checked.{Checked}
+use Rattle.wire.specs.declared.check.Checked.the-variants.{Held, Failed}
+use Rattle.wire.specs.declared.check.Verdict.{Verdict}
+use Rattle.wire.specs.declared.check.Verdict.the-variants.{Clear, Refused}
+use Rattle.wire.specs.declared.refusal.Refusal.{Refusal}
+use Rattle.wire.specs.declared.refusal.Refusal.the-variants.{NoStrings, TooLongToWrite, NoRoom, WrongLabel}
+use Rattle.wire.specs.Check.{checked, after, onClear}
+use Rattle.wire.proofs.Laws.{chain, held-true}
+use Rattle.place.specs.declared.written.Written.{Written}
+use Rattle.place.specs.declared.written.Written.the-variants.{Length}
+use Rattle.place.specs.Place.{Wrote}
+use Rattle.place.specs.Written.{sizeHolds, roomHolds, atFront}
+use Rattle.place.proofs.Laws.{and-then, nothing, kept}
+use Rattle.place.proofs.Numbers.{length-le32}
+use Rattle.place.proofs.Writings.{whole-length, whole-content}
+use Rattle.nl_auth_flags.specs.declared.NlAuthFlags.{NlAuthFlags}
+use Rattle.nl_auth_flags.specs.Flags.{nbDomain, nbComputer, dnsDomain, dnsHost, utf8Computer, noFlags, stringsHold}
+use Rattle.read_nl_auth.specs.NlAuth.{beforeZero}
+use Rattle.write_dns_name.specs.Writing.{nameBytes, textHolds, codedHolds}
+use Rattle.write_nl_auth.specs.Writing.{headBytes, stringBytes, bytesUnder, nameUnder, utf8Bytes, requestBytes, responseBytes, noZero, checkZeros, labelsUnder, checkLabels, codedUnder, checkCoded, checkNames, checkRequest, requestAnswer, requestOut}
+
+-- the string of a bit that was told to be set
+module _ (s : List ℕ) (d : Bool) (h : d ≡ true) where
+  set-bytes : bytesUnder d s ≡ stringBytes s
+  unfolding bytesUnder
+  set-bytes = rw h
+
+  set-length : length (bytesUnder d s) ≡ length s + 1
+  unfolding stringBytes
+  set-length = rw set-bytes (length-append s (0 ∷ []))
+
+  pub set-room : (l : List ℕ) (at : ℕ) → at + length (bytesUnder d s) ≤ length l → length s + 1 ≤ length (take (length l - at) (drop at l))
+  set-room l at r = simp (length-take, length-drop) (omega (arith, set-length))
+
+  pub set-wrote : (l k : List ℕ) (i p : ℕ) → Wrote l k i p (stringBytes s) → Wrote l k i p (bytesUnder d s)
+  set-wrote l k i p w = rw set-bytes w
+
+  pub set-size : (n m r : ℕ) → m ≡ min 65536 (n + length s) → r ≡ min 65536 (m + 1) → r ≡ min 65536 (n + length (bytesUnder d s))
+  set-size n m r e f = omega (arith, set-length)
+
+  pub set-zero : (n : ℕ) (r : Checked) → n ≡ beforeZero s → r ≡ checked (not (ltb n (length s))) → r ≡ noZero (d, s)
+  set-zero n r e f = f ∙ simp (h, e)
+
+-- and of one that was told to be clear
+module _ (s : List ℕ) (d : Bool) (h : d ≡ false) where
+  clear-bytes : bytesUnder d s ≡ []
+  unfolding bytesUnder
+  clear-bytes = rw h
+
+  pub clear-wrote : (l : List ℕ) (i : ℕ) → Wrote l l i i (bytesUnder d s)
+  clear-wrote l i = rw clear-bytes (nothing l i)
+
+  pub clear-size : (n : ℕ) → n ≤ 65536 → n ≡ min 65536 (n + length (bytesUnder d s))
+  clear-size n l = simp (clear-bytes, add-zero) (omega arith)
+
+  pub clear-zero : Held ≡ noZero (d, s)
+  clear-zero = simp h
+
+-- the name of a bit that was told to be set
+module _ (s : List ℕ) (d : Bool) (h : d ≡ true) where
+  set-name : nameUnder d s ≡ nameBytes s
+  unfolding nameUnder
+  set-name = rw h
+
+  pub set-name-room : (l : List ℕ) (at : ℕ) → at + length (nameUnder d s) ≤ length l → 0 + length (nameBytes s) ≤ length (take (length l - at) (drop at l))
+  set-name-room l at r = simp (length-take, length-drop) (omega (arith, ap length set-name))
+
+  pub set-name-fits : (l k z : List ℕ) (at r : ℕ) → at + length (nameUnder d s) ≤ length l → length l < 2 ^ 64 → Wrote k z 0 r (nameBytes s) → Fits w64 (at + r)
+  set-name-fits l k z at r f g w = record { fits = omega (arith, w .place, ap length set-name) }
+
+  pub set-name-wrote : (l k : List ℕ) (i p : ℕ) → Wrote l k i p (nameBytes s) → Wrote l k i p (nameUnder d s)
+  set-name-wrote l k i p w = rw set-name w
+
+  pub set-name-size : (n m r : ℕ) → m ≡ min 65536 (length (nameBytes s)) → r ≡ min 65536 (n + m) → r ≡ min 65536 (n + length (nameUnder d s))
+  set-name-size n m r e f = omega (arith, ap length set-name)
+
+  pub set-labels : (r : Checked) → r ≡ textHolds s → r ≡ labelsUnder (d, s)
+  unfolding labelsUnder
+  set-labels r e = rw h e
+
+  pub set-held : labelsUnder (d, s) ≡ Held → textHolds s ≡ Held
+  unfolding labelsUnder
+  set-held e = rw h at e
+
+  pub set-coded : (r : Checked) → r ≡ codedHolds s → r ≡ codedUnder (d, s)
+  unfolding codedUnder
+  set-coded r e = rw h e
+
+-- and of one that was told to be clear
+module _ (s : List ℕ) (d : Bool) (h : d ≡ false) where
+  clear-name : nameUnder d s ≡ []
+  unfolding nameUnder
+  clear-name = rw h
+
+  pub clear-name-wrote : (l : List ℕ) (i : ℕ) → Wrote l l i i (nameUnder d s)
+  clear-name-wrote l i = rw clear-name (nothing l i)
+
+  pub clear-name-size : (n : ℕ) → n ≤ 65536 → n ≡ min 65536 (n + length (nameUnder d s))
+  clear-name-size n l = simp (clear-name, add-zero) (omega arith)
+
+  pub clear-labels : Held ≡ labelsUnder (d, s)
+  unfolding labelsUnder
+  clear-labels = rw h
+
+  pub clear-coded : Held ≡ codedUnder (d, s)
+  unfolding codedUnder
+  clear-coded = rw h
+
+-- the string of a bit d, whose question was answered by b
+module _ (s : List ℕ) (b d : Bool) (q : b ≡ d) where
+  pub asked-zero : (r : Checked) → r ≡ noZero (b, s) → r ≡ noZero (d, s)
+  asked-zero r e = rw (← q) e
+
+  pub asked-labels : (r : Checked) → r ≡ labelsUnder (b, s) → r ≡ labelsUnder (d, s)
+  asked-labels r e = rw (← q) e
+
+  pub asked-coded : (r : Checked) → r ≡ codedUnder (b, s) → r ≡ codedUnder (d, s)
+  asked-coded r e = rw (← q) e
+
+  pub asked-held : labelsUnder (d, s) ≡ Held → labelsUnder (b, s) ≡ Held
+  asked-held e = rw q e
+
+-- check 50 held for each of C, D and E
+first-held : (k : Checked) (e : Refusal) (x : Verdict) → after k (Refused e) x ≡ Clear → (k ≡ Held) × (x ≡ Clear)
+first-held Held e x h = (refl, h)
+first-held Failed e x h = (cc, cc)
+
+module _ (flags : NlAuthFlags) (c d e : List ℕ) (h : checkLabels flags c d e ≡ Clear) where
+  held-c : (labelsUnder (dnsDomain flags, c) ≡ Held) × (after (labelsUnder (dnsHost flags, d)) (Refused (WrongLabel 4)) (after (labelsUnder (utf8Computer flags, e)) (Refused (WrongLabel 5)) Clear) ≡ Clear)
+  unfolding checkLabels
+  held-c = first-held (labelsUnder (dnsDomain flags, c)) (WrongLabel 3) _ h
+
+  pub labels-c : labelsUnder (dnsDomain flags, c) ≡ Held
+  labels-c = held-c .0
+
+  pub labels-d : labelsUnder (dnsHost flags, d) ≡ Held
+  labels-d = first-held (labelsUnder (dnsHost flags, d)) (WrongLabel 4) _ (held-c .1) .0
+
+  pub labels-e : labelsUnder (utf8Computer flags, e) ≡ Held
+  labels-e = first-held (labelsUnder (utf8Computer flags, e)) (WrongLabel 5) _ (first-held (labelsUnder (dnsHost flags, d)) (WrongLabel 4) _ (held-c .1) .1) .0
+
+-- lengths
+length-head : (t : ℕ) (flags : NlAuthFlags) → length (headBytes t flags) ≡ 8
+unfolding headBytes
+length-head t flags = simp (length-append, length-le32)
+
+pub length-response : length responseBytes ≡ 9
+unfolding responseBytes
+length-response = simp (length-append, length-head)
+
+module _ (flags : NlAuthFlags) (a b c d e : List ℕ) where
+  abbrev requestSize : ℕ
+  requestSize =
+      8 + (length (bytesUnder (nbDomain flags) a) + (length (bytesUnder (nbComputer flags) b) + (length (nameUnder (dnsDomain flags) c)
+      + (length (nameUnder (dnsHost flags) d) + length (nameUnder (utf8Computer flags) e)))))
+
+  pub length-request : length (requestBytes flags a b c d e) ≡ requestSize
+  unfolding requestBytes utf8Bytes
+  length-request = simp (length-append, length-head)
+
+  -- its strings, by the answers v to z to their bits' questions
+  module _ (v w x y z : Bool) (p : v ≡ nbDomain flags) (q : w ≡ nbComputer flags) (r : x ≡ dnsDomain flags) (s : y ≡ dnsHost flags) (t : z ≡ utf8Computer flags) where
+    answered-size : requestSize ≡ 8 + (length (bytesUnder v a) + (length (bytesUnder w b) + (length (nameUnder x c) + (length (nameUnder y d) + length (nameUnder z e)))))
+    answered-size = rw (p, q, r, s, t)
+
+    -- their lengths, counted one by one
+    pub size-is : (k l m n o : ℕ) →
+        k ≡ min 65536 (8 + length (bytesUnder v a)) →
+        l ≡ min 65536 (k + length (bytesUnder w b)) →
+        m ≡ min 65536 (l + length (nameUnder x c)) →
+        n ≡ min 65536 (m + length (nameUnder y d)) →
+        o ≡ min 65536 (n + length (nameUnder z e)) →
+        o ≡ min 65536 (length (requestBytes flags a b c d e))
+    size-is k l m n o f g h i j = omega (arith, length-request, answered-size)
+
+-- strings after one another, by the answers to their bits' questions: room for each, and what they come to
+module _ (flags : NlAuthFlags) (a b l : List ℕ) (i : ℕ) (room : i + (length (bytesUnder (nbDomain flags) a) + length (bytesUnder (nbComputer flags) b)) ≤ length l)
+    (v : Bool) (p : v ≡ nbDomain flags) where
+  pub room-a : i + length (bytesUnder v a) ≤ length l
+  room-a = rw p (omega arith)
+
+  module _ (k : List ℕ) (j : ℕ) (u : Wrote l k i j (bytesUnder v a)) (w : Bool) (q : w ≡ nbComputer flags) where
+    pub room-b : j + length (bytesUnder w b) ≤ length k
+    room-b = rw q (omega (arith, (rw p at u) .place, kept l k _ i j u))
+
+    module _ (m : List ℕ) (n : ℕ) (x : Wrote k m j n (bytesUnder w b)) where
+      pub oem-wrote : Wrote l m i n (bytesUnder (nbDomain flags) a ++ bytesUnder (nbComputer flags) b)
+      oem-wrote = rw (← p, ← q) (and-then l k m _ _ i j n u x)
+
+      pub oem-next : n ≡ i + (length (bytesUnder (nbDomain flags) a) + length (bytesUnder (nbComputer flags) b))
+      oem-next = omega (arith, (rw p at u) .place, (rw q at x) .place)
+
+module _ (flags : NlAuthFlags) (c d e l : List ℕ) (i : ℕ)
+    (room : i + (length (nameUnder (dnsDomain flags) c) + (length (nameUnder (dnsHost flags) d) + length (nameUnder (utf8Computer flags) e))) ≤ length l)
+    (x : Bool) (p : x ≡ dnsDomain flags) where
+  pub room-c : i + length (nameUnder x c) ≤ length l
+  room-c = rw p (omega arith)
+
+  module _ (k : List ℕ) (j : ℕ) (u : Wrote l k i j (nameUnder x c)) (y : Bool) (q : y ≡ dnsHost flags) where
+    pub room-d : j + length (nameUnder y d) ≤ length k
+    room-d = rw q (omega (arith, (rw p at u) .place, kept l k _ i j u))
+
+    module _ (m : List ℕ) (n : ℕ) (v : Wrote k m j n (nameUnder y d)) (z : Bool) (s : z ≡ utf8Computer flags) where
+      pub room-e : n + length (nameUnder z e) ≤ length m
+      room-e = rw s (omega (arith, (rw p at u) .place, (rw q at v) .place, kept l k _ i j u, kept k m _ j n v))
+
+      pub names-wrote : (o : List ℕ) (r : ℕ) → Wrote m o n r (nameUnder z e) → Wrote l o i r (utf8Bytes flags c d e)
+      unfolding utf8Bytes
+      names-wrote o r w = rw (← p, ← q, ← s) (and-then l k o _ _ i j r u (and-then k m o _ _ j n r v w))
+
+-- the head, the OEM strings and the UTF-8 strings
+pub request-wrote : (flags : NlAuthFlags) (a b c d e l h k m : List ℕ) (i j n : ℕ) → Wrote l h 0 i (headBytes 0 flags) →
+    Wrote h k i j (bytesUnder (nbDomain flags) a ++ bytesUnder (nbComputer flags) b) → Wrote k m j n (utf8Bytes flags c d e) →
+    Wrote l m 0 n (requestBytes flags a b c d e)
+unfolding requestBytes
+request-wrote flags a b c d e l h k m i j n u v w =
+    and-then l h m _ _ 0 i n u
+    (rw (← append-assoc (bytesUnder (nbDomain flags) a) (bytesUnder (nbComputer flags) b) (utf8Bytes flags c d e)) (and-then h k m _ _ i j n v w))
+
+-- ---- the checks
+
+room-held : (k m : Checked) (z v : Verdict) (t : Bool) →
+    after k (Refused NoStrings) (onClear Refused z (onClear Refused v (after m (Refused TooLongToWrite) (after (checked t) (Refused NoRoom) Clear)))) ≡ Clear →
+    (v ≡ Clear) × (t ≡ true)
+room-held Held Held Clear Clear true h = (refl, refl)
+room-held Held Held Clear Clear false h = (cc, cc)
+room-held Held Failed Clear Clear t h = (cc, cc)
+room-held Held m Clear (Refused e) t h = (cc, cc)
+room-held Held m (Refused e) v t h = (cc, cc)
+room-held Failed m z v t h = (cc, cc)
+
+labels-held : (v w : Verdict) → onClear Refused v w ≡ Clear → v ≡ Clear
+labels-held Clear w h = refl
+labels-held (Refused e) w h = cc
+
+-- a request whose checks held has its room
+module _ (flags : NlAuthFlags) (a b c d e : List ℕ) (room : ℕ) (v : Verdict) (p : v ≡ checkRequest room flags a b c d e) (h : v ≡ Clear) where
+  held : (checkNames flags c d e ≡ Clear) × (leb (length (requestBytes flags a b c d e)) room ≡ true)
+  unfolding checkRequest
+  held =
+      let n : ℕ = length (requestBytes flags a b c d e) in
+      room-held (stringsHold flags) (sizeHolds n) (checkZeros flags a b c d e) (checkNames flags c d e) (leb n room) (sym p ∙ h)
+
+  pub request-labels : checkLabels flags c d e ≡ Clear
+  unfolding checkNames
+  request-labels = labels-held (checkLabels flags c d e) (checkCoded flags c d e) (held .0)
+
+  pub request-fits : length (requestBytes flags a b c d e) ≤ room
+  request-fits = leb-true (length (requestBytes flags a b c d e)) room (held .1)
+
+  pub request-room : requestSize flags a b c d e ≤ room
+  request-room = rw (length-request flags a b c d e) at request-fits
+
+-- a response
+pub of-response : (room : ℕ) (r : Checked) → r ≡ roomHolds 9 room → r ≡ roomHolds (length responseBytes) room
+of-response room r e = rw length-response e
+
+module _ (l : List ℕ) (r : Checked) (e : r ≡ roomHolds 9 (length l)) (h : r ≡ Held) where
+  nine : 9 ≤ length l
+  nine = leb-true 9 (length l) (held-true (leb 9 (length l)) (sym e ∙ h))
+
+  pub head-room : 8 ≤ length l
+  head-room = omega (arith, nine)
+
+  pub last-room : (k xs : List ℕ) (p : ℕ) → Wrote l k 0 p xs → p ≡ 8 → p + 1 ≤ length k
+  last-room k xs p w q = omega (arith, nine, kept l k xs 0 p w)
+
+  pub response-fits : length responseBytes ≤ length l
+  response-fits = rw length-response nine
+
+module _ (l k m : List ℕ) (p q : ℕ) (v : Wrote l k 0 p (headBytes 1 noFlags)) (w : Wrote k m p q (0 ∷ [])) where
+  both : Wrote l m 0 q responseBytes
+  unfolding responseBytes
+  both = and-then l k m _ _ 0 p q v w
+
+  pub response-length : Length q ≡ Length (length responseBytes)
+  response-length = whole-length l m responseBytes q both
+
+  pub response-content : length responseBytes ≤ length l → m ≡ atFront responseBytes l
+  response-content fits = whole-content l m responseBytes q both fits
+
+pub ruleset response = (chain, of-response, response-fits, response-length, response-content)
+
+-- flags that were made known first
+module _ (f g : NlAuthFlags) (q : f ≡ g) (a b c d e : List ℕ) where
+  pub of-answer : (room : ℕ) (r : Written) → r ≡ requestAnswer room f a b c d e → r ≡ requestAnswer room g a b c d e
+  of-answer room r z = rw (← q) z
+
+  pub of-out : (l k : List ℕ) → k ≡ requestOut l f a b c d e → k ≡ requestOut l g a b c d e
+  of-out l k z = rw (← q) z

@@ -1,0 +1,117 @@
+-- NL_AUTH_MESSAGE (MS-NRPC 2.2.1.3.1), written as documents 01 and 02 set it out, into a lent output.
+use Prim.Native.Nat.{ℕ}
+use mathlib.Core.Bool.{Bool, _&&_, not, cond}
+use mathlib.Core.List.{List, [], _∷_, _++_}
+use lib.ListN.{length}
+use Rattle.wire.specs.declared.check.Checked.{Checked}
+use Rattle.wire.specs.declared.check.Checked.the-variants.{Held}
+use Rattle.wire.specs.declared.check.Verdict.{Verdict}
+use Rattle.wire.specs.declared.check.Verdict.the-variants.{Clear, Refused as Not}
+use Rattle.wire.specs.declared.refusal.Refusal.the-variants.{NoStrings, TooLongToWrite, NoRoom, ZeroInString, WrongLabel, NameTooLong}
+use Rattle.wire.specs.Check.{checked, after, overAll, onClear}
+use Rattle.place.specs.declared.written.Written.{Written}
+use Rattle.place.specs.declared.written.Written.the-variants.{Length, Refused}
+use Rattle.place.specs.Place.{le32}
+use Rattle.place.specs.Written.{sizeHolds, roomHolds, atFront, answered, outAfter}
+use Rattle.nl_auth_flags.specs.declared.NlAuthFlags.{NlAuthFlags}
+use Rattle.nl_auth_flags.specs.Flags.{nbDomain, nbComputer, dnsDomain, dnsHost, utf8Computer, noFlags, stringsHold}
+use Rattle.read_nl_auth.specs.NlAuth.{holdsZero}
+use Rattle.write_dns_name.specs.Writing.{nameBytes, textHolds, codedHolds}
+
+-- ---- the bytes
+
+-- MessageType and Flags
+unfoldable pub headBytes : ℕ → NlAuthFlags → List ℕ
+headBytes t flags = le32 t ++ le32 (flags .bits)
+
+-- string A or B and its zero byte
+unfoldable pub stringBytes : List ℕ → List ℕ
+stringBytes x = x ++ (0 ∷ [])
+
+-- the string of a bit; where that is clear it is passed over
+unfoldable pub bytesUnder : Bool → List ℕ → List ℕ
+bytesUnder set x = cond set (stringBytes x) []
+
+-- the UTF-8 strings, C to E: "without jumps, from text split at full stops"
+unfoldable pub nameUnder : Bool → List ℕ → List ℕ
+nameUnder set x = cond set (nameBytes x) []
+
+unfoldable pub utf8Bytes : NlAuthFlags → List ℕ → List ℕ → List ℕ → List ℕ
+utf8Bytes flags c d e =
+    nameUnder (dnsDomain flags) c ++ (
+    nameUnder (dnsHost flags) d ++
+    nameUnder (utf8Computer flags) e)
+
+-- a request: one string for each set bit, A first
+unfoldable pub requestBytes : NlAuthFlags → List ℕ → List ℕ → List ℕ → List ℕ → List ℕ → List ℕ
+requestBytes flags a b c d e =
+    headBytes 0 flags ++ (
+    bytesUnder (nbDomain flags) a ++ (
+    bytesUnder (nbComputer flags) b ++
+    utf8Bytes flags c d e))
+
+-- a response: its flags are zero, its buffer is one zero byte
+unfoldable pub responseBytes : List ℕ
+responseBytes = headBytes 1 noFlags ++ (0 ∷ [])
+
+-- ---- the checks
+
+-- strings C to E with their bits, C first
+abbrev pub names : NlAuthFlags → List ℕ → List ℕ → List ℕ → List (ℕ × (Bool × List ℕ))
+names flags c d e = (3, (dnsDomain flags, c)) ∷ (4, (dnsHost flags, d)) ∷ (5, (utf8Computer flags, e)) ∷ []
+
+-- check 34 at one string: a set bit's string holds no zero byte
+abbrev pub noZero : Bool × List ℕ → Checked
+noZero x = checked (not (x .0 && holdsZero (x .1)))
+
+-- check 34, A first, and its part over C to E
+unfoldable pub checkNameZeros : NlAuthFlags → List ℕ → List ℕ → List ℕ → Verdict
+checkNameZeros flags c d e = overAll noZero ZeroInString (names flags c d e)
+
+unfoldable pub checkZeros : NlAuthFlags → List ℕ → List ℕ → List ℕ → List ℕ → List ℕ → Verdict
+checkZeros flags a b c d e = overAll noZero ZeroInString ((1, (nbDomain flags, a)) ∷ (2, (nbComputer flags, b)) ∷ names flags c d e)
+
+-- check 50 at one string: the labels of a set bit's string have 1 to 63 bytes
+unfoldable pub labelsUnder : Bool × List ℕ → Checked
+labelsUnder x = cond (x .0) (textHolds (x .1)) Held
+
+unfoldable pub checkLabels : NlAuthFlags → List ℕ → List ℕ → List ℕ → Verdict
+checkLabels flags c d e = overAll labelsUnder WrongLabel (names flags c d e)
+
+-- check 53 at one string: its coded length is at most 255
+unfoldable pub codedUnder : Bool × List ℕ → Checked
+codedUnder x = cond (x .0) (codedHolds (x .1)) Held
+
+unfoldable pub checkCoded : NlAuthFlags → List ℕ → List ℕ → List ℕ → Verdict
+checkCoded flags c d e = overAll codedUnder NameTooLong (names flags c d e)
+
+-- "50 .. then 53", each over all strings
+unfoldable pub checkNames : NlAuthFlags → List ℕ → List ℕ → List ℕ → Verdict
+checkNames flags c d e = onClear Not (checkLabels flags c d e) (checkCoded flags c d e)
+
+-- a request, for an output of so many bytes: 14, 34, 50, 53, 30, 33
+unfoldable pub checkRequest : ℕ → NlAuthFlags → List ℕ → List ℕ → List ℕ → List ℕ → List ℕ → Verdict
+checkRequest room flags a b c d e =
+    after (stringsHold flags) (Not NoStrings) (
+    onClear Not (checkZeros flags a b c d e) (
+    onClear Not (checkNames flags c d e) (
+    after (sizeHolds (length (requestBytes flags a b c d e))) (Not TooLongToWrite) (
+    after (roomHolds (length (requestBytes flags a b c d e)) room) (Not NoRoom)
+    Clear))))
+
+-- ---- what a writing answers, and what it leaves in the output
+
+-- a request with flags of bits A to E alone
+unfoldable pub requestAnswer : ℕ → NlAuthFlags → List ℕ → List ℕ → List ℕ → List ℕ → List ℕ → Written
+requestAnswer room flags a b c d e = answered (checkRequest room flags a b c d e) (requestBytes flags a b c d e)
+
+unfoldable pub requestOut : List ℕ → NlAuthFlags → List ℕ → List ℕ → List ℕ → List ℕ → List ℕ → List ℕ
+requestOut out flags a b c d e =
+    outAfter (checkRequest (length out) flags a b c d e) (requestBytes flags a b c d e) out
+
+-- a response: 33
+unfoldable pub responseAnswer : ℕ → Written
+responseAnswer room = after (roomHolds (length responseBytes) room) (Refused NoRoom) (Length (length responseBytes))
+
+unfoldable pub responseOut : List ℕ → List ℕ
+responseOut out = after (roomHolds (length responseBytes) (length out)) out (atFront responseBytes out)
