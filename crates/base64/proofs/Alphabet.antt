@@ -1,5 +1,5 @@
 -- The alphabet: what the code works out for a value or a character is what the table has.
-use Prim.Native.Nat.{ℕ, suc, _+_, _%_, _<_}
+use Prim.Native.Nat.{ℕ, suc, _+_, _/_, _%_, _≤_, _<_}
 use mathlib.Core.Path.{_≡_, refl, sym, ap, _∙_}
 use mathlib.Core.Bool.{Bool, true, false, not, cond, _&&_, _||_}
 use mathlib.Core.List.{List, [], _∷_}
@@ -30,7 +30,7 @@ abbrev workedLetter : ℕ → ℕ
 workedLetter v = cond (ltb v 26) (v + 65) (cond (ltb v 52) (v + 71) (cond (ltb v 62) ((v + 60) % 64) (cond (eqb v 62) 43 47)))
 
 abbrev workedTest : ℕ → Bool
-workedTest c = (leb 65 c && leb c 90) || (leb 97 c && leb c 122) || (leb 48 c && leb c 57) || eqb c 43 || eqb c 47
+workedTest c = (leb 65 c && leb c 90) || (leb 97 c && leb c 122) || (leb 47 c && leb c 57) || eqb c 43
 
 abbrev workedValue : ℕ → ℕ
 workedValue c =
@@ -39,6 +39,9 @@ workedValue c =
     cond (leb 48 c && leb c 57) ((c % 64 + 4) % 64) (
     cond (eqb c 43) 62 (
     cond (eqb c 47) 63 0))))
+
+abbrev workedFew : ℕ → ℕ
+workedFew c = cond (leb 48 c) ((c % 64 + cond (leb 97 c) 57 (cond (leb 65 c) 63 4)) % 64) (c / 4 + 52)
 
 -- ---- tests that are computed, over the alphabet and over all bytes
 
@@ -57,6 +60,10 @@ places-test = tt
 bytes-test : T (every (λ k x. same (workedTest k) (isLetter k) && eqb (workedValue k) (valueOf k)) 0 (replicate 256 0))
 unfolding alphabet isLetter valueOf
 bytes-test = tt
+
+few-test : T (every (λ k x. not (isLetter k) || eqb (workedFew k) (valueOf k)) 0 (replicate 256 0))
+unfolding alphabet isLetter valueOf
+few-test = tt
 
 and-left : (a b : Bool) → T (a && b) → T a
 and-left true b t = tt
@@ -108,6 +115,31 @@ module _ (c : ℕ) (h : c < 256) where
       (ey ∙ ap (λ (n : ℕ). cond (eqb c 43) 62 n) ez)))
       ∙ worked-is
 
+-- ---- the same of a letter, by fewer questions
+
+pub shift-fits : (c x y : ℕ) → y ≡ cond (leb 65 c) 63 4 → x ≡ cond (leb 97 c) 57 y → c % 64 + x < 256
+shift-fits c x y ey ex = omega (arith, ex ∙ ap (λ (n : ℕ). cond (leb 97 c) 57 n) ey, chosen (leb 97 c) (leb 65 c)) where
+  chosen : (a b : Bool) → cond a 57 (cond b 63 4) ≤ 63
+  chosen true b = omega arith
+  chosen false true = omega arith
+  chosen false false = omega arith
+
+or-right : (a b : Bool) → a ≡ true → T (not a || b) → T b
+or-right a b e t = rw e at t
+
+module _ (c : ℕ) (h : c < 256) (l : isLetter c ≡ true) where
+  few-is : workedFew c ≡ valueOf c
+  few-is =
+      eqb→eq (workedFew c) (valueOf c)
+      (or-right (isLetter c) (eqb (workedFew c) (valueOf c)) l
+      (at (λ k x. not (isLetter k) || eqb (workedFew k) (valueOf k)) (replicate 256 0) few-test c h))
+
+  -- of the numbers chosen one after the other, the last is the value
+  pub is-value-few : (r x y : ℕ) → y ≡ cond (leb 65 c) 63 4 → x ≡ cond (leb 97 c) 57 y → r ≡ cond (leb 48 c) ((c % 64 + x) % 64) (c / 4 + 52) →
+      r ≡ valueOf c
+  is-value-few r x y ey ex er =
+      er ∙ ap (λ (n : ℕ). cond (leb 48 c) ((c % 64 + n) % 64) (c / 4 + 52)) (ex ∙ ap (λ (n : ℕ). cond (leb 97 c) 57 n) ey) ∙ few-is
+
 -- ---- of any number
 
 place-is : (xs : List ℕ) (c : ℕ) → placeAmong xs c < length xs → getD xs (placeAmong xs c) 0 ≡ c
@@ -135,6 +167,10 @@ value-small c = go (ltb (placeAmong alphabet c) 64) refl where
 pub value-below : (c r w x y z : ℕ) → c < 256 → z ≡ cond (eqb c 47) 63 0 → y ≡ cond (eqb c 43) 62 z → x ≡ cond (leb 48 c && leb c 57) ((c % 64 + 4) % 64) y →
     w ≡ cond (leb 97 c && leb c 122) ((c % 64 + 57) % 64) x → r ≡ cond (leb 65 c && leb c 90) ((c % 64 + 63) % 64) w → r < 64
 value-below c r w x y z h ez ey ex ew er = omega (arith, is-value c h r w x y z ez ey ex ew er, value-small c)
+
+pub few-below : (c r x y : ℕ) → c < 256 → isLetter c ≡ true → y ≡ cond (leb 65 c) 63 4 → x ≡ cond (leb 97 c) 57 y →
+    r ≡ cond (leb 48 c) ((c % 64 + x) % 64) (c / 4 + 52) → r < 64
+few-below c r x y h l ey ex er = omega (arith, is-value-few c h l r x y ey ex er, value-small c)
 
 -- the padding character is no letter
 pub pad-no-letter : isLetter 61 ≡ false

@@ -141,6 +141,16 @@ pub ruleset groups = (group-1, group-2, group-3)
 
 -- a group before the last has no padding
 module _ (a b c d : ℕ) (h : groupHolds false a b c d ≡ true) where
+  first-letters : isLetter a && isLetter b ≡ true
+  unfolding groupHolds
+  first-letters = and-left (isLetter a && isLetter b) _ h
+
+  pub letter-1 : isLetter a ≡ true
+  letter-1 = and-left (isLetter a) (isLetter b) first-letters
+
+  pub letter-2 : isLetter b ≡ true
+  letter-2 = and-right (isLetter a) (isLetter b) first-letters
+
   both-letters : isLetter c && isLetter d ≡ true
   unfolding groupHolds
   both-letters = or-neither (isLetter c && isLetter d) (and-right (isLetter a && isLetter b) _ h) where
@@ -148,11 +158,17 @@ module _ (a b c d : ℕ) (h : groupHolds false a b c d ≡ true) where
     or-neither true e = refl
     or-neither false e = e
 
+  pub letter-3 : isLetter c ≡ true
+  letter-3 = and-left (isLetter c) (isLetter d) both-letters
+
+  pub letter-4 : isLetter d ≡ true
+  letter-4 = and-right (isLetter c) (isLetter d) both-letters
+
   pub third-letter : eqb c 61 ≡ false
-  third-letter = no-pad c (and-left (isLetter c) (isLetter d) both-letters)
+  third-letter = no-pad c letter-3
 
   pub fourth-letter : eqb d 61 ≡ false
-  fourth-letter = no-pad d (and-right (isLetter c) (isLetter d) both-letters)
+  fourth-letter = no-pad d letter-4
 
   pub full-room : (p n : ℕ) → p + length (groupBytes a b c d) ≤ n → p + 3 ≤ n
   full-room p n r = room-3 p n a b c d r (eqb-false c 61 third-letter) (eqb-false d 61 fourth-letter)
@@ -161,6 +177,8 @@ module _ (a b c d : ℕ) (h : groupHolds false a b c d ≡ true) where
       Wrote l m p q ((s * 4 + t / 16) ∷ (t % 16 * 16 + u / 4) ∷ (u % 4 * 64 + v) ∷ []) → Wrote l m p q (groupBytes a b c d)
   full-group l m p q s t u v es et eu ev w =
       group-3 l m p q a b c d s t u v es et eu ev (eqb-false c 61 third-letter) (eqb-false d 61 fourth-letter) w
+
+pub ruleset four-letters = (letter-1, letter-2, letter-3, letter-4)
 
 -- the rest of a text in base64 is in base64
 pub record Sound (t : List ℕ) (i : ℕ) : Type 0 where

@@ -96,15 +96,14 @@ pub fn put_encoded(p: Place, out: &mut [u8], m: &[u8]) -> Place
     q
 }
 
-// Whether a character is of the alphabet.
+// Whether a character is of the alphabet. The slash stands right before the digits.
 fn is_letter(c: u8) -> bool
     ensures { λ r. ⌜ r ≡ isLetter c ⌝ }
 {
     ((b'A' <= c) & (c <= b'Z'))
         | ((b'a' <= c) & (c <= b'z'))
-        | ((b'0' <= c) & (c <= b'9'))
+        | ((b'/' <= c) & (c <= b'9'))
         | (c == b'+')
-        | (c == b'/')
 }
 
 // Its value there, 0 for one that is not of it.
@@ -119,14 +118,17 @@ fn value_of(c: u8) -> u8
     choose((b'A' <= c) & (c <= b'Z'), (low + 63) % 64, small)
 }
 
-// Whether a group before the last stands for bytes: four letters.
-fn letters_hold(a: u8, b: u8, c: u8, d: u8) -> bool
-    ensures { λ r. ⌜ r ≡ groupHolds false a b c d ⌝ }
+// The value of a character that is of it. Capitals stand above the digits, small letters above both, and the signs below.
+fn letter_value(c: u8) -> u8
+    requires { ⌜ isLetter c ≡ true ⌝ }
+    ensures { λ r. ⌜ (r ≡ valueOf c) × (r < 64) ⌝ }
 {
-    is_letter(a) & is_letter(b) & is_letter(c) & is_letter(d)
+    let capital = choose(b'A' <= c, 63, 4);
+    let shift = choose(b'a' <= c, 57, capital);
+    choose(b'0' <= c, (c % 64 + shift) % 64, c / 4 + 52)
 }
 
-// Whether the last group does, with the padding and the bits left over.
+// Whether the last group stands for bytes, with the padding and the bits left over.
 fn last_holds(a: u8, b: u8, c: u8, d: u8) -> bool
     ensures { λ r. ⌜ r ≡ groupHolds true a b c d ⌝ }
 {
@@ -137,21 +139,22 @@ fn last_holds(a: u8, b: u8, c: u8, d: u8) -> bool
             | ((c == b'=') & (d == b'=') & (value_of(b) % 16 == 0)))
 }
 
-// Whether a text is in base64.
+// Whether a text is in base64: groups of four, and letters alone before the last.
 pub fn is_base64(t: &[u8]) -> bool
     ensures { λ r. ⌜ r ≡ isBase64 (now (t .entry)) ⌝ }
 {
-    let mut ok = true;
+    let n = t.len();
+    if n < 4 {
+        return n == 0;
+    }
+    let last = n - 4;
+    let mut ok = n % 4 == 0;
     let mut i: usize = 0;
-    while 4 < t.len() - i {
-        ok = ok & letters_hold(t[i], t[i + 1], t[i + 2], t[i + 3]);
-        i = i + 4;
+    while i < last {
+        ok = ok & is_letter(t[i]);
+        i = i + 1;
     }
-    let left = t.len() - i;
-    if left == 4 {
-        return ok & last_holds(t[i], t[i + 1], t[i + 2], t[i + 3]);
-    }
-    ok & (left == 0)
+    ok & last_holds(t[last], t[last + 1], t[last + 2], t[last + 3])
 }
 
 // Two bytes, and three.
@@ -181,10 +184,10 @@ fn put_full(p: Place, out: &mut [u8], a: u8, b: u8, c: u8, d: u8) -> Place
     requires { ⌜ (groupHolds false a b c d ≡ true) × (p .at + length (groupBytes a b c d) ≤ length (now out)) ⌝ }
     ensures { λ r. ⌜ Wrote (now (out .entry)) (now (out .exit)) (p .at) (r .at) (groupBytes a b c d) ⌝ }
 {
-    let s = value_of(a);
-    let t = value_of(b);
-    let u = value_of(c);
-    let v = value_of(d);
+    let s = letter_value(a);
+    let t = letter_value(b);
+    let u = letter_value(c);
+    let v = letter_value(d);
     put_triple(p, out, s * 4 + t / 16, t % 16 * 16 + u / 4, u % 4 * 64 + v)
 }
 
