@@ -14,6 +14,7 @@ use Rattle.wire.specs.declared.refusal.Refusal.{Refusal}
 use Rattle.av_pairs.specs.AvPairs.{checkPairs, stepAt, pairOf, left}
 use Rattle.field.specs.Field.{fieldAt, fieldBytes}
 use Rattle.line_words.specs.Digits.{hexDigit, decimalSize, decimal}
+use Rattle.line_words.proofs.Numbers.{decimal-bound}
 use Rattle.line_words.specs.Words.{numberWord}
 use Rattle.head.specs.declared.Kind.{Kind}
 use Rattle.head.specs.declared.Kind.the-variants.{Negotiate, Challenge, Authenticate}
@@ -42,7 +43,6 @@ use Rattle.demands.specs.RefusedLine.{refusedBytes, NlRefusedAs, Refused
 use Rattle.demands.proofs.Answers.SmallFields.{SmallC, negotiate-small, challenge-small, authenticate-small, nl-auth-small}
 use Rattle.demands.proofs.Answers.Told.{Small, number-small}
 use Rattle.demands.proofs.Explained.{refused-not, refused-as, refused-is}
-use Rattle.demands.proofs.Explained.Short.{decimal-bound}
 use Rattle.demands.proofs.LineShows.{line-refused, opens-refusal, nl-refused, nl-opens-refusal}
 use Rattle.demands.proofs.LineShows.Lines.{refusedWords}
 use Rattle.demands.proofs.LineShows.Names.{decimal-visible, decimal-shows}

@@ -92,7 +92,7 @@ fn room_after_words(room: usize, reached: bool, f: Figures, n: u8) -> usize
 }
 
 // Check 33, line by line: what is left after a line's words has to have room for its end.
-fn fits(checks: &[u8], f: Figures, room: usize) -> Checked
+fn lines_fit(checks: &[u8], f: Figures, room: usize) -> Checked
     ensures { λ r. ⌜ r ≡ roomHolds (length (checkLines f (now (checks .entry)))) room ⌝ }
 {
     let mut left = room;
@@ -109,6 +109,17 @@ fn fits(checks: &[u8], f: Figures, room: usize) -> Checked
         i = i + 1;
     }
     Checked::Held
+}
+
+// Check 33. The failed check's line has at most 111 bytes and any other at most 22: where there is room for thirteen such lines,
+// they aren't measured.
+fn fits(checks: &[u8], f: Figures, room: usize) -> Checked
+    ensures { λ r. ⌜ r ≡ roomHolds (length (checkLines f (now (checks .entry)))) room ⌝ }
+{
+    if (checks.len() <= 13) & (12 * 22 + 111 <= room) {
+        return Checked::Held;
+    }
+    lines_fit(checks, f, room)
 }
 
 // ---- the words

@@ -1,5 +1,5 @@
 -- How long the print is at most.
-use Prim.Native.Nat.{ℕ, zero, suc, _+_, _/_, _^_, _≤_, _<_}
+use Prim.Native.Nat.{ℕ, suc, _+_, _≤_, _<_}
 use mathlib.Core.Path.{_≡_, refl}
 use mathlib.Core.Bool.{Bool, true, false, _&&_, not, cond}
 use mathlib.Core.List.{List, [], _∷_, _++_}
@@ -14,9 +14,9 @@ use Rattle.wire.specs.declared.refusal.Refusal.{Refusal}
 use Rattle.wire.specs.declared.refusal.Refusal.the-variants.{NoRoom}
 use Rattle.wire.specs.Number.{u16At, u32At}
 use Rattle.wire.specs.Refusal.{numberOf, fieldOf, placeOf}
-use Rattle.line_words.specs.Digits.{sizeStep, sizeWithin, decimalSize, decimal}
+use Rattle.line_words.specs.Digits.{decimalSize, decimal}
 use Rattle.line_words.specs.Words.{numberWord}
-use Rattle.line_words.proofs.Numbers.{length-digits}
+use Rattle.line_words.proofs.Numbers.{word-bound}
 use Rattle.head.specs.declared.Kind.{Kind}
 use Rattle.head.specs.declared.Kind.the-variants.{Negotiate, Challenge, Authenticate}
 use Rattle.head.specs.Head.{kindOf}
@@ -38,25 +38,6 @@ use Rattle.demands.proofs.Answers.Told.{number-small, tells-refusal, te
 use Rattle.demands.proofs.Digits.{decimal-has-value}
 use Rattle.demands.proofs.Explained.{refused-as, head-is, explained-answered}
 use Rattle.demands.proofs.Explained.Reasons.{why}
-
--- ---- decimals
-
--- a number below ten to the k has at most k digits
-few : (j k n : ℕ) → n < 10 ^ suc k → sizeWithin j n ≤ suc k
-few zero k n h = omega arith
-few (suc j) k n h = go (ltb n 10) refl (λ i m. few j i m) k h where
-  go : (t : Bool) → ltb n 10 ≡ t → ((i m : ℕ) → m < 10 ^ suc i → sizeWithin j m ≤ suc i) → (k : ℕ) → n < 10 ^ suc k → sizeStep t n (λ m. sizeWithin j m) ≤ suc k
-  go true e rest k h = omega arith
-  go false e rest zero h = absurd (omega (arith, ltb-false n 10 e))
-  go false e rest (suc k) h = omega (arith, rest k (n / 10) (omega arith))
-
-pub decimal-bound : (k n : ℕ) → n < 10 ^ suc k → length (decimal n) ≤ suc k
-unfolding decimal decimalSize
-decimal-bound k n l = omega (arith, length-digits 10 (decimalSize n) n, few n k n l)
-
-word-bound : (label : List ℕ) (k n : ℕ) → n < 10 ^ suc k → length (numberWord label n) ≤ length label + suc k
-unfolding numberWord
-word-bound label k n l = omega (arith, length-append label (decimal n), decimal-bound k n l)
 
 -- ---- a line
 

@@ -1,20 +1,22 @@
--- `fits` is check 33.
+-- `fits` is check 33: where thirteen lines have room at their longest, and else by measuring.
 use borrow.Author.Needs.{needs}
-use Prim.Native.Nat.{_-_}
-use lib.ListN.{length}
-use Rattle.line_checks.proofs.Laws.{Passed, none-passed, one-passed, no-line-room, all-passed}
+use Rattle.line_checks.proofs.Bound.{lines-have-room}
 use Rattle.line_checks.proofs.fits.Statement.{statement}
 use Rattle.line_checks.proofs.fits.Tie as tie
-
-abbrev Inv-loop : tie.InvT-loop
-Inv-loop checks f room left₀ reached₀ i₀ left reached i = Passed f checks room left reached i
-
-abbrev μ-loop : tie.MeasureT-loop
-μ-loop checks f room left₀ reached₀ i₀ left reached i = length checks - i
 
 pub fits-spec : {M : Type 1} → statement M
 fits-spec =
     tie.close
     (tie.spec
-    Inv-loop μ-loop (λ c. none-passed _ _ _) (λ c. search needs) (λ c κs. search needs) (λ c. search no-line-room)
-    (λ c. search needs) (λ c. search needs) (λ c. search needs) (λ c. search one-passed) (λ c. search all-passed))
+    (λ c. search needs) (λ c. search needs) (λ c. lines-have-room _
+    (record {
+      number = search needs;
+      field = search needs;
+      offset = search needs;
+      len = search needs;
+      message = search needs;
+      at = search needs;
+      id = search needs;
+      size = search needs;
+    })
+    _ _ (λ i. c .before .shared-slice-known .given i .fits) (search needs)) (λ c κs. search needs) (λ c. search needs))
