@@ -1,6 +1,6 @@
 // The line of an AUTHENTICATE message that was taken.
 ghost use mathlib.Core.Path.{_≡_};
-ghost use Prim.Native.Nat.{_-_, _≤_};
+ghost use Prim.Native.Nat.{_+_, _-_, _≤_};
 ghost use lib.ListN.{length};
 ghost use Rattle.negotiate_flags.specs.Flags.{unicode};
 ghost use Rattle.read_authenticate.specs.declared.Reading.the-variants.{Taken};
@@ -16,6 +16,7 @@ use line_words::words::put_number_word;
 use line_words::words::put_start;
 use line_words::words::room_after_name_word;
 use line_words::words::room_after_number_word;
+use line_words::words::surely_fits;
 use place::Place;
 use place::written::Written;
 use place::written::room_holds;
@@ -64,12 +65,24 @@ fn kind_size(nt: u16) -> usize
     8
 }
 
-// Check 33, by what the names and the lengths leave of the room: 25 for the start, 6 for the MIC's word, the kind's word and
-// 12 for the last word and the line's end.
+// At least what a line has besides the names: 25 for the start, 20 for the names' labels, 28 for the lengths (13 for the labels and
+// five digits each), 6 for the MIC's word, 10 for the kind's and 12 for the last word and the line's end.
+fn most_besides_names(lm: u16, nt: u16, key: u16) -> u16
+    ensures { λ r. ⌜ 73 + length (authLengths lm nt key) ≤ r ⌝ }
+{
+    101
+}
+
+// Check 33. Where the line doesn't surely fit, it is measured, by what the names and the lengths leave of the room: 25 for the
+// start, 6 for the MIC's word, the kind's word and 12 for the last word and the line's end.
 fn fits(msg: &[u8], a: Authenticate, room: usize) -> Checked
     ensures { λ r. ⌜ r ≡ roomHolds (length (authText (now (msg .entry)) a)) room ⌝ }
 {
     let f = a.fields;
+    let others = most_besides_names(f.lm.len, f.nt.len, f.key.len);
+    if surely_fits(others, f.domain.len, f.user.len, f.workstation.len, room) {
+        return Checked::Held;
+    }
     let unicode = a.flags.unicode();
     let left = room_after_names(room, msg, f.domain, f.user, f.workstation, unicode);
     let left = room_after_lengths(left, f.lm.len, f.nt.len, f.key.len);

@@ -12,7 +12,7 @@ use Rattle.wire.specs.declared.check.Checked.the-variants.{Held}
 use Rattle.wire.proofs.Bools.{and-left, and-right}
 use Rattle.place.specs.Written.{roomHolds}
 use Rattle.line_words.specs.Words.{lineEnd}
-use Rattle.line_words.proofs.Numbers.{word-bound}
+use Rattle.line_words.proofs.Labels.{number-word-bound}
 use Rattle.line_checks.specs.declared.Figures.{Figures}
 use Rattle.line_checks.specs.Checks.{plainWords, aboutPair, pairText, pairWords, messageWords, figureWords, failedWords, wordsOf, lineOf, linesFrom, checkLines}
 
@@ -36,9 +36,9 @@ module _ (f : Figures) (t : Typed f) where
         simp length-append
         (omega (
           arith,
-          word-bound (ascii " at=") 9 (f .at) (omega (arith, t .at)),
-          word-bound (ascii " id=") 4 (f .id) (omega (arith, t .id)),
-          word-bound (ascii " size=") 4 (f .size) (omega (arith, t .size)),
+          number-word-bound (ascii " at=") 9 (f .at) (omega (arith, t .at)),
+          number-word-bound (ascii " id=") 4 (f .id) (omega (arith, t .id)),
+          number-word-bound (ascii " size=") 4 (f .size) (omega (arith, t .size)),
         ))
     go false = omega arith
 
@@ -48,17 +48,17 @@ module _ (f : Figures) (t : Typed f) where
       simp length-append
       (omega (
         arith,
-        word-bound (ascii "check ") 2 (f .number) (omega (arith, t .number)),
-        word-bound (ascii " failed field=") 2 (f .field) (omega (arith, t .field)),
-        word-bound (ascii " offset=") 9 (f .head .offset) (omega (arith, t .offset)),
-        word-bound (ascii " length=") 4 (f .head .len) (omega (arith, t .len)),
-        word-bound (ascii " message=") 9 (f .message) (omega (arith, t .message)),
+        number-word-bound (ascii "check ") 2 (f .number) (omega (arith, t .number)),
+        number-word-bound (ascii " failed field=") 2 (f .field) (omega (arith, t .field)),
+        number-word-bound (ascii " offset=") 9 (f .head .offset) (omega (arith, t .offset)),
+        number-word-bound (ascii " length=") 4 (f .head .len) (omega (arith, t .len)),
+        number-word-bound (ascii " message=") 9 (f .message) (omega (arith, t .message)),
         pair-bound,
       ))
 
   plain-bound : (n : ℕ) (word : List ℕ) → n < 256 → length word ≤ 12 → length (plainWords n word) ≤ 21
   unfolding plainWords
-  plain-bound n word h l = simp length-append (omega (arith, word-bound (ascii "check ") 2 n (omega arith)))
+  plain-bound n word h l = simp length-append (omega (arith, number-word-bound (ascii "check ") 2 n (omega arith)))
 
   -- what a line may have beyond 22 bytes, while the check that failed can still come
   abbrev beyond : Bool → ℕ

@@ -12,6 +12,7 @@ use line_max::put_two;
 use line_words::words::put_flags_word;
 use line_words::words::put_name_word;
 use line_words::words::room_after_name_word;
+use line_words::words::surely_fits;
 use place::Place;
 use place::written::Written;
 use place::written::room_holds;
@@ -28,10 +29,15 @@ fn room_after_names(room: usize, msg: &[u8], m: Negotiate) -> usize
     room_after_name_word(left, b" work=", msg, f.workstation, false)
 }
 
-// Check 33, by what the names leave of the room: 19 for the start and 8 for the last word and the line's end.
+// Check 33. Besides the names a line has 41 bytes, 14 of them for the names' labels. Where it doesn't surely fit, it is measured,
+// by what the names leave of the room: 19 for the start and 8 for the last word and the line's end.
 fn fits(msg: &[u8], m: Negotiate, room: usize) -> Checked
     ensures { λ r. ⌜ r ≡ roomHolds (length (negoText (now (msg .entry)) m)) room ⌝ }
 {
+    let f = m.fields;
+    if surely_fits(41, f.domain.len, f.workstation.len, 0, room) {
+        return Checked::Held;
+    }
     room_holds(19 + 8, room_after_names(room, msg, m))
 }
 

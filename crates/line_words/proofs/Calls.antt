@@ -29,6 +29,11 @@ of-left line m n room left r e s f h = h ∙ ap checked (go (leb (length line) r
     go true g = le-leb n left (omega (arith, leb-true (length line) room g)) ∙ sym g
     go false g = lt-leb n left (omega (arith, leb-false (length line) room g)) ∙ sym g
 
+-- and of a line that surely fits, which has at most so many bytes
+pub of-most : (line : List ℕ) (most room : ℕ) (b : Bool) → length line ≤ most → b ≡ leb most room → b ≡ true →
+    Held ≡ roomHolds (length line) room
+of-most line most room b l e h = simp (le-leb (length line) room (omega (arith, l, leb-true most room (sym e ∙ h))))
+
 module _ (line out : List ℕ) (r : Checked) (p : r ≡ roomHolds (length line) (length out)) where
   pub has-room : r ≡ Held → Room 0 line (length out)
   has-room h =

@@ -1,5 +1,5 @@
--- Laws of the words whose text is one of a few.
-use Prim.Native.Nat.{ℕ, _+_, _-_, _≤_, _<_}
+-- Laws of the words: those whose text is one of a few, and how long a word is at most.
+use Prim.Native.Nat.{ℕ, suc, _+_, _-_, _*_, _^_, _≤_, _<_}
 use mathlib.Core.Path.{_≡_, refl}
 use mathlib.Core.Bool.{Bool, true, false, cond}
 use mathlib.Core.List.{List, _++_}
@@ -9,9 +9,14 @@ use lib.ListN.{length, length-append}
 use borrow.Author.Tests.{eq-eqb, ne-eqb, le-leb, lt-leb}
 use Rattle.wire.specs.Text.{ascii}
 use Rattle.negotiate_flags.specs.declared.NegotiateFlags.{NegotiateFlags}
+use Rattle.field.specs.declared.Field.{Field}
+use Rattle.field.specs.Field.{fieldBytes}
 use Rattle.place.specs.Place.{Wrote}
-use Rattle.line_words.specs.Words.{Room, stringWord, flagsWord, setWord, startText, micWord, kindWord}
-use Rattle.line_words.proofs.Numbers.{length-hex}
+use Rattle.line_words.specs.Digits.{decimal}
+use Rattle.line_words.specs.Name.{nameText}
+use Rattle.line_words.specs.Words.{Room, numberWord, nameWord, stringWord, flagsWord, setWord, startText, micWord, kindWord}
+use Rattle.line_words.proofs.Numbers.{length-hex, decimal-bound}
+use Rattle.line_words.proofs.Names.{name-bound, field-small}
 
 -- one of two texts, by a question or by two numbers
 module _ (l k xs ys : List ℕ) (i q : ℕ) where
@@ -70,6 +75,26 @@ kind-v2 nt d h t =
 pub kind-odd : (nt d : ℕ) → (nt ≡ 0 → ⊥) → (nt ≡ 24 → ⊥) → nt < d → T (leb d 44) → 9 ≡ length (kindWord nt)
 unfolding kindWord
 kind-odd nt d h g l t = simp (ne-eqb nt 0 h, ne-eqb nt 24 g, lt-leb 44 nt (omega (arith, leb→le d 44 t)))
+
+-- ---- how long a word is at most
+
+pub name-word-bound : (label s : List ℕ) (unicode : Bool) (f : Field) → length (nameWord label unicode (fieldBytes s f)) ≤ length label + 4 * f .len
+unfolding nameWord
+name-word-bound label s unicode f =
+    omega (arith, length-append label (nameText unicode (fieldBytes s f)), name-bound unicode (fieldBytes s f), field-small s (fieldBytes s f) f refl)
+
+pub number-word-bound : (label : List ℕ) (k n : ℕ) → n < 10 ^ suc k → length (numberWord label n) ≤ length label + suc k
+unfolding numberWord
+number-word-bound label k n h = omega (arith, length-append label (decimal n), decimal-bound k n h)
+
+pub kind-bound : (nt : ℕ) → length (kindWord nt) ≤ 10
+unfolding kindWord
+kind-bound nt = go (eqb nt 0) (eqb nt 24) (leb 44 nt) where
+  go : (x y z : Bool) → length (cond x (ascii " kind=none") (cond y (ascii " kind=v1") (cond z (ascii " kind=v2") (ascii " kind=odd")))) ≤ 10
+  go true y z = omega arith
+  go false true z = omega arith
+  go false false true = omega arith
+  go false false false = omega arith
 
 module _ (at n : ℕ) where
   pub flags-word-room : (bits : ℕ) → Room at (flagsWord bits) n → at + 15 ≤ n

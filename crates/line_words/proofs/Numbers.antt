@@ -13,7 +13,6 @@ use borrow.Author.Tests.{eqb-true, eqb-false, ltb-true, ltb-false, lt-ltb, le-lt
 use Rattle.wire.proofs.Bools.{and-left, and-right}
 use Rattle.place.specs.Place.{Wrote}
 use Rattle.line_words.specs.Digits.{hexDigit, digits, hex, sizeStep, sizeWithin, decimalSize, decimal}
-use Rattle.line_words.specs.Words.{numberWord}
 
 -- ---- one digit
 
@@ -152,16 +151,9 @@ length-decimal n = length-digits 10 (decimalSize n) n
 pub all-counted : (n size left : ℕ) → Sized n size left → left < 10 → size ≡ length (decimal n)
 all-counted n size left s h = omega (arith, s .digits, one-digit left h, length-decimal n)
 
--- a number below ten to the k has at most k digits
+-- a number below a power of ten has at most so many digits
 pub decimal-bound : (k n : ℕ) → n < 10 ^ suc k → length (decimal n) ≤ suc k
 decimal-bound k n h = omega (arith, length-decimal n, few-digits k n h)
-
-pub word-bound : (label : List ℕ) (k n : ℕ) → n < 10 ^ suc k → length (numberWord label n) ≤ length label + suc k
-unfolding numberWord
-word-bound label k n h = omega (arith, length-append label (decimal n), decimal-bound k n h)
-
-pub decimal-small : (n size : ℕ) → size ≡ length (decimal n) → n < 2 ^ 64 → size ≤ 20
-decimal-small n size e h = omega (arith, decimal-bound 19 n (omega arith))
 
 pub decimal-start : (l : List ℕ) (n size : ℕ) → size ≡ length (decimal n) → length (decimal n) ≤ length l → Lowest 10 l l (decimal n) size n
 unfolding decimal

@@ -1,6 +1,7 @@
 // The words of a log line, each with its label.
 ghost use mathlib.Core.Path.{_≡_};
-ghost use Prim.Native.Nat.{_-_};
+ghost use Prim.Native.Nat.{_+_, _-_, _*_};
+ghost use lib.Dec.{leb};
 ghost use lib.ListN.{length};
 ghost use Rattle.field.specs.Field.{fieldBytes};
 ghost use Rattle.place.specs.Place.{Wrote};
@@ -36,6 +37,14 @@ pub fn room_after_name_word(room: usize, label: &[u8], msg: &[u8], f: Field, uni
     ensures { λ r. ⌜ r ≡ room - length (nameWord (now (label .entry)) unicode (fieldBytes (now (msg .entry)) f)) ⌝ }
 {
     room_after_field(room_after(room, label.len()), msg, f, unicode)
+}
+
+// Whether a line surely has room, with up to three names of these lengths and so many other bytes: a name's text has at most four
+// bytes for each of the name's, so that it needn't be measured where this holds.
+pub fn surely_fits(others: u16, a: u16, b: u16, c: u16, room: usize) -> bool
+    ensures { λ r. ⌜ r ≡ leb (others + 4 * (a + b + c)) room ⌝ }
+{
+    others as usize + 4 * (a as usize + b as usize + c as usize) <= room
 }
 
 pub fn put_name_word(

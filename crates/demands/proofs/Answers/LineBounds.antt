@@ -1,19 +1,13 @@
 -- How long a line is at most, by the lengths of its names: a name's text has at most four bytes for each of the name's.
 use Prim.Native.Nat.{ℕ, _+_, _-_, _*_, _≤_}
 use mathlib.Core.Path.{refl}
-use mathlib.Core.Bool.{Bool, true, false, cond}
+use mathlib.Core.Bool.{Bool, true, false}
 use mathlib.Core.List.{List}
 use native.Mathlib.Omega.{arith}
-use lib.Dec.{leb, eqb}
 use lib.ListN.{length, drop, length-append}
 use Rattle.wire.specs.Text.{ascii}
-use Rattle.field.specs.declared.Field.{Field}
-use Rattle.field.specs.Field.{fieldBytes}
-use Rattle.negotiate_flags.specs.Flags.{unicode}
 use Rattle.nl_auth_flags.specs.Flags.{nbDomain, nbComputer, dnsDomain, dnsHost, utf8Computer}
-use Rattle.read_authenticate.specs.declared.Authenticate.{Authenticate}
 use Rattle.read_challenge.specs.declared.Challenge.{Challenge}
-use Rattle.read_negotiate.specs.declared.Negotiate.{Negotiate}
 use Rattle.read_nl_auth.specs.declared.NlAuth.{NlAuth}
 use Rattle.read_nl_auth.specs.declared.string.NlString.{NlString}
 use Rattle.read_nl_auth.specs.NlAuth.{stringBytes, labelsOf}
@@ -24,22 +18,15 @@ use Rattle.line_dns_name.proofs.Names.{text-bound}
 use Rattle.target_info.specs.declared.Timestamp.{Timestamp}
 use Rattle.target_info.specs.declared.Timestamp.the-variants.{Time, Nothing as NoTime}
 use Rattle.line_words.specs.Name.{nameText}
-use Rattle.line_words.specs.Words.{numberWord, nameWord, stringWord, kindWord}
-use Rattle.line_words.proofs.Labels.{flags-word-size, start-size, mic-size}
-use Rattle.line_words.proofs.Names.{name-bound, field-small}
-use Rattle.line_authenticate.specs.Auth.{authNames, authLengths, authEnd, authText}
+use Rattle.line_words.specs.Words.{numberWord, stringWord}
+use Rattle.line_words.proofs.Labels.{flags-word-size, start-size, name-word-bound}
+use Rattle.line_words.proofs.Names.{name-bound}
 use Rattle.line_challenge.specs.Chal.{timeWord, chalEnd, chalWords}
 use Rattle.line_challenge.proofs.Laws.{time-size}
-use Rattle.line_max.proofs.Laws.{two-size, six-size}
-use Rattle.line_negotiate.specs.Nego.{negoNames, negoText}
+use Rattle.line_max.proofs.Laws.{two-size}
 use Rattle.line_nl_auth.specs.Nl.{nlStart, nlOem, nlUtf8, nlText}
 
--- ---- a name
-
-word-bound : (label s : List ℕ) (unicode : Bool) (f : Field) → length (nameWord label unicode (fieldBytes s f)) ≤ length label + 4 * f .len
-unfolding nameWord
-word-bound label s unicode f =
-    omega (arith, length-append label (nameText unicode (fieldBytes s f)), name-bound unicode (fieldBytes s f), field-small s (fieldBytes s f) f refl)
+-- ---- a string
 
 oem-bound : (label s : List ℕ) (given : Bool) (x : NlString) → length (stringWord label given (oemText s x)) ≤ length label + 4 * x .len
 unfolding stringWord oemText
@@ -55,35 +42,6 @@ utf8-bound label s false x = omega arith
 
 -- ---- the lines
 
-kind-bound : (nt : ℕ) → length (kindWord nt) ≤ 10
-unfolding kindWord
-kind-bound nt = go (eqb nt 0) (eqb nt 24) (leb 44 nt) where
-  go : (x y z : Bool) → length (cond x (ascii " kind=none") (cond y (ascii " kind=v1") (cond z (ascii " kind=v2") (ascii " kind=odd")))) ≤ 10
-  go true y z = omega arith
-  go false true z = omega arith
-  go false false true = omega arith
-  go false false false = omega arith
-
-pub auth-bound : (s : List ℕ) (a : Authenticate) →
-    length (authText s a) ≤ 73 + length (authLengths (a .fields .lm .len) (a .fields .nt .len) (a .fields .key .len))
-    + 4 * (a .fields .domain .len + a .fields .user .len + a .fields .workstation .len)
-unfolding authText authNames authEnd
-auth-bound s a =
-    simp (length-append, start-size, mic-size, six-size)
-    (omega (
-      arith,
-      kind-bound (a .fields .nt .len),
-      word-bound (ascii " domain=") s (unicode (a .flags)) (a .fields .domain),
-      word-bound (ascii " user=") s (unicode (a .flags)) (a .fields .user),
-      word-bound (ascii " work=") s (unicode (a .flags)) (a .fields .workstation),
-    ))
-
-pub nego-bound : (s : List ℕ) (m : Negotiate) → length (negoText s m) ≤ 41 + 4 * (m .fields .domain .len + m .fields .workstation .len)
-unfolding negoText negoNames
-nego-bound s m =
-    simp (length-append, flags-word-size, two-size)
-    (omega (arith, word-bound (ascii " domain=") s false (m .fields .domain), word-bound (ascii " work=") s false (m .fields .workstation)))
-
 time-bound : (w : Timestamp) → length (timeWord w) ≤ 22
 unfolding timeWord
 time-bound (Time t) = omega (arith, time-size (Time t) t refl)
@@ -94,7 +52,7 @@ pub chal-bound : (unicode : Bool) (s : List ℕ) (c : Challenge) (pairs : ℕ) (
 unfolding chalWords chalEnd
 chal-bound unicode s c pairs time =
     simp (length-append, start-size, two-size)
-    (omega (arith, time-bound time, word-bound (ascii " target=") s unicode (c .fields .«target_name»)))
+    (omega (arith, time-bound time, name-word-bound (ascii " target=") s unicode (c .fields .«target_name»)))
 
 pub nl-bound : (s : List ℕ) (m : NlAuth) →
     length (nlText s m) ≤ length (numberWord (ascii "nl type=") (m .«message_type»)) + 3091

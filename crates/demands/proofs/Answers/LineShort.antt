@@ -41,11 +41,11 @@ use Rattle.read_nl_auth.specs.declared.Reading.{Reading as NlReading}
 use Rattle.read_nl_auth.specs.declared.Reading.the-variants.{Taken as NlTaken, Refused as NlRefused}
 use Rattle.read_nl_auth.specs.declared.string.NlString.{NlString}
 use Rattle.read_nl_auth.specs.NlAuth.{noString, readNlAuth}
-use Rattle.line_words.specs.Digits.{decimal}
 use Rattle.line_words.specs.Words.{numberWord}
 use Rattle.line_words.proofs.Names.{field-small}
-use Rattle.line_words.proofs.Numbers.{decimal-small}
-use Rattle.line_authenticate.specs.Auth.{authLengths}
+use Rattle.line_words.proofs.Labels.{number-word-bound}
+use Rattle.line_authenticate.proofs.Laws.{lengths-bound, auth-bound}
+use Rattle.line_negotiate.proofs.Laws.{nego-bound}
 use Rattle.line_refused.specs.Refused.{refusedEnd, refusedText, refusedLine}
 use Rattle.line.proofs.Places as place
 use Rattle.line.specs.Line.{negoLine, negotiateLine, authLine, authenticateLine, chalLine, challengeLine, nlLine, nlAuthLine, lineAs, ntlmLine, shownLine}
@@ -58,7 +58,7 @@ use Rattle.demands.specs.NlAuth.{maskOf}
 use Rattle.demands.specs.OwnBytes.{OwnField, OwnString}
 use Rattle.demands.specs.TakenExactly.{IsTakenNegotiate, IsTakenNl}
 use Rattle.demands.proofs.OwnBytes.ChallengeOwn.{taken-as, challenge-own}
-use Rattle.demands.proofs.Answers.LineBounds.{auth-bound, nego-bound, chal-bound, nl-bound}
+use Rattle.demands.proofs.Answers.LineBounds.{chal-bound, nl-bound}
 use Rattle.demands.proofs.TakenExactly.Negotiate.{negotiate-taken, negotiate-own}
 use Rattle.demands.proofs.NlAuth.{nl-auth-taken, nl-auth-own}
 use Rattle.demands.proofs.OwnBytes.{none-fails, authenticate-own}
@@ -83,8 +83,7 @@ own-len k s i f o = go (leb (f .len) (length s)) refl where
 
 -- a number of 64 bits has at most 20 digits
 number-bound : (label : List ℕ) (n : ℕ) → n < 0x10000000000000000 → length (numberWord label n) ≤ length label + 20
-unfolding numberWord
-number-bound label n l = omega (arith, length-append label (decimal n), decimal-small n (length (decimal n)) refl (omega arith))
+number-bound label n l = number-word-bound label 19 n (omega (arith, l))
 
 refused-short : (e : Refusal) → Small e → placeOf e < 2 ^ 32 → length (refusedLine e) < 0x100000
 unfolding refusedLine refusedText refusedEnd
@@ -95,7 +94,6 @@ refused-short e small near =
 -- ---- AUTHENTICATE
 
 auth-short : (s : List ℕ) (a : Authenticate) → readAuthenticate s .reading ≡ Taken a → length (authLine s (Taken a)) < 0x100000
-unfolding authLengths
 auth-short s a h =
     let n = not-long (length s) (λ l. none-fails s a h 1 0 (refl, l)) in
     let o = authenticate-own s a h in
@@ -105,8 +103,7 @@ auth-short s a h =
     let user = own-len authenticate s 4 (a .fields .user) (o .user) in
     let workstation = own-len authenticate s 5 (a .fields .workstation) (o .workstation) in
     let key = own-len authenticate s 6 (a .fields .key) (o .key) in
-    let lengths : length (authLengths (a .fields .lm .len) (a .fields .nt .len) (a .fields .key .len)) ≤ 73 =
-    simp length-append (omega (arith, number-bound (ascii " lm=") (a .fields .lm .len) (omega (arith, n, lm)), number-bound (ascii " nt=") (a .fields .nt .len) (omega (arith, n, nt)), number-bound (ascii " key=") (a .fields .key .len) (omega (arith, n, key)))) in
+    let lengths = lengths-bound (a .fields .lm .len) (a .fields .nt .len) (a .fields .key .len) (omega (arith, n, lm)) (omega (arith, n, nt)) (omega (arith, n, key)) in
     omega (arith, n, lengths, domain, user, workstation, auth-bound s a)
 
 authenticate-short : (s : List ℕ) → length (authenticateLine s) < 0x100000

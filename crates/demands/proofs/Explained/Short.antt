@@ -16,7 +16,7 @@ use Rattle.wire.specs.Number.{u16At, u32At}
 use Rattle.wire.specs.Refusal.{numberOf, fieldOf, placeOf}
 use Rattle.line_words.specs.Digits.{decimalSize, decimal}
 use Rattle.line_words.specs.Words.{numberWord}
-use Rattle.line_words.proofs.Numbers.{word-bound}
+use Rattle.line_words.proofs.Labels.{number-word-bound}
 use Rattle.head.specs.declared.Kind.{Kind}
 use Rattle.head.specs.declared.Kind.the-variants.{Negotiate, Challenge, Authenticate}
 use Rattle.head.specs.Head.{kindOf}
@@ -57,7 +57,7 @@ pair-bound g w = go (aboutPair (g .number)) where
   go : (t : Bool) → length (cond t (numberWord (ascii " at=") (g .at) ++ (numberWord (ascii " id=") (g .id) ++ numberWord (ascii " size=") (g .size))) []) ≤ 29
   go true =
       simp length-append
-      (omega (arith, word-bound (ascii " at=") 4 (g .at) (omega (arith, w .at)), word-bound (ascii " id=") 4 (g .id) (omega (arith, w .id)), word-bound (ascii " size=") 4 (g .size) (omega (arith, w .size))))
+      (omega (arith, number-word-bound (ascii " at=") 4 (g .at) (omega (arith, w .at)), number-word-bound (ascii " id=") 4 (g .id) (omega (arith, w .id)), number-word-bound (ascii " size=") 4 (g .size) (omega (arith, w .size))))
   go false = omega arith
 
 failed-bound : (g : Given) → Small g → length (failedWords g) ≤ 97
@@ -66,11 +66,11 @@ failed-bound g w =
     simp length-append
     (omega (
       arith,
-      word-bound (ascii "check ") 1 (g .number) (omega (arith, w .number)),
-      word-bound (ascii " failed field=") 0 (g .field) (omega (arith, w .field)),
-      word-bound (ascii " offset=") 9 (g .head .offset) (omega (arith, w .offset)),
-      word-bound (ascii " length=") 4 (g .head .len) (omega (arith, w .len)),
-      word-bound (ascii " message=") 4 (g .message) (omega (arith, w .message)),
+      number-word-bound (ascii "check ") 1 (g .number) (omega (arith, w .number)),
+      number-word-bound (ascii " failed field=") 0 (g .field) (omega (arith, w .field)),
+      number-word-bound (ascii " offset=") 9 (g .head .offset) (omega (arith, w .offset)),
+      number-word-bound (ascii " length=") 4 (g .head .len) (omega (arith, w .len)),
+      number-word-bound (ascii " message=") 4 (g .message) (omega (arith, w .message)),
       pair-bound g w,
     ))
 
