@@ -1,11 +1,12 @@
 // The line of an NL_AUTH message that was taken.
 ghost use mathlib.Core.Path.{_≡_};
 ghost use mathlib.Core.List.{_++_};
-ghost use Prim.Native.Nat.{_-_};
+ghost use Prim.Native.Nat.{_+_, _-_, _≤_};
 ghost use lib.ListN.{length};
 ghost use Rattle.place.specs.Place.{Wrote};
 ghost use Rattle.place.specs.Written.{roomHolds, bytesAnswer, bytesAfter};
-ghost use Rattle.line_words.specs.Words.{Room, stringWord};
+ghost use Rattle.wire.specs.Text.{ascii};
+ghost use Rattle.line_words.specs.Words.{Room, numberWord, stringWord};
 ghost use Rattle.read_nl_auth.specs.declared.Reading.the-variants.{Taken};
 ghost use Rattle.read_nl_auth.specs.NlAuth.{readNlAuth};
 ghost use Rattle.line_nl_string.specs.StringText.{oemText, utf8Text};
@@ -13,6 +14,7 @@ ghost use Rattle.line_nl_auth.specs.Nl.{nlStart, nlOem, nlUtf8, nlText};
 use line_words::words::put_flags_word;
 use line_words::words::put_number_word;
 use line_words::words::room_after_number_word;
+use line_words::words::surely_fits;
 use place::Place;
 use place::written::Written;
 use place::written::room_after;
@@ -73,10 +75,24 @@ fn room_after_utf8(room: usize, msg: &[u8], m: NlAuth) -> usize
     room_after_utf8_string(left, b" e=", msg, m.flags.utf8_computer(), s.utf8_computer)
 }
 
-// Check 33, by what the type's word and the strings leave of the room: 15 for the flags' word and 1 for the line's end.
+// At least what a line has besides strings A and B: 18 for the type's word, 15 for the flags', 3 for each label, four bytes for each
+// of a name's at most 255, and 1 for the line's end.
+fn most_besides_oem(message_type: u32) -> u16
+    ensures { λ r. ⌜ 3091 + length (numberWord (ascii "nl type=") «message_type») ≤ r ⌝ }
+{
+    3109
+}
+
+// Check 33. Where the line doesn't surely fit, it is measured, by what the type's word and the strings leave of the room: 15 for
+// the flags' word and 1 for the line's end.
 fn fits(msg: &[u8], m: NlAuth, room: usize) -> Checked
     ensures { λ r. ⌜ r ≡ roomHolds (length (nlText (now (msg .entry)) m)) room ⌝ }
 {
+    let s = m.strings;
+    let others = most_besides_oem(m.message_type);
+    if surely_fits(others, s.nb_domain.len, s.nb_computer.len, 0, room) {
+        return Checked::Held;
+    }
     let left = room_after_number_word(room, b"nl type=", m.message_type);
     let left = room_after_oem(left, msg, m);
     room_holds(15 + 1, room_after_utf8(left, msg, m))

@@ -46,6 +46,7 @@ use Rattle.line_words.proofs.Names.{field-small}
 use Rattle.line_words.proofs.Labels.{number-word-bound}
 use Rattle.line_authenticate.proofs.Laws.{lengths-bound, auth-bound}
 use Rattle.line_negotiate.proofs.Laws.{nego-bound}
+use Rattle.line_nl_auth.proofs.Bounds.{nl-bound}
 use Rattle.line_refused.specs.Refused.{refusedEnd, refusedText, refusedLine}
 use Rattle.line.proofs.Places as place
 use Rattle.line.specs.Line.{negoLine, negotiateLine, authLine, authenticateLine, chalLine, challengeLine, nlLine, nlAuthLine, lineAs, ntlmLine, shownLine}
@@ -58,7 +59,7 @@ use Rattle.demands.specs.NlAuth.{maskOf}
 use Rattle.demands.specs.OwnBytes.{OwnField, OwnString}
 use Rattle.demands.specs.TakenExactly.{IsTakenNegotiate, IsTakenNl}
 use Rattle.demands.proofs.OwnBytes.ChallengeOwn.{taken-as, challenge-own}
-use Rattle.demands.proofs.Answers.LineBounds.{chal-bound, nl-bound}
+use Rattle.demands.proofs.Answers.LineBounds.{chal-bound}
 use Rattle.demands.proofs.TakenExactly.Negotiate.{negotiate-taken, negotiate-own}
 use Rattle.demands.proofs.NlAuth.{nl-auth-taken, nl-auth-own}
 use Rattle.demands.proofs.OwnBytes.{none-fails, authenticate-own}
