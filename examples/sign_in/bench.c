@@ -48,33 +48,39 @@ static int refused(uint64_t answer)
 
 static int check(const struct seen *seen)
 {
-    uint64_t answer = dialtable_check_mic(seen->key, seen->key_len, seen->negotiate, seen->negotiate_len,
-                                          seen->challenge, seen->challenge_len, seen->authenticate,
-                                          seen->authenticate_len);
+    uint64_t answer;
 
-    if (!refused(answer)) puts(answer == 1 ? "yes" : "no");
+    /* The check of dialtable.h, line by line. */
+    answer = dialtable_check_mic(seen->key, seen->key_len, seen->negotiate, seen->negotiate_len, seen->challenge,
+                                 seen->challenge_len, seen->authenticate, seen->authenticate_len);
+    if (dialtable_mic_is_right(answer)) puts("yes");
+    else if (!refused(answer)) puts("no");
+
     return fflush(stdout) != 0 || ferror(stdout);
 }
 
-/* A field of the AUTHENTICATE that was seen, as the two words that the writer takes. */
-#define FIELD(name) \
-    seen->authenticate + numbers[DIALTABLE_AUTHENTICATE_##name##_OFFSET], numbers[DIALTABLE_AUTHENTICATE_##name##_LEN]
-
 static int clip(const struct seen *seen, dialtable_len bytes)
 {
-    uint64_t numbers[DIALTABLE_AUTHENTICATE_NUMBERS], len;
+    const uint8_t *msg = seen->authenticate;
+    struct dialtable_authenticate read;
+    struct dialtable_parts parts;
+    uint64_t len;
     uint8_t mic[16], out[ROOM];
 
-    if (refused(dialtable_read_authenticate(seen->authenticate, seen->authenticate_len, numbers,
-                                            DIALTABLE_AUTHENTICATE_NUMBERS, mic, sizeof mic))) return 1;
-    if (numbers[DIALTABLE_AUTHENTICATE_USER_LEN] > bytes) numbers[DIALTABLE_AUTHENTICATE_USER_LEN] = bytes;
-    len = dialtable_write_authenticate(out, sizeof out, (uint32_t)numbers[DIALTABLE_AUTHENTICATE_FLAGS],
-                                       seen->authenticate + 64, mic, FIELD(LM), FIELD(NT), FIELD(DOMAIN), FIELD(USER),
-                                       FIELD(WORKSTATION), FIELD(KEY));
+    if (refused(dialtable_read_authenticate_struct(msg, seen->authenticate_len, &read, mic, sizeof mic))) return 1;
+    parts.version = msg + 64;
+    parts.mic = mic;
+    parts.lm = dialtable_field_part(msg, read.lm);
+    parts.nt = dialtable_field_part(msg, read.nt);
+    parts.domain = dialtable_field_part(msg, read.domain);
+    parts.user = dialtable_field_part(msg, read.user);
+    parts.workstation = dialtable_field_part(msg, read.workstation);
+    parts.key = dialtable_field_part(msg, read.key);
+    if (parts.user.length > bytes) parts.user.length = bytes;
+    len = dialtable_write_authenticate_struct(out, sizeof out, read.flags, &parts);
     if (refused(len)) return 1;
-    if (refused(dialtable_mic(seen->key, seen->key_len, seen->negotiate, seen->negotiate_len, seen->challenge,
-                              seen->challenge_len, out, len, mic, sizeof mic))) return 1;
-    memcpy(out + DIALTABLE_MIC_AT, mic, sizeof mic);
+    if (refused(dialtable_write_mic(seen->key, seen->key_len, seen->negotiate, seen->negotiate_len, seen->challenge,
+                                    seen->challenge_len, out, len))) return 1;
     return !hex_write("authenticate", out, (size_t)len);
 }
 

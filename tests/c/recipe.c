@@ -31,8 +31,7 @@ struct settings {
     uint64_t clock;
 };
 struct names {
-    const uint8_t *domain, *user, *workstation, *target;
-    dialtable_len domain_len, user_len, workstation_len, target_len;
+    struct dialtable_bytes domain, user, workstation, target;
 };
 struct module {
     uint8_t lm[24], nt[60], key[16], session_key[16];
@@ -49,10 +48,10 @@ enum { NAME_UNSENT = 1, NOT_SENT = 3 };
 
 static const char *server; /* the file that the server sends */
 static int line_is_cut;    /* the last message doesn't go out */
-static uint8_t first_sent[64], sent[1024];
-static dialtable_len first_sent_len, sent_len;
+static uint8_t first_sent[64], challenge_sent[1024], sent[1024];
+static dialtable_len first_sent_len, challenge_sent_len, sent_len;
 static struct module worked;
-static uint64_t done[DIALTABLE_RESPONSE_NUMBERS]; /* what the library answered besides */
+static struct dialtable_response done; /* what the library answered besides */
 static int lines;
 static char logged[512]; /* the last line */
 
@@ -77,6 +76,8 @@ static dialtable_len exchange(const uint8_t *msg, dialtable_len msg_len, uint8_t
     }
     got = fread(in, 1, (size_t)in_len, file);
     fclose(file);
+    memcpy(challenge_sent, in, (size_t)got);
+    challenge_sent_len = got;
     return got;
 }
 
@@ -85,12 +86,9 @@ static int encode(const struct settings *box, int unicode, struct names *own)
     static const uint8_t wide[] = {'b', 0, 'o', 0, 'x', 0, '7', 0}, narrow[] = {'b', 'o', 'x', '7'};
     static const uint8_t target[] = {'c', 0, 'i', 0, 'f', 0, 's', 0, '/', 0, 's', 0};
 
-    own->domain = own->workstation = NULL;
-    own->domain_len = own->workstation_len = 0;
-    own->user = unicode ? wide : narrow;
-    own->user_len = unicode ? sizeof wide : sizeof narrow;
-    own->target = target;
-    own->target_len = sizeof target;
+    own->domain = own->workstation = dialtable_part(NULL, 0);
+    own->user = unicode ? dialtable_part(wide, sizeof wide) : dialtable_part(narrow, sizeof narrow);
+    own->target = dialtable_part(target, sizeof target);
     return box->clock == CLOCK;
 }
 
@@ -98,14 +96,14 @@ static int encode(const struct settings *box, int unicode, struct names *own)
 static uint64_t work_out(struct module *module, const uint8_t *challenge, dialtable_len challenge_len, uint64_t time,
                          const uint8_t *pairs, dialtable_len pairs_len, const struct names *own)
 {
-    uint64_t found[DIALTABLE_FOUND_NUMBERS];
+    struct dialtable_found found = {0, 0, 0};
 
-    CHECK(challenge != NULL && challenge_len > 0 && own->user_len > 0);
-    CHECK(dialtable_find_pair(pairs, pairs_len, DIALTABLE_PAIR_FLAGS, found, DIALTABLE_FOUND_NUMBERS) == 0);
-    module->flags = found[DIALTABLE_FOUND_THERE] ? pairs[found[DIALTABLE_FOUND_PLACE]] : 0;
-    CHECK(dialtable_find_pair(pairs, pairs_len, DIALTABLE_PAIR_TARGET_NAME, found, DIALTABLE_FOUND_NUMBERS) == 0);
-    CHECK(found[DIALTABLE_FOUND_THERE] && found[DIALTABLE_FOUND_LEN] == own->target_len &&
-          memcmp(pairs + found[DIALTABLE_FOUND_PLACE], own->target, (size_t)own->target_len) == 0);
+    CHECK(challenge != NULL && challenge_len > 0 && own->user.length > 0);
+    CHECK(dialtable_find_pair_struct(pairs, pairs_len, DIALTABLE_PAIR_FLAGS, &found) == 0);
+    module->flags = found.there ? pairs[found.place] : 0;
+    CHECK(dialtable_find_pair_struct(pairs, pairs_len, DIALTABLE_PAIR_TARGET_NAME, &found) == 0);
+    CHECK(found.there && found.length == own->target.length &&
+          memcmp(pairs + found.place, own->target.bytes, (size_t)own->target.length) == 0);
     memset(module->lm, 0x11, sizeof module->lm);
     memset(module->nt, 0x22, sizeof module->nt);
     memset(module->key, 0x66, sizeof module->key);
@@ -125,9 +123,10 @@ static void log_it(const uint8_t *line, uint64_t len)
 
 static uint64_t sign_in(const struct settings *box)
 {
-    uint8_t first[64], challenge[1024], pairs[1100], out[1024], mic[16], line[500];
-    dialtable_len first_len, challenge_len, pairs_len;
-    uint64_t answer, worked_out, time, decision[DIALTABLE_DECISION_NUMBERS];
+    uint8_t first[64], challenge[1024], pairs[1100], out[1024], line[500];
+    uint64_t answer, worked_out, first_len, challenge_len, pairs_len;
+    struct dialtable_decision decision;
+    struct dialtable_parts parts;
     struct module *radio = &worked;
     struct names own;
 
@@ -158,10 +157,12 @@ int main(int argc, char **argv)
                          " max=000000\n")
           == 0);
     CHECK(lines == 3);
+    CHECK(dialtable_mic_is_right(dialtable_check_mic(worked.session_key, 16, first_sent, first_sent_len, challenge_sent,
+                                                     challenge_sent_len, sent, sent_len)));
 
     /* Without NTLMV2 the Time is the box's own, though the server sent one; so the answer has it too. */
     CHECK(sign_in(&no_ntlmv2) == 0);
-    CHECK(worked.time == CLOCK && done[DIALTABLE_RESPONSE_TIME] == CLOCK);
+    CHECK(worked.time == CLOCK && done.time == CLOCK);
 
     /* The box's own clock, and zeros for the MIC; its line says mic=1 all the same. */
     server = argv[2];

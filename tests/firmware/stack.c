@@ -15,6 +15,7 @@ static uint8_t out[1024], bytes[16], zeros[24];
 #define NUMBERS 24
 static uint64_t numbers[NUMBERS];
 static struct dialtable_entry entries[3];
+static volatile uint64_t answer;
 
 static struct {
     const char *name;
@@ -28,7 +29,7 @@ static struct {
         __asm__ volatile("mov %0, sp" : "=r"(top)); \
         for (at = (volatile uint32_t *)(top - DEEP); (uintptr_t)at < top; at++) \
             *at = PAINT; \
-        dialtable_##call_(__VA_ARGS__); \
+        answer = dialtable_##call_(__VA_ARGS__); \
         for (at = (volatile uint32_t *)(top - DEEP); (uintptr_t)at < top && *at == PAINT; at++) \
             ; \
         calls[place].name = #call_; \
