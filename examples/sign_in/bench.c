@@ -41,8 +41,8 @@ static int read_seen(struct seen *seen)
 static int refused(uint64_t answer)
 {
     if (!DIALTABLE_IS_REFUSED(answer)) return 0;
-    printf("refused %u field=%u at=%llu\n", DIALTABLE_NUMBER(answer), DIALTABLE_FIELD(answer),
-           (unsigned long long)DIALTABLE_PLACE(answer));
+    printf("refused %u field=%u at=%llu: %s\n", DIALTABLE_NUMBER(answer), DIALTABLE_FIELD(answer),
+           (unsigned long long)DIALTABLE_PLACE(answer), dialtable_refusal_text(DIALTABLE_NUMBER(answer)));
     return 1;
 }
 

@@ -5,7 +5,8 @@
  *     in   HEX                the server's CHALLENGE
  *     out  authenticate HEX
  *     out  key HEX            the session key, for whoever speaks with the server after this
- * or 'refused NUMBER field=FIELD at=PLACE', or another reason in a line, and status 1. The log goes to standard error.
+ * or 'refused NUMBER field=FIELD at=PLACE: WORDS', or another reason in a line, and status 1. The log goes to
+ * standard error.
  */
 #include <locale.h>
 #include <stdio.h>
@@ -36,8 +37,8 @@ dialtable_len exchange(const uint8_t *msg, dialtable_len msg_len, uint8_t *in, d
 static int tell_refused(FILE *to, uint64_t answer)
 {
     if (!DIALTABLE_IS_REFUSED(answer)) return 0;
-    fprintf(to, "refused %u field=%u at=%llu\n", DIALTABLE_NUMBER(answer), DIALTABLE_FIELD(answer),
-            (unsigned long long)DIALTABLE_PLACE(answer));
+    fprintf(to, "refused %u field=%u at=%llu: %s\n", DIALTABLE_NUMBER(answer), DIALTABLE_FIELD(answer),
+            (unsigned long long)DIALTABLE_PLACE(answer), dialtable_refusal_text(DIALTABLE_NUMBER(answer)));
     return 1;
 }
 
