@@ -1,6 +1,9 @@
 //! Answering a CHALLENGE.
 
-use crate::{raw, written, Parts, Refusal};
+use core::fmt;
+
+use crate::hidden::Hidden;
+use crate::{place_mic, raw, written, Mic, Parts, Refusal};
 
 /// What the box demands of a challenge.
 #[derive(Clone, Copy, Debug, PartialEq, Eq, Hash)]
@@ -87,26 +90,42 @@ pub fn write_response_pairs<'a>(
     written(answer, out)
 }
 
-/// The answer to a challenge.
-#[derive(Clone, Copy, Debug, PartialEq, Eq)]
+/// The answer to a challenge. `{:?}` shows the message's length alone.
+#[derive(PartialEq, Eq)]
 pub struct Answer<'a> {
     /// The AUTHENTICATE message.
-    pub message: &'a [u8],
+    pub message: &'a mut [u8],
     /// The server's timestamp, or the clock.
     pub time: u64,
-    /// Whether a MIC is due.
+    /// Whether a MIC is due: then [`Answer::place_mic`] before it is sent.
     pub mic_due: bool,
 }
 
+impl fmt::Debug for Answer<'_> {
+    fn fmt(&self, f: &mut fmt::Formatter<'_>) -> fmt::Result {
+        f.debug_struct("Answer")
+            .field("message", &Hidden::of(self.message))
+            .field("time", &self.time)
+            .field("mic_due", &self.mic_due)
+            .finish()
+    }
+}
+
 impl<'a> Answer<'a> {
+    /// Puts a MIC at its place in the message, as [`place_mic`] does.
+    pub fn place_mic(&mut self, mic: &Mic) -> Result<(), Refusal> {
+        place_mic(self.message, mic)
+    }
+
     fn of(
         answer: u64,
         numbers: [u64; raw::RESPONSE_NUMBERS],
-        out: &'a [u8],
+        out: &'a mut [u8],
     ) -> Result<Self, Refusal> {
+        let len = Refusal::check(answer)? as usize;
         let [time, mic_due] = numbers;
         Ok(Self {
-            message: written(answer, out)?,
+            message: out.get_mut(..len).unwrap_or_default(),
             time,
             mic_due: mic_due != 0,
         })

@@ -3,7 +3,8 @@
 //!
 //! No call panics, allocates or keeps anything. What is written stands at the
 //! start of the caller's output and is handed back as that part of it; a
-//! refused call leaves the output as it was.
+//! refused call leaves the output as it was. `{:?}` of what holds a message, a
+//! response, a key or a MIC shows how many bytes they are, and none of them.
 //!
 //! ```
 //! let message = std::fs::read("../crates/ntlm_line/stdin")?;
@@ -28,7 +29,9 @@
 compile_error!("the bindings are for targets whose usize has 64 bits");
 
 mod answering;
+mod constants;
 mod headers;
+mod hidden;
 mod lines;
 mod night;
 mod pairs;
@@ -42,12 +45,13 @@ pub use answering::{
     decide, domain_to_send, respond, respond_for_bench, respond_for_relay, respond_to_old_server,
     write_response_pairs, Answer, Decision, Settings,
 };
+pub use constants::*;
 pub use headers::{export_header, import_header};
 pub use lines::{
     authenticate_line, challenge_line, explain, negotiate_line, nl_auth_line, nl_auth_program_line,
     ntlm_line, ntlm_program_line,
 };
-pub use night::{check_messages, Entry, Mark};
+pub use night::{check_messages, Entry, Mark, Verdict};
 pub use pairs::{check_pairs, count_pairs, find_pair, Pair, Walk};
 pub use raw::{Parts, SignIn, EXPLAIN_ROOM};
 pub use reading::{
@@ -56,7 +60,7 @@ pub use reading::{
     NlAuthString, ServerNames,
 };
 pub use refusal::{Reason, Refusal};
-pub use signing::{check_mic, mic};
+pub use signing::{check_mic, mic, place_mic, Mic, MicCheck};
 pub use writing::{
     canonical_authenticate, write_authenticate, write_negotiate, write_nl_auth_request,
     write_nl_auth_response,

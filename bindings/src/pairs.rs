@@ -1,5 +1,8 @@
 //! TargetInfo: a pair list, lent by itself.
 
+use core::fmt;
+
+use crate::hidden::Hidden;
 use crate::{raw, Refusal};
 
 /// A pair of a list.
@@ -47,8 +50,8 @@ pub fn find_pair(list: &[u8], id: u16) -> Result<Option<Pair>, Refusal> {
 }
 
 /// A walk over a list, a pair at each asking. As an iterator it ends after the
-/// first refusal.
-#[derive(Clone, Copy, Debug)]
+/// first refusal. `{:?}` shows the list's length alone.
+#[derive(Clone, Copy)]
 pub struct Walk<'a> {
     list: &'a [u8],
     at: usize,
@@ -77,6 +80,16 @@ impl<'a> Walk<'a> {
             place: place as usize,
             len: len as u16,
         }))
+    }
+}
+
+impl fmt::Debug for Walk<'_> {
+    fn fmt(&self, f: &mut fmt::Formatter<'_>) -> fmt::Result {
+        f.debug_struct("Walk")
+            .field("list", &Hidden::of(self.list))
+            .field("at", &self.at)
+            .field("refused", &self.refused)
+            .finish()
     }
 }
 

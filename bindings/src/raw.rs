@@ -6,6 +6,10 @@
 //! that is lent until the call ends, a `&mut` one overlaps no other, and the
 //! library touches only what it is lent.
 
+use core::fmt;
+
+use crate::hidden::Hidden;
+
 /// How many numbers [`read_authenticate`] gives.
 pub const AUTHENTICATE_NUMBERS: usize = 20;
 /// How many numbers [`read_challenge`] gives.
@@ -41,8 +45,9 @@ pub const INTEGRITY: u32 = 4;
 /// The setting "confidentiality wanted".
 pub const CONFIDENTIALITY: u32 = 8;
 
-/// What an AUTHENTICATE message is written from, beside its flags.
-#[derive(Clone, Copy, Debug, Default)]
+/// What an AUTHENTICATE message is written from, beside its flags. `{:?}` shows lengths
+/// alone.
+#[derive(Clone, Copy, Default)]
 pub struct Parts<'a> {
     /// Version, written where the flags have VERSION.
     pub version: [u8; 8],
@@ -81,8 +86,8 @@ pub struct Entry {
     pub place: u32,
 }
 
-/// The three messages of a sign-in.
-#[derive(Clone, Copy, Debug, Default)]
+/// The three messages of a sign-in. `{:?}` shows lengths alone.
+#[derive(Clone, Copy, Default)]
 pub struct SignIn<'a> {
     /// NEGOTIATE
     pub negotiate: &'a [u8],
@@ -90,6 +95,31 @@ pub struct SignIn<'a> {
     pub challenge: &'a [u8],
     /// AUTHENTICATE
     pub authenticate: &'a [u8],
+}
+
+impl fmt::Debug for Parts<'_> {
+    fn fmt(&self, f: &mut fmt::Formatter<'_>) -> fmt::Result {
+        f.debug_struct("Parts")
+            .field("version", &Hidden::of(&self.version))
+            .field("mic", &Hidden::of(&self.mic))
+            .field("lm", &Hidden::of(self.lm))
+            .field("nt", &Hidden::of(self.nt))
+            .field("domain", &Hidden::of(self.domain))
+            .field("user", &Hidden::of(self.user))
+            .field("workstation", &Hidden::of(self.workstation))
+            .field("key", &Hidden::of(self.key))
+            .finish()
+    }
+}
+
+impl fmt::Debug for SignIn<'_> {
+    fn fmt(&self, f: &mut fmt::Formatter<'_>) -> fmt::Result {
+        f.debug_struct("SignIn")
+            .field("negotiate", &Hidden::of(self.negotiate))
+            .field("challenge", &Hidden::of(self.challenge))
+            .field("authenticate", &Hidden::of(self.authenticate))
+            .finish()
+    }
 }
 
 /// The declarations of the header, in its order and layout.
@@ -291,6 +321,13 @@ pub fn check_messages(buffer: &[u8], entries: &mut [Entry]) -> u64 {
             entries.len(),
         )
     }
+}
+
+/// The same on entries that tell whether they were read.
+pub(crate) fn check_listed(buffer: &[u8], entries: &mut [crate::Entry]) -> u64 {
+    // Such an entry is laid out as the one that it holds.
+    let first: *mut Entry = entries.as_mut_ptr().cast();
+    unsafe { c::dialtable_check_messages(buffer.as_ptr(), buffer.len(), first, entries.len()) }
 }
 
 /// The text of one string of an NL_AUTH message, as its line shows it.

@@ -1,6 +1,9 @@
 //! Reading messages.
 
-use crate::{raw, Refusal};
+use core::fmt;
+
+use crate::hidden::Hidden;
+use crate::{raw, Mic, Refusal};
 
 /// Where a field stands in its message, and its MaxLen. One that is empty or
 /// doesn't count has length 0 at offset 0.
@@ -45,13 +48,14 @@ impl Field {
     }
 }
 
-/// An AUTHENTICATE message.
+/// An AUTHENTICATE message: where its fields stand, and its MIC, which [`Mic`] keeps
+/// out of `{:?}`.
 #[derive(Clone, Copy, Debug, Default, PartialEq, Eq)]
 pub struct Authenticate {
     /// NegotiateFlags
     pub flags: u32,
     /// The MIC, where it is present.
-    pub mic: Option<[u8; 16]>,
+    pub mic: Option<Mic>,
     /// LmChallengeResponse
     pub lm: Field,
     /// NtChallengeResponse
@@ -78,7 +82,7 @@ pub fn read_authenticate(message: &[u8]) -> Result<Authenticate, Refusal> {
     let [lm_max, nt_max, domain_max, user_max, workstation_max, key_max] = max_lens;
     Ok(Authenticate {
         flags: flags as u32,
-        mic: (mic_present != 0).then_some(mic),
+        mic: (mic_present != 0).then_some(Mic(mic)),
         lm: Field::of(lm_offset, lm_len, lm_max),
         nt: Field::of(nt_offset, nt_len, nt_max),
         domain: Field::of(domain_offset, domain_len, domain_max),
@@ -88,8 +92,8 @@ pub fn read_authenticate(message: &[u8]) -> Result<Authenticate, Refusal> {
     })
 }
 
-/// A CHALLENGE message.
-#[derive(Clone, Copy, Debug, Default, PartialEq, Eq)]
+/// A CHALLENGE message. `{:?}` shows the length of the server's challenge alone.
+#[derive(Clone, Copy, Default, PartialEq, Eq)]
 pub struct Challenge {
     /// NegotiateFlags
     pub flags: u32,
@@ -99,6 +103,17 @@ pub struct Challenge {
     pub target_name: Field,
     /// TargetInfo, empty without TARGET_INFO. Its bytes are a pair list.
     pub target_info: Field,
+}
+
+impl fmt::Debug for Challenge {
+    fn fmt(&self, f: &mut fmt::Formatter<'_>) -> fmt::Result {
+        f.debug_struct("Challenge")
+            .field("flags", &self.flags)
+            .field("server_challenge", &Hidden::of(&self.server_challenge))
+            .field("target_name", &self.target_name)
+            .field("target_info", &self.target_info)
+            .finish()
+    }
 }
 
 /// Reads a CHALLENGE message.

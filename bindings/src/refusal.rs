@@ -3,7 +3,8 @@
 use core::error::Error;
 use core::fmt;
 
-/// Each reason once: its number, its name and what is wrong.
+/// Each reason once: its number, its name and what is wrong. The names are those of the header's
+/// DIALTABLE_REFUSED_, without the underscores.
 macro_rules! reasons {
     ($($number:literal $name:ident $text:literal;)*) => {
         /// Why a call refused.
@@ -42,39 +43,39 @@ macro_rules! reasons {
 }
 
 reasons! {
-    1 MessageTooLong "message over 65,535 bytes";
-    2 MessageTooShort "shorter than its fixed part";
-    3 Signature "signature differs";
-    4 MessageType "type differs";
-    5 NoCharacterSet "UNICODE and OEM both clear";
-    6 FieldPastEnd "a field ends past the message";
-    7 FieldInFixedPart "a field begins in the fixed part";
+    1 TooLong "message over 65,535 bytes";
+    2 TooShort "shorter than its fixed part";
+    3 WrongSignature "signature differs";
+    4 WrongType "type differs";
+    5 NoCharset "UNICODE and OEM both clear";
+    6 PastEnd "a field ends past the message";
+    7 InFixedPart "a field begins in the fixed part";
     8 OddName "a name at an odd place or of odd length";
-    9 NameOnSecret "a name shares a byte with a secret";
+    9 NameOverSecret "a name shares a byte with a secret";
     10 PairPastEnd "a pair's value passes the end of the list";
-    11 PairCutOff "under 4 bytes left where a pair should start";
-    12 EndPair "end pair with nonzero length, or bytes after it";
-    13 PairSize "a pair of a size that its id forbids";
+    11 PairMissing "under 4 bytes left where a pair should start";
+    12 WrongEndPair "end pair with nonzero length, or bytes after it";
+    13 WrongPairSize "a pair of a size that its id forbids";
     14 NoStrings "NL_AUTH request with no bit A to E";
-    15 StringNotEnded "a string without its zero byte, or a name cut short";
-    16 BytesAfterStrings "bytes after the last string";
-    17 ResponseBuffer "a response's buffer isn't one zero byte";
+    15 Unterminated "a string without its zero byte, or a name cut short";
+    16 BytesLeft "bytes after the last string";
+    17 WrongResponse "a response's buffer isn't one zero byte";
     20 No128Bit "128-bit demanded, not in the flags";
     21 NoServerNames "integrity or confidentiality wanted, pairs 1 and 2 not both there";
-    30 WrittenTooLong "a message to write would pass 65,535 bytes";
-    31 WrittenOddName "a name to write has odd length";
-    32 WrittenKey "a key neither empty nor 16 bytes, or without KEY_EXCH";
+    30 TooLongToWrite "a message to write would pass 65,535 bytes";
+    31 OddNameToWrite "a name to write has odd length";
+    32 WrongKey "a key neither empty nor 16 bytes, or without KEY_EXCH";
     33 NoRoom "an output is too short";
-    34 WrittenZeroByte "an NL_AUTH string to write holds a zero byte";
+    34 ZeroInString "an NL_AUTH string to write holds a zero byte";
     50 WrongLabel "a length byte of other top bits, or a label to write that is empty or over 63";
-    51 JumpNotBack "a jump to a place that is not before its run of labels";
+    51 PlaceNotBefore "a jump to a place that is not before its run of labels";
     52 TooManyJumps "a seventeenth jump in one name";
     53 NameTooLong "a name whose coded length is over 255";
     54 PlaceOutside "a message that passes the end of the night's buffer";
-    55 SessionKey "a session key that isn't 16 bytes";
+    55 WrongSessionKey "a session key that isn't 16 bytes";
     56 NoMic "an AUTHENTICATE without a MIC";
-    57 Scheme "a header's text without the word NTLM and a space";
-    58 Base64 "a bad character, padding, group or last bits in base64";
+    57 WrongScheme "a header's text without the word NTLM and a space";
+    58 WrongBase64 "a bad character, padding, group or last bits in base64";
 }
 
 /// A refused call. It changed no byte that it was lent.

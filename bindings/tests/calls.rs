@@ -9,16 +9,14 @@ use dialtable::{
     ntlm_line, ntlm_program_line, raw, read_authenticate, read_challenge, read_negotiate,
     read_nl_auth, read_server_names, read_timestamp, respond, respond_for_bench, respond_for_relay,
     respond_to_old_server, write_authenticate, write_negotiate, write_nl_auth_request,
-    write_nl_auth_response, write_response_pairs, Answer, Decision, Entry, Field, Mark, Negotiate,
-    NlAuth, NlAuthString, Pair, Parts, Reason, Refusal, ServerNames, Settings, SignIn, Walk,
-    EXPLAIN_ROOM,
+    write_nl_auth_response, write_response_pairs, Answer, Decision, Entry, Field, Mark, Mic,
+    MicCheck, Negotiate, NlAuth, NlAuthString, Pair, Parts, Reason, Refusal, ServerNames, Settings,
+    SignIn, Verdict, Walk, EXPLAIN_ROOM, MIC_AT,
 };
-
-const UNICODE: u32 = 0x1;
-const OEM_DOMAIN: u32 = 0x1000;
-const OEM_WORKSTATION: u32 = 0x2000;
-const VERSION: u32 = 0x200_0000;
-const KEY_EXCH: u32 = 0x4000_0000;
+use dialtable::{
+    place_mic, FLAG_DOMAIN_SUPPLIED as OEM_DOMAIN, FLAG_KEY_EXCH as KEY_EXCH,
+    FLAG_UNICODE as UNICODE, FLAG_VERSION as VERSION, FLAG_WORKSTATION_SUPPLIED as OEM_WORKSTATION,
+};
 
 const P1_LINE: &[u8] =
     b"auth flags=00000201 set=U domain= user=box7 work= lm=0 nt=24 key=0 mic=1 kind=v1 max=000000\n";
@@ -88,7 +86,7 @@ fn p1_is_read() {
     let message = p1();
     let read = read_authenticate(&message).expect("taken");
     assert_eq!(read.flags, 0x201);
-    assert_eq!(read.mic, Some([0; 16]));
+    assert_eq!(read.mic, Some(Mic([0; 16])));
     assert_eq!(read.user, field(88, 8));
     assert_eq!(read.user.bytes(&message), b"b\0o\0x\x007\0");
     assert_eq!(read.nt, field(96, 24));
@@ -122,7 +120,7 @@ fn changes_to_p1_are_refused_by_number_and_field() {
 #[test]
 fn a_refusal_says_what_is_wrong() {
     let refused = read_authenticate(&[]).expect_err("refused");
-    assert_eq!(refused.reason, Reason::MessageTooShort);
+    assert_eq!(refused.reason, Reason::TooShort);
     assert_eq!(
         refused.to_string(),
         "refused 2 field=0 at=0: shorter than its fixed part"
@@ -433,7 +431,7 @@ fn nl_auth_names_are_read() {
         reasons,
         [
             Reason::WrongLabel,
-            Reason::JumpNotBack,
+            Reason::PlaceNotBefore,
             Reason::TooManyJumps,
             Reason::NameTooLong
         ]
@@ -520,6 +518,15 @@ fn night() -> Vec<u8> {
     [p1(), negotiate(), bad].concat()
 }
 
+/// The refusal of an entry that was read.
+fn told(verdict: Verdict) -> Option<(u8, u8, usize)> {
+    match verdict {
+        Verdict::NotRead => panic!("it was read"),
+        Verdict::Taken => None,
+        Verdict::Refused(refusal) => Some((refusal.number(), refusal.field, refusal.place)),
+    }
+}
+
 #[test]
 fn a_night_is_checked() {
     let buffer = night();
@@ -539,26 +546,16 @@ fn a_night_is_checked() {
         (u64::MAX, 121, Mark::Authenticate, Some((54, 0, 0))),
         (1 << 32, 120, Mark::Authenticate, Some((54, 0, 0))),
     ];
-    let listed = cases.map(|(start, length, mark, _)| Entry {
-        number: 7,
-        field: 8,
-        place: 9,
-        ..Entry::new(start, length, mark)
-    });
+    let listed = cases.map(|(start, length, mark, _)| Entry::new(start, length, mark));
     let mut entries = listed;
     assert_eq!(check_messages(&buffer, &mut entries), Ok(()));
-    for ((entry, before), (_, _, _, expected)) in entries.iter().zip(listed).zip(cases) {
-        let answer = entry.answer();
-        let told = answer.err().map(|e| (e.number(), e.field, e.place));
-        assert_eq!(told, expected);
-        let (number, field, place) = expected.unwrap_or_default();
-        let after = Entry {
-            number: u32::from(number),
-            field: u32::from(field),
-            place: place as u32,
-            ..before
-        };
-        assert_eq!(*entry, after);
+    for ((entry, before), (start, length, mark, expected)) in entries.iter().zip(listed).zip(cases)
+    {
+        assert_eq!(before.answer(), Verdict::NotRead);
+        assert_eq!(told(entry.answer()), expected);
+        assert_eq!(entry.answer().is_taken(), expected.is_none());
+        let kept = (entry.start(), entry.length(), entry.mark());
+        assert_eq!(kept, (start, length, mark));
     }
     assert_eq!(Reason::of(54), Reason::PlaceOutside);
 }
@@ -568,20 +565,54 @@ fn a_night_that_is_too_long_or_empty_changes_no_entry() {
     let mut buffer = night();
     buffer.resize(65_535, 0);
     let mut entries = [Entry::new(0, 120, Mark::Authenticate); 3];
-    entries[1].number = 77;
     assert_eq!(check_messages(&buffer, &mut []), Ok(()));
     assert_eq!(check_messages(&buffer, &mut entries[..1]), Ok(()));
-    assert_eq!(entries[1].number, 77);
     buffer.push(0);
     let before = entries;
     assert_eq!(refusal(check_messages(&buffer, &mut entries)), (1, 0));
     assert_eq!(refusal(check_messages(&buffer, &mut [])), (1, 0));
     assert_eq!(entries, before);
-    // A mark that is none, which only the fields can give.
-    for mark in [0, 4, 0x103, u32::MAX] {
-        entries[2].mark = mark;
-        assert_eq!(check_messages(&night(), &mut entries), Ok(()));
-        assert_eq!(refusal(entries[2].answer()), (4, 0));
+    // Only the first was read. The others are not taken, whatever was refused.
+    assert!(entries[0].answer().is_taken());
+    for entry in &entries[1..] {
+        assert_eq!(entry.answer(), Verdict::NotRead);
+        assert!(!entry.answer().is_taken());
+    }
+}
+
+#[test]
+fn the_raw_call_changes_answers_alone() {
+    let before = raw::Entry {
+        start: 172,
+        length: 134,
+        mark: 2,
+        number: 7,
+        field: 8,
+        place: 9,
+    };
+    let mut entries = [before; 6];
+    for (entry, mark) in entries[1..].iter_mut().zip([0, 4, 0x103, u32::MAX]) {
+        entry.mark = mark;
+    }
+    let listed = entries;
+    assert_eq!(raw::check_messages(&night(), &mut entries[..5]), 0);
+    // The last was not listed; the marks between are none.
+    let answers = [
+        (13, 2, 118),
+        (4, 0, 0),
+        (4, 0, 0),
+        (4, 0, 0),
+        (4, 0, 0),
+        (7, 8, 9),
+    ];
+    for ((entry, before), (number, field, place)) in entries.iter().zip(listed).zip(answers) {
+        let after = raw::Entry {
+            number,
+            field,
+            place,
+            ..before
+        };
+        assert_eq!(*entry, after);
     }
 }
 
@@ -594,16 +625,17 @@ fn a_night_of_a_thousand_entries() {
     let mut entries: Vec<Entry> = (0..1_000).map(entry).collect();
     assert_eq!(check_messages(&buffer, &mut entries), Ok(()));
     for entry in &entries {
-        let (start, length) = (entry.start as usize, entry.length as usize);
+        let (start, length) = (entry.start() as usize, entry.length() as usize);
         let Some(message) = buffer.get(start..start + length) else {
-            assert_eq!(refusal(entry.answer()), (54, 0));
+            assert_eq!(told(entry.answer()), Some((54, 0, 0)));
             continue;
         };
-        let single = match entry.mark {
-            1 => read_negotiate(message).map(drop),
-            2 => read_challenge(message).map(drop),
-            _ => read_authenticate(message).map(drop),
+        let single = match entry.mark() {
+            Mark::Negotiate => read_negotiate(message).map(drop),
+            Mark::Challenge => read_challenge(message).map(drop),
+            Mark::Authenticate => read_authenticate(message).map(drop),
         };
+        let single = single.map_or_else(Verdict::Refused, |()| Verdict::Taken);
         assert_eq!(entry.answer(), single);
     }
 }
@@ -617,7 +649,7 @@ fn what_is_written_reads_back() {
     assert_eq!(message.len(), 88 + 2 + 4 + 24 + 40 + 16);
     assert_eq!(message[64..72], parts.version);
     let read = read_authenticate(message).expect("taken");
-    assert_eq!((read.flags, read.mic), (flags, Some(parts.mic)));
+    assert_eq!((read.flags, read.mic), (flags, Some(Mic(parts.mic))));
     for (field, bytes) in [
         (read.lm, parts.lm),
         (read.nt, parts.nt),
@@ -849,7 +881,7 @@ fn a_challenge_is_answered() {
     } = respond(&mut room, &message, Settings::default(), CLOCK, &parts).expect("answered");
     assert_eq!((time, mic_due), (TIME, true));
     let read = read_authenticate(sent).expect("taken");
-    assert_eq!((read.flags, read.mic), (0x628A_8215, Some(parts.mic)));
+    assert_eq!((read.flags, read.mic), (0x628A_8215, Some(Mic(parts.mic))));
     assert_eq!(read.lm.bytes(sent), [0; 24]);
     assert_eq!(read.nt.bytes(sent), parts.nt);
     assert_eq!(read.key.bytes(sent), parts.key);
@@ -875,7 +907,7 @@ fn a_challenge_is_answered() {
     let answer = answer.expect("answered");
     assert_eq!((answer.time, answer.mic_due), (CLOCK, false));
     let read = read_authenticate(answer.message).expect("taken");
-    assert_eq!(read.mic, Some([0; 16]));
+    assert_eq!(read.mic, Some(Mic([0; 16])));
 }
 
 #[test]
@@ -1029,17 +1061,59 @@ fn mics_of_real_sign_ins() {
             challenge,
             authenticate,
         };
-        assert_eq!(mic(key, &messages).expect("a MIC").to_vec(), *sent);
-        assert_eq!(check_mic(key, &messages), Ok(true));
+        let right = mic(key, &messages).expect("a MIC");
+        assert_eq!(right.0.to_vec(), *sent);
+        assert_eq!(check_mic(key, &messages), MicCheck::Right);
+        assert!(check_mic(key, &messages).is_right());
         let mut authenticate = authenticate.clone();
         authenticate[87] ^= 1;
         let messages = SignIn {
             authenticate: &authenticate,
             ..messages
         };
-        assert_eq!(check_mic(key, &messages), Ok(false));
-        assert_eq!(mic(key, &messages).expect("a MIC").to_vec(), *sent);
+        assert_eq!(check_mic(key, &messages), MicCheck::Wrong);
+        assert!(!check_mic(key, &messages).is_right());
+        assert_eq!(mic(key, &messages).expect("a MIC"), right);
+        // The right one goes back to its place.
+        place_mic(&mut authenticate, &right).expect("a place");
+        let messages = SignIn {
+            negotiate,
+            challenge,
+            authenticate: &authenticate,
+        };
+        assert_eq!(check_mic(key, &messages), MicCheck::Right);
     }
+}
+
+#[test]
+fn a_mic_is_placed_or_refused_aloud() {
+    let mic = Mic([0x5C; 16]);
+    let mut message = p1();
+    let mut expected = message.clone();
+    expected[MIC_AT..MIC_AT + 16].fill(0x5C);
+    place_mic(&mut message, &mic).expect("a place");
+    assert_eq!(message, expected);
+    // No place: a field begins before it ends, the message is cut, or is another kind.
+    let mut no_place = p1();
+    no_place[40] = 64;
+    for (mut message, expected) in [
+        (no_place, (56, 0)),
+        (p1()[..80].to_vec(), (6, 2)),
+        (p1()[..63].to_vec(), (2, 0)),
+        (Vec::new(), (2, 0)),
+        (challenge(), (4, 0)),
+    ] {
+        let before = message.clone();
+        assert_eq!(refusal(place_mic(&mut message, &mic)), expected);
+        assert_eq!(message, before);
+    }
+    let (mut room, challenge) = ([0; 300], challenge());
+    let parts = parts();
+    let answer = respond(&mut room, &challenge, Settings::default(), CLOCK, &parts);
+    let mut answer = answer.expect("answered");
+    answer.place_mic(&mic).expect("a place");
+    let read = read_authenticate(answer.message).expect("taken");
+    assert_eq!(read.mic, Some(mic));
 }
 
 #[test]
@@ -1053,9 +1127,14 @@ fn a_mic_is_refused_in_the_order_given() {
         authenticate: &authenticate,
     };
     let refused = |key: &[u8], messages: &SignIn<'_>| {
-        let refused = refusal_at(mic(key, messages));
-        assert_eq!(refusal_at(check_mic(key, messages)), refused);
-        refused
+        let refused = mic(key, messages).expect_err("a refusal");
+        let checked = match refused.number() {
+            56 => MicCheck::Absent,
+            _ => MicCheck::Refused(refused),
+        };
+        assert_eq!(check_mic(key, messages), checked);
+        assert!(!checked.is_right());
+        refusal_at::<()>(Err(refused))
     };
     assert_eq!(refused(&[1; 16], &messages), (56, 0, 0));
     let cut = &challenge[..challenge.len() - 4];

@@ -7,7 +7,7 @@ use std::io::{self, BufWriter, Write};
 use std::path::Path;
 use std::process::ExitCode;
 
-use dialtable::{check_messages, Entry, Mark, Refusal};
+use dialtable::{check_messages, Entry, Mark, Refusal, Verdict};
 use night::{Answers, Place, Refused};
 
 fn main() -> ExitCode {
@@ -40,8 +40,21 @@ fn check(buffer: &[u8], places: &[Place]) -> Answers {
     };
     let mut entries: Vec<Entry> = places.iter().map(entry).collect();
     check_messages(buffer, &mut entries).map_err(refused)?;
-    let answers = entries.iter().map(|entry| entry.answer().err());
-    Ok(answers.map(|answer| answer.map(refused)).collect())
+    Ok(entries.iter().map(answer).collect())
+}
+
+/// The refusal of an entry, none where it is taken. One that the call passed over would
+/// have number 0, which no refusal has.
+fn answer(entry: &Entry) -> Option<Refused> {
+    match entry.answer() {
+        Verdict::Taken => None,
+        Verdict::Refused(refusal) => Some(refused(refusal)),
+        Verdict::NotRead => Some(Refused {
+            number: 0,
+            field: 0,
+            place: 0,
+        }),
+    }
 }
 
 fn refused(refusal: Refusal) -> Refused {
