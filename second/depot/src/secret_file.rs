@@ -1,13 +1,19 @@
 //! A file that holds secrets: its owner alone may read it.
 
+use std::ffi::OsString;
 use std::fmt;
-use std::fs::{self, File, OpenOptions, Permissions};
+use std::fs::{self, File, OpenOptions};
 use std::io::{self, Write};
-use std::os::unix::fs::{MetadataExt, OpenOptionsExt, PermissionsExt};
+use std::os::unix::fs::{MetadataExt, OpenOptionsExt};
 use std::path::{Path, PathBuf};
+use std::process;
 
 /// Reading and writing, for the owner.
 const OWNER_ALONE: u32 = 0o600;
+
+/// How many names are tried for the new file: one is left behind only where a program was
+/// ended while it wrote.
+const NAMES: u32 = 100;
 
 /// Why nothing was written. Each says what to do.
 #[derive(Debug)]
@@ -16,6 +22,8 @@ pub enum NotWritten {
     NotAFile(PathBuf),
     /// The output is the file that the message came from.
     Same(PathBuf),
+    /// The output is there and belongs to somebody else.
+    NotOwn(PathBuf),
     /// It can't be opened, kept from others or written.
     Failed(PathBuf, io::Error),
 }
@@ -33,6 +41,11 @@ impl fmt::Display for NotWritten {
                 "{} is the message itself: name another output, as OUT=file",
                 path.display()
             ),
+            Self::NotOwn(path) => write!(
+                f,
+                "{} is there and is somebody else's: name another output, as OUT=file",
+                path.display()
+            ),
             Self::Failed(path, error) => write!(
                 f,
                 "{} can't be written ({error}): name an output of your own in a folder that is there, as OUT=file",
@@ -42,26 +55,33 @@ impl fmt::Display for NotWritten {
     }
 }
 
-/// Writes `bytes` to the file `out`, which may be there already, but not as the file
-/// `from` that they were made from. It is closed to others before the first byte is
-/// written. A file that can't be written whole is taken away.
+/// Writes `bytes` to the file `out`. They go to a new file in the same folder, which is
+/// its owner's alone from its creation on, and which takes the name of `out` once it is
+/// whole: who has open what was there before, or has it under another name, sees nothing
+/// of them, and where the writing fails it stays as it was. What was there must be a plain
+/// file of the caller's own, and not the file `from` that the bytes were made from.
 pub fn write(out: &Path, from: &Path, bytes: &[u8]) -> Result<(), NotWritten> {
     let failed = |error| NotWritten::Failed(out.to_owned(), error);
-    match fs::symlink_metadata(out) {
+    let there = match fs::symlink_metadata(out) {
         Ok(about) if !about.is_file() => return Err(NotWritten::NotAFile(out.to_owned())),
         Ok(about) if is(from, &about) => return Err(NotWritten::Same(out.to_owned())),
-        Ok(_) => {}
-        Err(error) if error.kind() == io::ErrorKind::NotFound => {}
+        Ok(about) => Some(about),
+        Err(error) if error.kind() == io::ErrorKind::NotFound => None,
         Err(error) => return Err(failed(error)),
-    }
-    let mut options = OpenOptions::new();
-    let options = options.write(true).create(true).mode(OWNER_ALONE);
-    let file = options.open(out).map_err(failed)?;
-    put(file, bytes).map_err(|error| {
+    };
+    let (new, file) = create_beside(out).map_err(failed)?;
+    let done = match (owner(&file), there) {
+        (Ok(own), Some(about)) if own != about.uid() => Err(NotWritten::NotOwn(out.to_owned())),
+        (Ok(_), _) => put(file, bytes)
+            .and_then(|()| fs::rename(&new, out))
+            .map_err(failed),
+        (Err(error), _) => Err(failed(error)),
+    };
+    if done.is_err() {
         // What is left of it would be cut short.
-        let _ = fs::remove_file(out);
-        failed(error)
-    })
+        let _ = fs::remove_file(&new);
+    }
+    done
 }
 
 /// Whether the file at a path is the one that `about` tells of.
@@ -69,10 +89,35 @@ fn is(path: &Path, about: &fs::Metadata) -> bool {
     fs::metadata(path).is_ok_and(|other| (other.dev(), other.ino()) == (about.dev(), about.ino()))
 }
 
+fn owner(file: &File) -> io::Result<u32> {
+    Ok(file.metadata()?.uid())
+}
+
+/// A new file in the folder of `out`, which nobody but its owner could ever open.
+fn create_beside(out: &Path) -> io::Result<(PathBuf, File)> {
+    let no_name = || io::Error::new(io::ErrorKind::InvalidInput, "it has no name");
+    let mut taken = no_name();
+    for count in 0..NAMES {
+        let mut name = OsString::from(".");
+        name.push(out.file_name().ok_or_else(no_name)?);
+        name.push(format!(".{}-{count}", process::id()));
+        let new = out.with_file_name(name);
+        let mut options = OpenOptions::new();
+        match options
+            .write(true)
+            .create_new(true)
+            .mode(OWNER_ALONE)
+            .open(&new)
+        {
+            Ok(file) => return Ok((new, file)),
+            Err(error) if error.kind() == io::ErrorKind::AlreadyExists => taken = error,
+            Err(error) => return Err(error),
+        }
+    }
+    Err(taken)
+}
+
 fn put(mut file: File, bytes: &[u8]) -> io::Result<()> {
-    // One that was there keeps the mode that it had.
-    file.set_permissions(Permissions::from_mode(OWNER_ALONE))?;
-    file.set_len(0)?;
     file.write_all(bytes)?;
     file.sync_all()
 }
@@ -80,9 +125,10 @@ fn put(mut file: File, bytes: &[u8]) -> io::Result<()> {
 #[cfg(test)]
 mod tests {
     use super::{write, NotWritten, OWNER_ALONE};
-    use std::fs::{self, Permissions};
-    use std::os::unix::fs::{symlink, PermissionsExt};
-    use std::path::PathBuf;
+    use std::fs::{self, File, Permissions};
+    use std::io::Read;
+    use std::os::unix::fs::{chown, symlink, MetadataExt, PermissionsExt};
+    use std::path::{Path, PathBuf};
 
     fn folder(name: &str) -> PathBuf {
         let folder = std::env::temp_dir().join(format!("secret-{name}-{}", std::process::id()));
@@ -91,20 +137,51 @@ mod tests {
         folder
     }
 
+    fn count(folder: &Path) -> usize {
+        fs::read_dir(folder).expect("a folder").count()
+    }
+
+    fn mode(path: &Path) -> u32 {
+        fs::metadata(path).expect("a file").permissions().mode() & 0o7777
+    }
+
     #[test]
     fn its_owner_alone_may_read_it() {
         let folder = folder("mode");
         let (from, out) = (folder.join("from"), folder.join("out"));
         fs::write(&from, b"a message").expect("a file");
-        let mode = || fs::metadata(&out).expect("a file").permissions().mode() & 0o7777;
         write(&out, &from, b"some bytes").expect("written");
-        assert_eq!(mode(), OWNER_ALONE);
+        assert_eq!(mode(&out), OWNER_ALONE);
         // One that others could read, and that was longer.
         fs::set_permissions(&out, Permissions::from_mode(0o644)).expect("a mode");
         write(&out, &from, b"less").expect("written");
-        assert_eq!(mode(), OWNER_ALONE);
+        assert_eq!(mode(&out), OWNER_ALONE);
         assert_eq!(fs::read(&out).expect("a file"), b"less");
-        assert_eq!(fs::read_dir(&folder).expect("a folder").count(), 2);
+        assert_eq!(count(&folder), 2);
+        fs::remove_dir_all(folder).expect("taken away");
+    }
+
+    /// What others have open, or have under another name, stays what it was.
+    #[test]
+    fn what_others_hold_shows_nothing() {
+        let folder = folder("held");
+        let (from, out, other) = (
+            folder.join("from"),
+            folder.join("out"),
+            folder.join("other"),
+        );
+        fs::write(&from, b"a message").expect("a file");
+        fs::write(&out, b"old").expect("a file");
+        fs::set_permissions(&out, Permissions::from_mode(0o644)).expect("a mode");
+        fs::hard_link(&out, &other).expect("a link");
+        let mut held = File::open(&out).expect("open");
+        write(&out, &from, b"some bytes").expect("written");
+        let mut seen = Vec::new();
+        held.read_to_end(&mut seen).expect("read");
+        assert_eq!(seen, b"old");
+        assert_eq!(fs::read(&other).expect("a file"), b"old");
+        assert_eq!((mode(&other), mode(&out)), (0o644, OWNER_ALONE));
+        assert_eq!(fs::read(&out).expect("a file"), b"some bytes");
         fs::remove_dir_all(folder).expect("taken away");
     }
 
@@ -112,19 +189,58 @@ mod tests {
     fn what_is_there_is_not_lost() {
         let folder = folder("kept");
         let (from, link) = (folder.join("from"), folder.join("link"));
+        let (hard, nowhere) = (folder.join("hard"), folder.join("nowhere"));
         fs::write(&from, b"a message").expect("a file");
         symlink(&from, &link).expect("a link");
-        let refused = write(&from, &from, b"x");
-        assert!(matches!(refused, Err(NotWritten::Same(_))));
-        let refused = write(&from, &link, b"x");
-        assert!(matches!(refused, Err(NotWritten::Same(_))));
-        for other in [&link, &folder] {
+        symlink(folder.join("none"), &nowhere).expect("a link");
+        fs::hard_link(&from, &hard).expect("a link");
+        for (out, from) in [(&from, &from), (&from, &link), (&hard, &from)] {
+            let refused = write(out, from, b"x");
+            assert!(matches!(refused, Err(NotWritten::Same(_))));
+        }
+        for other in [&link, &nowhere, &folder] {
             let refused = write(other, &from, b"x");
             assert!(matches!(refused, Err(NotWritten::NotAFile(_))));
         }
-        let refused = write(&folder.join("none/out"), &from, b"x");
-        assert!(matches!(refused, Err(NotWritten::Failed(..))));
+        for other in ["none/out", "from/out", ".."] {
+            assert!(write(&folder.join(other), &from, b"x").is_err());
+        }
         assert_eq!(fs::read(&from).expect("a file"), b"a message");
+        assert_eq!(fs::read_link(&link).expect("a link"), from);
+        assert_eq!(count(&folder), 4);
+        fs::remove_dir_all(folder).expect("taken away");
+    }
+
+    /// Only root may give a file away: for others there is nothing to try.
+    #[test]
+    fn somebody_elses_file_is_left_alone() {
+        let folder = folder("another");
+        let (from, out) = (folder.join("from"), folder.join("out"));
+        fs::write(&from, b"a message").expect("a file");
+        fs::write(&out, b"not ours").expect("a file");
+        let own = fs::metadata(&out).expect("a file").uid();
+        if chown(&out, Some(own + 1), None).is_ok() {
+            let refused = write(&out, &from, b"x");
+            assert!(matches!(refused, Err(NotWritten::NotOwn(_))));
+            assert_eq!(fs::read(&out).expect("a file"), b"not ours");
+            assert_eq!(fs::metadata(&out).expect("a file").uid(), own + 1);
+            assert_eq!(count(&folder), 2);
+        }
+        fs::remove_dir_all(folder).expect("taken away");
+    }
+
+    /// A name that is taken, by a link too, is passed over and left as it is.
+    #[test]
+    fn a_name_that_is_taken_is_passed_over() {
+        let folder = folder("name");
+        let (from, out) = (folder.join("from"), folder.join("out"));
+        fs::write(&from, b"a message").expect("a file");
+        let first = folder.join(format!(".out.{}-0", std::process::id()));
+        symlink(&from, &first).expect("a link");
+        write(&out, &from, b"some bytes").expect("written");
+        assert_eq!(fs::read(&out).expect("a file"), b"some bytes");
+        assert_eq!(fs::read(&from).expect("a file"), b"a message");
+        assert_eq!(count(&folder), 3);
         fs::remove_dir_all(folder).expect("taken away");
     }
 }

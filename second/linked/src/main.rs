@@ -5,7 +5,7 @@
 
 use std::env;
 use std::ffi::OsString;
-use std::io::{self, Read, Write};
+use std::io::{self, IsTerminal, Read, Write};
 use std::path::Path;
 use std::process::ExitCode;
 
@@ -15,11 +15,18 @@ use depot::secret_file;
 
 const USAGE: &str = "usage: linked canonical FILE OUT | linked import < TEXT";
 
+const NO_TERMINAL: &str =
+    "a message is not shown on a terminal, since it holds secrets: send it on to a program, as \
+                           linked import < TEXT | PROGRAM";
+
 fn main() -> ExitCode {
     let args: Vec<OsString> = env::args_os().skip(1).collect();
     let done = match args.as_slice() {
         [command, file, out] if command == "canonical" => {
             canonical(Path::new(file), Path::new(out))
+        }
+        [command] if command == "import" && io::stdout().is_terminal() => {
+            Err(NO_TERMINAL.to_owned())
         }
         [command] if command == "import" => import().map_err(|error| format!("linked: {error}")),
         _ => return fail(2, USAGE),
@@ -38,7 +45,8 @@ fn fail(status: u8, message: &str) -> ExitCode {
 }
 
 /// Takes all of standard input as the text of a header line, and prints its message in
-/// hex or its refusal, on one line. It is for the depot bench, which shows no message.
+/// hex or its refusal, on one line. It is for the depot bench, which shows no message, and
+/// prints none to a terminal.
 fn import() -> io::Result<()> {
     let mut text = Vec::new();
     io::stdin().lock().read_to_end(&mut text)?;

@@ -9,7 +9,7 @@ mod hex;
 use std::env;
 use std::ffi::OsString;
 use std::fmt;
-use std::io::{self, BufRead, BufReader, BufWriter, Read, Write};
+use std::io::{self, BufRead, BufReader, BufWriter, IsTerminal, Read, Write};
 use std::path::{Path, PathBuf};
 use std::process::ExitCode;
 
@@ -19,6 +19,10 @@ use reader::{check_messages, import_header, Entry, Program, Refusal, LINE_LIMIT,
 const USAGE: &str =
     "usage: second [batch] ntlm | second [batch] nl | second [batch] explain | second night INDEX \
                      | second import";
+
+const NO_TERMINAL: &str =
+    "a message is not shown on a terminal, since it holds secrets: send it on to a program, as \
+                           second import < TEXT | PROGRAM";
 
 /// How many bytes of input and output a batch holds at a time.
 const BATCH_BUFFER: usize = 1 << 18;
@@ -32,6 +36,7 @@ fn main() -> ExitCode {
         Command::One(program) => print_one(program),
         Command::Batch(program) => print_batch(program),
         Command::Night(index) => print_night(&index),
+        Command::Import if io::stdout().is_terminal() => return fail(1, &NO_TERMINAL),
         Command::Import => print_imported(),
     };
     match done {
@@ -115,7 +120,7 @@ fn print_one(program: Program) -> Result<(), Failure> {
 }
 
 /// Takes all of standard input as the text of a header line, and prints its message in
-/// hex or its refusal, on one line.
+/// hex or its refusal, on one line. The message holds secrets: none goes to a terminal.
 fn print_imported() -> Result<(), Failure> {
     let mut text = Vec::new();
     io::stdin().lock().read_to_end(&mut text)?;
