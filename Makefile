@@ -1,14 +1,14 @@
 # make help lists the targets.
-.PHONY: help run explain night canonical lib lib-small lib-thumb install test test-firmware compare wide bench
+.PHONY: help run example explain night canonical lib lib-small lib-thumb install dist test test-firmware compare wide bench
 
 MESSAGES ?= messages
 PREFIX ?= /usr/local
-TARGET ?= thumbv7m-none-eabi
 export MESSAGES FILE OUT DESTDIR
 
 help:
 	@echo 'make run            the depot bench: every message in messages/ through the proved program and the second one;'
 	@echo '                    MESSAGES=folder for another folder. The status is 0 where all lines are the same'
+	@echo 'make example        a sign-in with messages that were recorded, and the lines of its three messages: needs no server'
 	@echo 'make explain        why one NTLM message is refused, check by check: FILE=message, raw, in hex or in base64'
 	@echo 'make night          the messages of a night in one call, by the proved library and the second program: FILE=buffer, with'
 	@echo '                    its index beside it (messages/README.md)'
@@ -18,7 +18,9 @@ help:
 	@echo 'make lib-small      the same with less code: target/small/libdialtable.a'
 	@echo 'make lib-thumb      the same for a small box: target/TARGET/libdialtable.a; TARGET=thumbv7m-none-eabi is understood,'
 	@echo '                    thumbv6m-none-eabi and riscv32-unknown-elf are the others that were tried'
-	@echo 'make install        the header, the library and a file for pkg-config, under PREFIX=/usr/local, with DESTDIR= before it'
+	@echo 'make install        the header, the library and a file for pkg-config, under PREFIX=/usr/local, with DESTDIR= before it;'
+	@echo '                    with TARGET=small or a target as above that library, in lib/TARGET'
+	@echo 'make dist           one archive of header, libraries, example and table of sizes: target/dist/dialtable-VERSION.tar.gz'
 	@echo 'make test           every proof and every test; the last line is "N passed, 0 failed"'
 	@echo 'make test-firmware  every call on an emulated Cortex-M3 and Cortex-M0 and on this machine, with the same answers;'
 	@echo '                    needs qemu-system-arm and gcc-arm-none-eabi'
@@ -31,6 +33,9 @@ help:
 
 run:
 	@tools/run "$$MESSAGES"
+
+example:
+	@tools/example
 
 explain:
 	@tools/explain "$$FILE"
@@ -52,11 +57,14 @@ lib-small:
 	@echo '    gcc -Iinclude program.c target/small/libdialtable.a -Wl,--gc-sections -o program'
 
 lib-thumb:
-	@tools/build-for '$(TARGET)'
-	@echo 'target/$(TARGET)/libdialtable.a is built; its header is include/dialtable.h'
+	@tools/build-for '$(or $(TARGET),thumbv7m-none-eabi)'
+	@echo 'target/$(or $(TARGET),thumbv7m-none-eabi)/libdialtable.a is built; its header is include/dialtable.h'
 
 install:
-	@tools/install '$(PREFIX)'
+	@tools/install '$(PREFIX)' '$(TARGET)'
+
+dist:
+	@tools/dist
 
 compare:
 	@tools/need rt cargo && tools/build-second && tools/build-proved && tools/compare

@@ -1,0 +1,64 @@
+/*
+ * A sign-in without a server and without a radio module: 'make example'. The challenge is one that Samba's smbd sent
+ * to 'make sign-in', and the response that smbd then took stands in for the radio module's. Prints the lines of the
+ * three messages as sign_in.c logs them. The status is 0 only where the AUTHENTICATE is byte for byte the one that
+ * smbd took.
+ */
+#include <stdio.h>
+#include <string.h>
+
+#include "sign_in.h"
+
+#include "canned.h"
+
+dialtable_len exchange(const uint8_t *msg, dialtable_len msg_len, uint8_t *in, dialtable_len in_len)
+{
+    if (in_len == 0) {
+        return msg_len == sizeof canned_authenticate && memcmp(msg, canned_authenticate, sizeof canned_authenticate) == 0
+                   ? 0 : NOT_SENT;
+    }
+    if (in_len < sizeof canned_challenge) return 0;
+    memcpy(in, canned_challenge, sizeof canned_challenge);
+    return sizeof canned_challenge;
+}
+
+void log_it(const uint8_t *line, uint64_t line_len)
+{
+    if (!DIALTABLE_IS_REFUSED(line_len)) fwrite(line, 1, (size_t)line_len, stdout);
+}
+
+/* The response that was taken, where it was worked out over this time and this pair list. */
+int radio_respond(struct radio *radio, const struct radio_task *task)
+{
+    uint64_t numbers[DIALTABLE_AUTHENTICATE_NUMBERS], answer;
+    uint8_t mic[16], time[8];
+    const uint8_t *nt;
+    int i;
+
+    answer = dialtable_read_authenticate(canned_authenticate, sizeof canned_authenticate, numbers,
+                                         DIALTABLE_AUTHENTICATE_NUMBERS, mic, sizeof mic);
+    if (DIALTABLE_IS_REFUSED(answer)) return 0;
+    nt = canned_authenticate + numbers[DIALTABLE_AUTHENTICATE_NT_OFFSET];
+    radio->nt_len = (size_t)numbers[DIALTABLE_AUTHENTICATE_NT_LEN];
+    for (i = 0; i < 8; i++) time[i] = (uint8_t)(task->time >> 8 * i);
+    if (radio->nt_len != task->pairs_len + 48 || memcmp(nt + 24, time, 8) != 0 ||
+        memcmp(nt + 44, task->pairs, task->pairs_len) != 0) return 0;
+    memcpy(radio->nt, nt, radio->nt_len);
+    memcpy(radio->lm, canned_authenticate + numbers[DIALTABLE_AUTHENTICATE_LM_OFFSET], sizeof radio->lm);
+    memcpy(radio->key, canned_authenticate + numbers[DIALTABLE_AUTHENTICATE_KEY_OFFSET], sizeof radio->key);
+    memcpy(radio->session_key, canned_session_key, sizeof radio->session_key);
+    return 1;
+}
+
+int main(void)
+{
+    static struct radio radio;
+    struct settings box = {
+        "bench-operator-of-the-northern-depot-number-seven-hall-b-2nd", "", "BOX7", "cifs/localhost", 0xE2888235u,
+        DIALTABLE_DEFAULTS, 0
+    };
+
+    if (sign_in(&box, &radio) == 0 && fflush(stdout) == 0 && !ferror(stdout)) return 0;
+    fputs("the sign-in isn't the one that was taken, or its lines can't be written\n", stderr);
+    return 1;
+}
