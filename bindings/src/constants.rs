@@ -21,16 +21,30 @@ pub const FLAG_REQUEST_TARGET: u32 = 0x4;
 pub const FLAG_SIGN: u32 = 0x10;
 /// Sealing.
 pub const FLAG_SEAL: u32 = 0x20;
+/// Without a connection.
+pub const FLAG_DATAGRAM: u32 = 0x40;
+/// The LM session key.
+pub const FLAG_LM_KEY: u32 = 0x80;
 /// NTLM.
 pub const FLAG_NTLM: u32 = 0x200;
+/// No user.
+pub const FLAG_ANONYMOUS: u32 = 0x800;
 /// The NEGOTIATE's domain counts.
 pub const FLAG_DOMAIN_SUPPLIED: u32 = 0x1000;
 /// The NEGOTIATE's workstation counts.
 pub const FLAG_WORKSTATION_SUPPLIED: u32 = 0x2000;
 /// Signing always.
 pub const FLAG_ALWAYS_SIGN: u32 = 0x8000;
+/// The target is a domain.
+pub const FLAG_TARGET_TYPE_DOMAIN: u32 = 0x1_0000;
+/// The target is a server.
+pub const FLAG_TARGET_TYPE_SERVER: u32 = 0x2_0000;
 /// Extended session security.
 pub const FLAG_EXTENDED_SESSIONSECURITY: u32 = 0x8_0000;
+/// A token to identify with.
+pub const FLAG_IDENTIFY: u32 = 0x10_0000;
+/// A session key that is not from the NT response.
+pub const FLAG_REQUEST_NON_NT_SESSION_KEY: u32 = 0x40_0000;
 /// The challenge's pair list counts.
 pub const FLAG_TARGET_INFO: u32 = 0x80_0000;
 /// Version is written.
@@ -62,15 +76,15 @@ pub const NL_AUTH_BIT_E: u32 = 0x10;
 /// The end of the list.
 pub const PAIR_END: u16 = 0;
 /// The server's NetBIOS name.
-pub const PAIR_NB_COMPUTER_NAME: u16 = 1;
+pub const PAIR_NB_COMPUTER: u16 = 1;
 /// The domain's NetBIOS name.
-pub const PAIR_NB_DOMAIN_NAME: u16 = 2;
+pub const PAIR_NB_DOMAIN: u16 = 2;
 /// The server's DNS name.
-pub const PAIR_DNS_COMPUTER_NAME: u16 = 3;
+pub const PAIR_DNS_COMPUTER: u16 = 3;
 /// The domain's DNS name.
-pub const PAIR_DNS_DOMAIN_NAME: u16 = 4;
+pub const PAIR_DNS_DOMAIN: u16 = 4;
 /// The forest's DNS name.
-pub const PAIR_DNS_TREE_NAME: u16 = 5;
+pub const PAIR_DNS_TREE: u16 = 5;
 /// Flags, four bytes.
 pub const PAIR_FLAGS: u16 = 6;
 /// The server's time, eight bytes.

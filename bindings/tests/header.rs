@@ -77,24 +77,27 @@ fn refusals_have_the_headers_names_numbers_and_words() {
     }
 }
 
-/// Each `#define` of a number that a caller names is a constant of the crate.
+/// The name and value of a line that names a number: `#define DIALTABLE_NAME VALUE`, or
+/// `DIALTABLE_NAME = VALUE` in an enum.
+fn named(line: &str) -> Option<(&str, String)> {
+    let line = line.trim();
+    let (name, value) = match line.strip_prefix("#define DIALTABLE_") {
+        Some(rest) => rest.split_once(' ')?,
+        None => line.strip_prefix("DIALTABLE_")?.split_once(" = ")?,
+    };
+    let value = value.split_whitespace().next()?;
+    let value = value.trim_end_matches([',', 'u']).to_lowercase();
+    value.starts_with(char::is_numeric).then_some((name, value))
+}
+
+/// Each number that a caller names is a constant of the crate.
 #[test]
 fn constants_have_the_headers_values() {
     let source = text("src/constants.rs").replace('_', "").to_lowercase();
     let mut seen = 0;
-    for line in header().lines() {
-        let mut words = line.split_whitespace();
-        let (Some("#define"), Some(name), Some(value)) = (words.next(), words.next(), words.next())
-        else {
-            continue;
-        };
-        let Some(name) = name.strip_prefix("DIALTABLE_") else {
-            continue;
-        };
+    for (name, value) in header().lines().filter_map(named) {
         let kinds = ["FLAG_", "PAIR_", "NL_AUTH_BIT_", "MIC_AT"];
-        let value = value.trim_end_matches('u').to_lowercase();
-        if !kinds.iter().any(|kind| name.starts_with(kind)) || !value.starts_with(char::is_numeric)
-        {
+        if !kinds.iter().any(|kind| name.starts_with(kind)) {
             continue;
         }
         seen += 1;
