@@ -54,8 +54,8 @@ int main(void)
 {
     static struct radio radio;
     struct settings box = {
-        "bench-operator-of-the-northern-depot-number-seven-hall-b-2nd", "", "BOX7", "cifs/localhost", 0xE2888235u,
-        DIALTABLE_DEFAULTS, 0
+        "bench-operator-of-the-northern-depot-number-seven-hall-b-2nd", "", "BOX7", "cifs/localhost",
+        DIALTABLE_FLAGS_WANTED, DIALTABLE_DEFAULTS, 0
     };
 
     if (sign_in(&box, &radio) == 0 && fflush(stdout) == 0 && !ferror(stdout)) return 0;
