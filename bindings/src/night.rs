@@ -21,7 +21,7 @@ pub enum Mark {
 #[derive(Clone, Copy, Debug, PartialEq, Eq, Hash)]
 #[must_use = "a message that is refused, or was never read, is told by this alone"]
 pub enum Verdict {
-    /// No call has read it, or the whole night was refused.
+    /// No call has read it.
     NotRead,
     /// It is taken.
     Taken,
@@ -105,7 +105,7 @@ impl fmt::Debug for Entry {
 
 /// Reads the message of each entry by its mark, and puts the answer there; nothing
 /// else of an entry changes. A buffer over 65,535 bytes is refused 1, and then no
-/// entry changes.
+/// entry changes: one that an earlier call has read still says what that call found.
 pub fn check_messages(buffer: &[u8], entries: &mut [Entry]) -> Result<(), Refusal> {
     Refusal::check(raw::check_listed(buffer, entries)).map(|_| ())
 }

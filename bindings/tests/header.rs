@@ -110,16 +110,33 @@ fn constants_have_the_headers_values() {
     assert!(seen >= 19, "{seen} numbers are named in the header");
 }
 
-/// The version stands once. A header that doesn't say it yet has none to hold it to.
+/// Each id of a pair, from the header's enum, is a constant of the crate by the same name.
+#[test]
+fn pairs_have_the_headers_names() {
+    let source = text("src/constants.rs");
+    let header = header();
+    let ids: Vec<&str> = header
+        .lines()
+        .filter_map(|line| line.strip_prefix("    DIALTABLE_PAIR_"))
+        .filter(|rest| rest.contains(" = "))
+        .collect();
+    assert_eq!(ids.len(), 10);
+    for id in ids {
+        let (name, value) = id.trim_end_matches(',').split_once(" = ").expect("an id");
+        let line = format!("pub const PAIR_{name}: u16 = {value};");
+        assert!(source.contains(&line), "{line} is not in src/constants.rs");
+    }
+}
+
+/// The version is the header's.
 #[test]
 fn the_version_is_the_headers() {
     let header = header();
     let defined = header
         .lines()
         .find_map(|line| line.strip_prefix("#define DIALTABLE_VERSION "));
-    if let Some(defined) = defined {
-        assert_eq!(defined.trim(), format!("\"{}\"", dialtable::VERSION));
-    }
+    let defined = defined.expect("a version").trim();
+    assert_eq!(defined, format!("\"{}\"", dialtable::VERSION));
 }
 
 /// What a box asks for is what a sign-in sent.
