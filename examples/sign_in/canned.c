@@ -24,28 +24,29 @@ dialtable_len exchange(const uint8_t *msg, dialtable_len msg_len, uint8_t *in, d
 
 void log_it(const uint8_t *line, uint64_t line_len)
 {
-    if (!DIALTABLE_IS_REFUSED(line_len)) fwrite(line, 1, (size_t)line_len, stdout);
+    if (DIALTABLE_IS_REFUSED(line_len)) fputs("a line has no room\n", stderr);
+    else fwrite(line, 1, (size_t)line_len, stdout);
 }
 
 /* The response that was taken, where it was worked out over this time and this pair list. */
 int radio_respond(struct radio *radio, const struct radio_task *task)
 {
-    uint64_t numbers[DIALTABLE_AUTHENTICATE_NUMBERS], answer;
+    struct dialtable_authenticate taken;
     uint8_t mic[16], time[8];
     const uint8_t *nt;
+    uint64_t answer;
     int i;
 
-    answer = dialtable_read_authenticate(canned_authenticate, sizeof canned_authenticate, numbers,
-                                         DIALTABLE_AUTHENTICATE_NUMBERS, mic, sizeof mic);
+    answer = dialtable_read_authenticate_struct(canned_authenticate, sizeof canned_authenticate, &taken, mic, sizeof mic);
     if (DIALTABLE_IS_REFUSED(answer)) return 0;
-    nt = canned_authenticate + numbers[DIALTABLE_AUTHENTICATE_NT_OFFSET];
-    radio->nt_len = (size_t)numbers[DIALTABLE_AUTHENTICATE_NT_LEN];
+    nt = canned_authenticate + taken.nt.offset;
+    radio->nt_len = taken.nt.length;
     for (i = 0; i < 8; i++) time[i] = (uint8_t)(task->time >> 8 * i);
     if (radio->nt_len != task->pairs_len + 48 || memcmp(nt + 24, time, 8) != 0 ||
         memcmp(nt + 44, task->pairs, task->pairs_len) != 0) return 0;
     memcpy(radio->nt, nt, radio->nt_len);
-    memcpy(radio->lm, canned_authenticate + numbers[DIALTABLE_AUTHENTICATE_LM_OFFSET], sizeof radio->lm);
-    memcpy(radio->key, canned_authenticate + numbers[DIALTABLE_AUTHENTICATE_KEY_OFFSET], sizeof radio->key);
+    memcpy(radio->lm, canned_authenticate + taken.lm.offset, sizeof radio->lm);
+    memcpy(radio->key, canned_authenticate + taken.key.offset, sizeof radio->key);
     memcpy(radio->session_key, canned_session_key, sizeof radio->session_key);
     return 1;
 }
@@ -58,7 +59,11 @@ int main(void)
         DIALTABLE_FLAGS_WANTED, DIALTABLE_DEFAULTS, 0
     };
 
-    if (sign_in(&box, &radio) == 0 && fflush(stdout) == 0 && !ferror(stdout)) return 0;
+    uint64_t answer = sign_in(&box, &radio);
+
+    if (answer == 0 && fflush(stdout) == 0 && !ferror(stdout)) return 0;
+    if (DIALTABLE_IS_REFUSED(answer))
+        fprintf(stderr, "refused %u: %s\n", DIALTABLE_NUMBER(answer), dialtable_refusal_text(DIALTABLE_NUMBER(answer)));
     fputs("the sign-in isn't the one that was taken, or its lines can't be written\n", stderr);
     return 1;
 }
