@@ -34,7 +34,7 @@ fn main() -> Result<(), Box<dyn Error>> {
     if decision.flags & FLAG_UNICODE == 0 {
         return Err("the server wants names as bytes, which this example has not".into());
     }
-    let time = decision.timestamp.unwrap_or(clock);
+    let time = decision.time(settings, clock);
     let mut room = [0; 512];
     let pairs = write_response_pairs(&mut room, challenge, &wide(TARGET), false, &[0; 16])?;
 

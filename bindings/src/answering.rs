@@ -52,6 +52,17 @@ pub struct Decision {
     pub timestamp: Option<u64>,
 }
 
+impl Decision {
+    /// The Time that the response is worked out over: the timestamp where one is there
+    /// and the settings have NTLMv2, else the clock.
+    pub const fn time(self, settings: Settings, clock: u64) -> u64 {
+        match self.timestamp {
+            Some(timestamp) if settings.ntlmv2 => timestamp,
+            _ => clock,
+        }
+    }
+}
+
 /// Decides on a challenge: reading, 20, 21.
 pub fn decide(settings: Settings, challenge: &[u8]) -> Result<Decision, Refusal> {
     let mut numbers = [0; raw::DECISION_NUMBERS];

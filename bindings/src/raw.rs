@@ -232,6 +232,7 @@ mod c {
 }
 
 /// Reads an AUTHENTICATE message: its numbers, and 16 bytes of `mic`.
+#[must_use = "a refusal is told by this alone"]
 pub fn read_authenticate(message: &[u8], numbers: &mut [u64], mic: &mut [u8]) -> u64 {
     unsafe {
         c::dialtable_read_authenticate(
@@ -246,6 +247,7 @@ pub fn read_authenticate(message: &[u8], numbers: &mut [u64], mic: &mut [u8]) ->
 }
 
 /// Reads a CHALLENGE message: its numbers, and 8 bytes of `server_challenge`.
+#[must_use = "a refusal is told by this alone"]
 pub fn read_challenge(message: &[u8], numbers: &mut [u64], server_challenge: &mut [u8]) -> u64 {
     unsafe {
         c::dialtable_read_challenge(
@@ -263,6 +265,7 @@ pub fn read_challenge(message: &[u8], numbers: &mut [u64], server_challenge: &mu
 macro_rules! numbers_calls {
     ($($(#[$doc:meta])* $name:ident => $c:ident;)*) => {$(
         $(#[$doc])*
+        #[must_use = "a refusal is told by this alone"]
         pub fn $name(bytes: &[u8], numbers: &mut [u64]) -> u64 {
             unsafe { c::$c(bytes.as_ptr(), bytes.len(), numbers.as_mut_ptr(), numbers.len()) }
         }
@@ -286,6 +289,7 @@ numbers_calls! {
 macro_rules! line_calls {
     ($($(#[$doc:meta])* $name:ident => $c:ident;)*) => {$(
         $(#[$doc])*
+        #[must_use = "a refusal is told by this alone"]
         pub fn $name(message: &[u8], out: &mut [u8]) -> u64 {
             unsafe { c::$c(message.as_ptr(), message.len(), out.as_mut_ptr(), out.len()) }
         }
@@ -312,6 +316,7 @@ line_calls! {
 }
 
 /// Reads the message of each entry by its mark, and puts the answer there.
+#[must_use = "a refusal is told by this alone"]
 pub fn check_messages(buffer: &[u8], entries: &mut [Entry]) -> u64 {
     unsafe {
         c::dialtable_check_messages(
@@ -331,6 +336,7 @@ pub(crate) fn check_listed(buffer: &[u8], entries: &mut [crate::Entry]) -> u64 {
 }
 
 /// The text of one string of an NL_AUTH message, as its line shows it.
+#[must_use = "a refusal is told by this alone"]
 pub fn nl_auth_name(message: &[u8], which: u32, out: &mut [u8]) -> u64 {
     unsafe {
         c::dialtable_nl_auth_name(
@@ -345,6 +351,7 @@ pub fn nl_auth_name(message: &[u8], which: u32, out: &mut [u8]) -> u64 {
 
 /// Copies a field's own bytes; a nonempty field that ends past the message is
 /// refused 6.
+#[must_use = "a refusal is told by this alone"]
 pub fn field_bytes(message: &[u8], offset: u32, len: u16, out: &mut [u8]) -> u64 {
     unsafe {
         c::dialtable_field_bytes(
@@ -359,11 +366,13 @@ pub fn field_bytes(message: &[u8], offset: u32, len: u16, out: &mut [u8]) -> u64
 }
 
 /// Checks 10 to 13 over a whole list.
+#[must_use = "a refusal is told by this alone"]
 pub fn check_pairs(list: &[u8]) -> u64 {
     unsafe { c::dialtable_check_pairs(list.as_ptr(), list.len()) }
 }
 
 /// The first pair with this id.
+#[must_use = "a refusal is told by this alone"]
 pub fn find_pair(list: &[u8], id: u16, numbers: &mut [u64]) -> u64 {
     unsafe {
         c::dialtable_find_pair(
@@ -377,6 +386,7 @@ pub fn find_pair(list: &[u8], id: u16, numbers: &mut [u64]) -> u64 {
 }
 
 /// The pair at a place, and where to ask next.
+#[must_use = "a refusal is told by this alone"]
 pub fn next_pair(list: &[u8], at: usize, numbers: &mut [u64]) -> u64 {
     unsafe {
         c::dialtable_next_pair(
@@ -390,6 +400,7 @@ pub fn next_pair(list: &[u8], at: usize, numbers: &mut [u64]) -> u64 {
 }
 
 /// Writes an AUTHENTICATE message.
+#[must_use = "a refusal is told by this alone"]
 pub fn write_authenticate(out: &mut [u8], flags: u32, parts: &Parts<'_>) -> u64 {
     unsafe {
         c::dialtable_write_authenticate(
@@ -415,6 +426,7 @@ pub fn write_authenticate(out: &mut [u8], flags: u32, parts: &Parts<'_>) -> u64 
 }
 
 /// Writes a NEGOTIATE message.
+#[must_use = "a refusal is told by this alone"]
 pub fn write_negotiate(
     out: &mut [u8],
     flags: u32,
@@ -437,6 +449,7 @@ pub fn write_negotiate(
 }
 
 /// Writes an NL_AUTH request with the strings of bits A to E.
+#[must_use = "a refusal is told by this alone"]
 pub fn write_nl_auth_request(out: &mut [u8], flags: u32, strings: &[&[u8]; 5]) -> u64 {
     let [a, b, c, d, e] = strings;
     unsafe {
@@ -459,12 +472,14 @@ pub fn write_nl_auth_request(out: &mut [u8], flags: u32, strings: &[&[u8]; 5]) -
 }
 
 /// Writes an NL_AUTH response.
+#[must_use = "a refusal is told by this alone"]
 pub fn write_nl_auth_response(out: &mut [u8]) -> u64 {
     unsafe { c::dialtable_write_nl_auth_response(out.as_mut_ptr(), out.len()) }
 }
 
 /// Writes the pair list that goes back in the answer to a challenge; the name is
 /// marked unverified by anything but 0.
+#[must_use = "a refusal is told by this alone"]
 pub fn write_response_pairs(
     out: &mut [u8],
     challenge: &[u8],
@@ -487,6 +502,7 @@ pub fn write_response_pairs(
 }
 
 /// The decision on a challenge.
+#[must_use = "a refusal is told by this alone"]
 pub fn decide(settings: u32, challenge: &[u8], numbers: &mut [u64]) -> u64 {
     unsafe {
         c::dialtable_decide(
@@ -500,6 +516,7 @@ pub fn decide(settings: u32, challenge: &[u8], numbers: &mut [u64]) -> u64 {
 }
 
 /// Copies the domain to send.
+#[must_use = "a refusal is told by this alone"]
 pub fn domain_to_send(own: &[u8], challenge: &[u8], out: &mut [u8]) -> u64 {
     unsafe {
         c::dialtable_domain_to_send(
@@ -514,6 +531,7 @@ pub fn domain_to_send(own: &[u8], challenge: &[u8], out: &mut [u8]) -> u64 {
 }
 
 /// Writes the AUTHENTICATE message that answers a challenge.
+#[must_use = "a refusal is told by this alone"]
 pub fn respond(
     out: &mut [u8],
     challenge: &[u8],
@@ -552,6 +570,7 @@ pub fn respond(
 
 /// [`respond`] with the default settings, for the bench; but 128-bit is demanded
 /// only where `demand_128` is not 0.
+#[must_use = "a refusal is told by this alone"]
 pub fn respond_for_bench(
     out: &mut [u8],
     challenge: &[u8],
@@ -590,6 +609,7 @@ pub fn respond_for_bench(
 
 /// [`respond`] with the default settings, for old servers; but 128-bit is not
 /// demanded.
+#[must_use = "a refusal is told by this alone"]
 pub fn respond_to_old_server(
     out: &mut [u8],
     challenge: &[u8],
@@ -602,6 +622,7 @@ pub fn respond_to_old_server(
 }
 
 /// [`respond`] with the default settings, for the relay.
+#[must_use = "a refusal is told by this alone"]
 pub fn respond_for_relay(
     out: &mut [u8],
     challenge: &[u8],
@@ -649,6 +670,7 @@ fn thin_respond(
 }
 
 /// Writes an AUTHENTICATE message in its canonical form.
+#[must_use = "a refusal is told by this alone"]
 pub fn canonical_authenticate(out: &mut [u8], message: &[u8]) -> u64 {
     unsafe {
         c::dialtable_canonical_authenticate(
@@ -661,6 +683,7 @@ pub fn canonical_authenticate(out: &mut [u8], message: &[u8]) -> u64 {
 }
 
 /// Writes a message as the text of an HTTP header line.
+#[must_use = "a refusal is told by this alone"]
 pub fn export_header(out: &mut [u8], message: &[u8]) -> u64 {
     unsafe {
         c::dialtable_export_header(out.as_mut_ptr(), out.len(), message.as_ptr(), message.len())
@@ -668,11 +691,13 @@ pub fn export_header(out: &mut [u8], message: &[u8]) -> u64 {
 }
 
 /// Writes the message that the text of an HTTP header line carries.
+#[must_use = "a refusal is told by this alone"]
 pub fn import_header(out: &mut [u8], text: &[u8]) -> u64 {
     unsafe { c::dialtable_import_header(out.as_mut_ptr(), out.len(), text.as_ptr(), text.len()) }
 }
 
 /// Works out the MIC of a sign-in: 16 bytes of `out`.
+#[must_use = "a refusal is told by this alone"]
 pub fn mic(key: &[u8], messages: &SignIn<'_>, out: &mut [u8]) -> u64 {
     unsafe {
         c::dialtable_mic(
@@ -691,6 +716,7 @@ pub fn mic(key: &[u8], messages: &SignIn<'_>, out: &mut [u8]) -> u64 {
 }
 
 /// Whether the AUTHENTICATE's MIC is the one that is worked out: 1 or 0.
+#[must_use = "a refusal is told by this alone"]
 pub fn check_mic(key: &[u8], messages: &SignIn<'_>) -> u64 {
     unsafe {
         c::dialtable_check_mic(

@@ -1216,3 +1216,25 @@ fn any_bytes_are_answered() {
         assert_eq!(import_header(&mut back, &text), Ok(&message[..]));
     }
 }
+
+/// The Time is the one that answering gives, with NTLMv2 and without.
+#[test]
+fn a_decisions_time_is_the_answers() {
+    for file in ["challenge-smbd.bin", "challenge-no-timestamp.bin"] {
+        let path = format!("{}/../messages/{file}", env!("CARGO_MANIFEST_DIR"));
+        let challenge = std::fs::read(path).expect("a message");
+        for ntlmv2 in [true, false] {
+            let settings = dialtable::Settings {
+                demand_128: false,
+                ntlmv2,
+                ..Default::default()
+            };
+            let parts = dialtable::Parts::default();
+            let mut room = [0; 512];
+            let answer = dialtable::respond(&mut room, &challenge, settings, 7, &parts);
+            let decision = dialtable::decide(settings, &challenge).expect("taken");
+            let time = answer.expect("written").time;
+            assert_eq!(decision.time(settings, 7), time, "{file} {ntlmv2}");
+        }
+    }
+}
