@@ -3,7 +3,7 @@
 
 MESSAGES ?= messages
 PREFIX ?= /usr/local
-export MESSAGES FILE OUT DESTDIR
+export MESSAGES FILE OUT DESTDIR PREFIX TARGET
 
 help:
 	@echo 'make run            the depot bench: every message in messages/ through the proved program and the second one;'
@@ -57,11 +57,11 @@ lib-small:
 	@echo '    gcc -Iinclude program.c target/small/libdialtable.a -Wl,--gc-sections -o program'
 
 lib-thumb:
-	@tools/build-for '$(or $(TARGET),thumbv7m-none-eabi)'
-	@echo 'target/$(or $(TARGET),thumbv7m-none-eabi)/libdialtable.a is built; its header is include/dialtable.h'
+	@target=$${TARGET:-thumbv7m-none-eabi} && tools/build-for "$$target" && \
+		echo "target/$$target/libdialtable.a is built; its header is include/dialtable.h"
 
 install:
-	@tools/install '$(PREFIX)' '$(TARGET)'
+	@tools/install "$$PREFIX" "$$TARGET"
 
 dist:
 	@tools/dist
