@@ -62,7 +62,7 @@ static int check(const struct seen *seen)
 static int clip(const struct seen *seen, dialtable_len bytes)
 {
     const uint8_t *msg = seen->authenticate;
-    struct dialtable_authenticate read;
+    struct dialtable_authenticate read = {0}; /* gcc does not see that refused() tells */
     struct dialtable_parts parts;
     uint64_t len;
     uint8_t mic[16], out[ROOM];
