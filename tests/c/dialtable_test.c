@@ -6,27 +6,15 @@
 #include <stdlib.h>
 #include <string.h>
 
+#include "check.h"
 #include "dialtable.h"
 
-static int passed, failed;
-
-static void check(int holds, int line, const char *what)
-{
-    if (holds) {
-        passed++;
-    } else {
-        failed++;
-        printf("%s:%d: failed: %s\n", __FILE__, line, what);
-    }
-}
-
-#define CHECK(claim) check((claim) != 0, __LINE__, #claim)
 /* A number that isn't the one that was expected is printed. */
 #define EQUAL(got, expected) equal((uint64_t)(got), (uint64_t)(expected), __LINE__, #got)
 
 static void equal(uint64_t got, uint64_t expected, int line, const char *what)
 {
-    check(got == expected, line, what);
+    check(got == expected, __FILE__, line, what);
     if (got != expected)
         printf("    got %08lx%08lx, expected %08lx%08lx\n", (unsigned long)(got >> 32),
                (unsigned long)(got & 0xFFFFFFFFu), (unsigned long)(expected >> 32),

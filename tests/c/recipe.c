@@ -7,23 +7,11 @@
 #include <stdlib.h>
 #include <string.h>
 
+#include "check.h"
 #include "dialtable.h"
 
 #define SERVER_TIME 0x01DD750F3F7F2C5Cu
 #define CLOCK 0x0123456789ABCDEFu
-
-static int passed, failed;
-#define CHECK(claim) check((claim) != 0, __LINE__, #claim)
-
-static void check(int holds, int line, const char *what)
-{
-    if (holds) {
-        passed++;
-    } else {
-        failed++;
-        printf("%s:%d: failed: %s\n", __FILE__, line, what);
-    }
-}
 
 /* The box's settings, its names, and what its radio module works out. */
 struct settings {

@@ -7,20 +7,8 @@
 #include <stdlib.h>
 #include <string.h>
 
+#include "check.h"
 #include "dialtable.h"
-
-static int passed, failed;
-#define CHECK(claim) check((claim) != 0, __LINE__, #claim)
-
-static void check(int holds, int line, const char *what)
-{
-    if (holds) {
-        passed++;
-    } else {
-        failed++;
-        printf("%s:%d: failed: %s\n", __FILE__, line, what);
-    }
-}
 
 #define ROOM 8192
 #define FILL 0xEE
