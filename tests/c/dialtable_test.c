@@ -1,5 +1,5 @@
 /*
- * The C interface as a C programmer uses it: every call of dialtable.h, and every named place of its arrays.
+ * The C interface as a C programmer uses it: every call of the library, and every named place of its arrays.
  * dialtable_test P1 CHALLENGE NO_TIMESTAMP, three message files. The last line is 'N passed, M failed'.
  */
 #include <stdio.h>
