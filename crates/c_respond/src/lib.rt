@@ -18,7 +18,6 @@ use target_info::Timestamp;
 use wire::check::Checked;
 use wire::refusal::Refusal;
 
-pub mod by_default;
 pub mod settings;
 
 fn decision_numbers(flags: u32, timestamp: Timestamp) -> [u64; 3]
@@ -48,7 +47,7 @@ pub fn decide(settings: u32, challenge: &[u8], numbers: &mut [u64]) -> u64
 }
 
 // The answer's length, with the rest of it in an array that has room for it.
-pub(crate) fn give_answer(numbers: &mut [u64], answered: Answered) -> u64
+fn give_answer(numbers: &mut [u64], answered: Answered) -> u64
     requires { ⌜ 2 ≤ length (now numbers) ⌝ }
     ensures answer { λ r. ⌜ r ≡ answeredNumber answered ⌝ }
     ensures content { λ _. ⌜ now (numbers .exit) ≡ answeredOut answered (now (numbers .entry)) ⌝ }

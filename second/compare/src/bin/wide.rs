@@ -132,7 +132,6 @@ fn library(call: &Call<'_>, out: &mut [u8], numbers: &mut [u64]) -> u64 {
                 Respond::Thin(Thin::ForRelay) => {
                     raw::respond_for_relay(out, challenge, clock, parts, numbers)
                 }
-                Respond::Itself(thin) => itself(thin, out, challenge, clock, parts, numbers),
             }
         }
         Call::CanonicalAuthenticate { message } => raw::canonical_authenticate(out, message),
@@ -173,90 +172,5 @@ const fn lent<'a>(parts: &Parts<'a>) -> raw::Parts<'a> {
         user: account.user,
         workstation: account.workstation,
         key: secrets.key,
-    }
-}
-
-/// What the thin calls of `crates/thin_calls` have in common after the clock.
-macro_rules! thin_calls {
-    ($($name:ident($($demand:ident: $word:ty)?);)*) => {
-        extern "C" {$(
-            fn $name(
-                out: *mut u8,
-                out_len: usize,
-                challenge: *const u8,
-                challenge_len: usize,
-                clock: u64,
-                $($demand: $word,)?
-                version: *const u8,
-                mic: *const u8,
-                lm: *const u8,
-                lm_len: usize,
-                nt: *const u8,
-                nt_len: usize,
-                domain: *const u8,
-                domain_len: usize,
-                user: *const u8,
-                user_len: usize,
-                workstation: *const u8,
-                workstation_len: usize,
-                key: *const u8,
-                key_len: usize,
-                numbers: *mut u64,
-                numbers_len: usize,
-            ) -> u64;
-        )*}
-    };
-}
-
-thin_calls! {
-    thin_respond_for_bench(demand_128: u32);
-    thin_respond_to_old_server();
-    thin_respond_for_relay();
-}
-
-/// A thin call's own code, from `crates/thin_calls`.
-fn itself(
-    thin: Thin,
-    out: &mut [u8],
-    challenge: &[u8],
-    clock: u64,
-    parts: &raw::Parts<'_>,
-    numbers: &mut [u64],
-) -> u64 {
-    macro_rules! call {
-        ($name:ident, $($demand_128:expr)?) => {
-            // Every pointer is lent with its length, Version and MIC as arrays.
-            unsafe {
-                $name(
-                    out.as_mut_ptr(),
-                    out.len(),
-                    challenge.as_ptr(),
-                    challenge.len(),
-                    clock,
-                    $($demand_128,)?
-                    parts.version.as_ptr(),
-                    parts.mic.as_ptr(),
-                    parts.lm.as_ptr(),
-                    parts.lm.len(),
-                    parts.nt.as_ptr(),
-                    parts.nt.len(),
-                    parts.domain.as_ptr(),
-                    parts.domain.len(),
-                    parts.user.as_ptr(),
-                    parts.user.len(),
-                    parts.workstation.as_ptr(),
-                    parts.workstation.len(),
-                    parts.key.as_ptr(),
-                    parts.key.len(),
-                    numbers.as_mut_ptr(),
-                    numbers.len(),
-                )
-            }
-        };
-    }
-    match thin {
-        Thin::ForBench { demand_128 } => call!(thin_respond_for_bench, demand_128),
-        Thin::ToOldServer => call!(thin_respond_to_old_server,),
-        Thin::ForRelay => call!(thin_respond_for_relay,),
     }
 }

@@ -61,29 +61,24 @@ pub enum Thin {
     ForRelay,
 }
 
-/// The calls that answer a challenge: the full one, a thin one of the library,
-/// and the code of the thin one itself, which the library's is no jump to.
+/// The calls that answer a challenge: the full one, and a thin one.
 #[derive(Clone, Copy, Debug, PartialEq, Eq)]
 pub enum Respond {
     With { settings: u32 },
     Thin(Thin),
-    Itself(Thin),
 }
 
 impl Respond {
-    /// Every thin call and its own code, the bench's without and with a demand.
-    pub fn thin(demand_128: u32) -> [Self; 8] {
-        let [bench, strong] = [0, demand_128].map(|demand_128| Thin::ForBench { demand_128 });
+    /// Every thin call, the bench's without and with a demand.
+    pub fn thin(demand_128: u32) -> [Self; 4] {
+        let bench = |demand_128| Thin::ForBench { demand_128 };
         [
-            Self::Thin(bench),
-            Self::Itself(bench),
-            Self::Thin(strong),
-            Self::Itself(strong),
-            Self::Thin(Thin::ToOldServer),
-            Self::Itself(Thin::ToOldServer),
-            Self::Thin(Thin::ForRelay),
-            Self::Itself(Thin::ForRelay),
+            bench(0),
+            bench(demand_128),
+            Thin::ToOldServer,
+            Thin::ForRelay,
         ]
+        .map(Self::Thin)
     }
 
     const fn index(self) -> usize {
@@ -92,9 +87,6 @@ impl Respond {
             Self::Thin(Thin::ForBench { .. }) => const { place_of("respond_for_bench") },
             Self::Thin(Thin::ToOldServer) => const { place_of("respond_to_old_server") },
             Self::Thin(Thin::ForRelay) => const { place_of("respond_for_relay") },
-            Self::Itself(Thin::ForBench { .. }) => const { place_of("thin_respond_for_bench") },
-            Self::Itself(Thin::ToOldServer) => const { place_of("thin_respond_to_old_server") },
-            Self::Itself(Thin::ForRelay) => const { place_of("thin_respond_for_relay") },
         }
     }
 }
@@ -203,9 +195,8 @@ pub enum Call<'a> {
     },
 }
 
-/// The names of the calls, without `dialtable_`, by [`Call::index`]; those of
-/// `crates/thin_calls` last.
-pub const NAMES: [&str; 40] = [
+/// The names of the calls, without `dialtable_`, by [`Call::index`].
+pub const NAMES: [&str; 37] = [
     "read_authenticate",
     "read_challenge",
     "read_timestamp",
@@ -243,9 +234,6 @@ pub const NAMES: [&str; 40] = [
     "import_header",
     "mic",
     "check_mic",
-    "thin_respond_for_bench",
-    "thin_respond_to_old_server",
-    "thin_respond_for_relay",
 ];
 
 /// Where a name stands among [`NAMES`]. One that isn't there doesn't compile.
@@ -432,8 +420,7 @@ impl Call<'_> {
             Self::Decide { settings, .. } => format!(" settings={settings:X}"),
             Self::Respond { how, clock, .. } => match how {
                 Respond::With { settings } => format!(" settings={settings:X} clock={clock:016X}"),
-                Respond::Thin(Thin::ForBench { demand_128 })
-                | Respond::Itself(Thin::ForBench { demand_128 }) => {
+                Respond::Thin(Thin::ForBench { demand_128 }) => {
                     format!(" clock={clock:016X} demand_128={demand_128:X}")
                 }
                 _ => format!(" clock={clock:016X}"),

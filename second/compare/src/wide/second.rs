@@ -221,7 +221,7 @@ fn respond(
             };
             answer(challenge, &settings, clock, secrets, out)
         }
-        Respond::Thin(thin) | Respond::Itself(thin) => match thin {
+        Respond::Thin(thin) => match thin {
             Thin::ForBench { demand_128 } => {
                 answer_for_bench(challenge, account, clock, demand_128 != 0, secrets, out)
             }

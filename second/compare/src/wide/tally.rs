@@ -116,8 +116,6 @@ const OF_CALLS: [(&[u8], &[u8], &[&str]); 42] = [
             "respond",
             "respond_for_bench",
             "respond_for_relay",
-            "thin_respond_for_bench",
-            "thin_respond_for_relay",
         ],
     ),
     (&[33], &[0], &["explain"]),
@@ -190,7 +188,7 @@ const OF_PLACES: [(&[usize], &[&str]); 3] = [
 ];
 
 /// The calls that are given two inputs which only secrets tell apart.
-const WITH_SECRETS: [&str; 15] = [
+const WITH_SECRETS: [&str; 12] = [
     "read_authenticate",
     "authenticate_line",
     "ntlm_line",
@@ -203,9 +201,6 @@ const WITH_SECRETS: [&str; 15] = [
     "respond_for_relay",
     "mic",
     "check_mic",
-    "thin_respond_for_bench",
-    "thin_respond_to_old_server",
-    "thin_respond_for_relay",
 ];
 
 /// All refusals, by their numbers.

@@ -396,11 +396,10 @@ fn settings_that_are_left_out_are_found() {
     );
 }
 
-/// A thin call that goes by the settings of another, in the library or in the
-/// call's own code.
+/// A thin call that goes by the settings of another, or by others.
 #[test]
 fn a_thin_call_by_other_settings_is_found() {
-    let faults: [(&str, fn(Respond) -> Respond); 7] = [
+    let faults: [(&str, fn(Respond) -> Respond); 6] = [
         ("respond_for_bench", |how| match how {
             Respond::Thin(Thin::ForBench { .. }) => Respond::Thin(Thin::ForBench { demand_128: 0 }),
             how => how,
@@ -424,13 +423,9 @@ fn a_thin_call_by_other_settings_is_found() {
             Respond::Thin(Thin::ForRelay) => Respond::Thin(Thin::ToOldServer),
             how => how,
         }),
-        ("thin_respond_to_old_server", |how| match how {
-            Respond::Itself(Thin::ToOldServer) => Respond::Itself(Thin::ForRelay),
-            how => how,
-        }),
-        ("thin_respond_for_relay", |how| match how {
+        ("respond_for_relay", |how| match how {
             // Integrity wanted as well.
-            Respond::Itself(Thin::ForRelay) => Respond::With { settings: 7 },
+            Respond::Thin(Thin::ForRelay) => Respond::With { settings: 7 },
             how => how,
         }),
     ];
