@@ -21,13 +21,13 @@ use Rattle.respond.specs.declared.decision.Decided.{Decided}
 use Rattle.respond.specs.declared.decision.Decided.the-variants.{Taken, Refused as Undecided}
 use Rattle.respond.specs.declared.decision.Decision.{Decision}
 use Rattle.respond.specs.declared.decision.Settings.{Settings}
-use Rattle.respond.specs.Answer.{respondAnswer, respondOut}
+use Rattle.respond.specs.Answer.{Supplied, respondTo}
 use Rattle.respond.specs.Decision.{benchSettings, decisionOn}
 use Rattle.c_number.specs.Number.{refusalNumber, bit}
 use Rattle.c_number.specs.Outcome.{numbers, refused}
 use Rattle.c_respond.specs.declared.settings.SettingsBits.{SettingsBits}
 use Rattle.c_respond.specs.Settings.{demand128, ntlmv2, integrity, confidentiality, settingsOf, benchBits}
-use Rattle.c_respond.specs.Respond.{decisionNumbers, decidedOutcome, answeredNumber, answeredOut, respondedNumber, respondedNumbers, respondedOut}
+use Rattle.c_respond.specs.Respond.{decisionNumbers, decidedOutcome, answeredNumber, answeredOut, EffectFromC, respondFromC}
 
 pub settings-are : (asked : SettingsBits) (a b c d : Bool) →
     a ≡ demand128 asked → b ≡ ntlmv2 asked → c ≡ integrity asked → d ≡ confidentiality asked →
@@ -89,58 +89,19 @@ module _ (w : Answered) where
 pub has-two : (room : ℕ) (k : Checked) → k ≡ roomHolds 2 room → k ≡ Held → 2 ≤ room
 has-two room k p h = leb-true 2 room (held-true (leb 2 room) (sym p ∙ h))
 
--- the call, by its array's room
-module _ (v : Answered) (out : List ℕ) (k : Checked) (p : k ≡ roomHolds 2 (length out)) where
-  pub short-number : (r : ℕ) → k ≡ Failed → r ≡ refusalNumber NoRoom → r ≡ respondedNumber v (length out)
-  unfolding respondedNumber
-  short-number r f e = e ∙ simp (← p, f)
+-- the call, by its array's room; the settings that were made are known to be u
+module _ (u : Settings) (s : List ℕ) (x : Supplied) (out : List ℕ) (k : Checked) (p : k ≡ roomHolds 2 (length out)) where
+  pub short-array : (r : ℕ) (y : EffectFromC) → y ≡ record { number = r; output = x .out; numbers = out } → k ≡ Failed → r ≡ refusalNumber NoRoom →
+      y ≡ respondFromC u s x out
+  unfolding respondFromC
+  short-array r y z f e = z ∙ simp (← p, f, e)
 
-  pub short-numbers : k ≡ Failed → out ≡ respondedNumbers v out
-  unfolding respondedNumbers
-  short-numbers f = simp (← p, f)
-
-  module _ (w : Answered) (q : w ≡ v) (f : k ≡ Held) where
-    pub room-number : (r : ℕ) → r ≡ answeredNumber w → r ≡ respondedNumber v (length out)
-    unfolding respondedNumber
-    room-number r e = e ∙ simp (← p, f, ← q)
-
-    pub room-numbers : (ys : List ℕ) → ys ≡ answeredOut w out → ys ≡ respondedNumbers v out
-    unfolding respondedNumbers
-    room-numbers ys e = e ∙ simp (← p, f, ← q)
-
--- and the message's output
-module _ (room : ℕ) (sent l : List ℕ) (k : Checked) (p : k ≡ roomHolds 2 room) where
-  pub short-out : k ≡ Failed → l ≡ respondedOut sent room l
-  unfolding respondedOut
-  short-out f = simp (← p, f)
-
-  pub room-out : (ys : List ℕ) → k ≡ Held → ys ≡ sent → ys ≡ respondedOut sent room l
-  unfolding respondedOut
-  room-out ys f e = e ∙ simp (← p, f)
-
--- the settings that were made are those of the bits
-module _ (t u : Settings) (q : t ≡ u) (s : List ℕ) (v mic lm nt domain user workstation key : List ℕ) where
-  pub of-answer : (w : Answered) (room clock : ℕ) → w ≡ respondAnswer room s t clock v mic lm nt domain user workstation key →
-      w ≡ respondAnswer room s u clock v mic lm nt domain user workstation key
-  of-answer w room clock e = rw (← q) e
-
-  pub of-out : (out ys : List ℕ) → ys ≡ respondOut out s t v mic lm nt domain user workstation key →
-      ys ≡ respondOut out s u v mic lm nt domain user workstation key
-  of-out out ys e = rw (← q) e
+  pub full-array : (t : Settings) (w : Answered) (o ys : List ℕ) (r : ℕ) → k ≡ Held → t ≡ u → record { answer = w; output = o } ≡ respondTo t s x →
+      r ≡ answeredNumber w → ys ≡ answeredOut w out → record { number = r; output = o; numbers = ys } ≡ respondFromC u s x out
+  unfolding respondFromC
+  full-array t w o ys r f q e n m = simp (← p, f, ← q, ← e, n, m)
 
 -- a call with settings, by what they are known to be
-module _ (t u : Settings) (q : t ≡ u) (s v mic lm nt domain user workstation key : List ℕ) where
-  pub known-number : (r room clock n : ℕ) →
-      r ≡ respondedNumber (respondAnswer room s t clock v mic lm nt domain user workstation key) n →
-      r ≡ respondedNumber (respondAnswer room s u clock v mic lm nt domain user workstation key) n
-  known-number r room clock n e = rw (← q) e
-
-  pub known-numbers : (room clock : ℕ) (ys xs : List ℕ) →
-      ys ≡ respondedNumbers (respondAnswer room s t clock v mic lm nt domain user workstation key) xs →
-      ys ≡ respondedNumbers (respondAnswer room s u clock v mic lm nt domain user workstation key) xs
-  known-numbers room clock ys xs e = rw (← q) e
-
-  pub known-out : (n : ℕ) (out ys : List ℕ) →
-      ys ≡ respondedOut (respondOut out s t v mic lm nt domain user workstation key) n out →
-      ys ≡ respondedOut (respondOut out s u v mic lm nt domain user workstation key) n out
-  known-out n out ys e = rw (← q) e
+pub known-settings : (t u : Settings) (s : List ℕ) (x : Supplied) (out : List ℕ) (y : EffectFromC) → t ≡ u → y ≡ respondFromC t s x out →
+    y ≡ respondFromC u s x out
+known-settings t u s x out y q e = rw (← q) e

@@ -1,7 +1,9 @@
 -- Answering a challenge by the C interface: the decision and the answer as numbers.
 use Prim.Native.Nat.{ℕ}
+use mathlib.Core.Path.{_≡_}
 use mathlib.Core.List.{List, [], _∷_}
 use lib.ListN.{length}
+use denote.Ref.{now}
 use Rattle.wire.specs.declared.refusal.Refusal.the-variants.{NoRoom}
 use Rattle.wire.specs.Check.{after}
 use Rattle.place.specs.Written.{roomHolds, atFront}
@@ -9,8 +11,10 @@ use Rattle.target_info.specs.declared.Timestamp.{Timestamp}
 use Rattle.target_info.specs.declared.Timestamp.the-variants.{Time, Nothing}
 use Rattle.respond.specs.declared.answer.Answered.{Answered}
 use Rattle.respond.specs.declared.answer.Answered.the-variants.{Sent, Refused}
+use Rattle.respond.specs.declared.decision.Settings.{Settings}
 use Rattle.respond.specs.declared.decision.Decided.{Decided}
 use Rattle.respond.specs.declared.decision.Decided.the-variants.{Taken, Refused as Undecided}
+use Rattle.respond.specs.Answer.{Supplied, Effect, respondTo, LentSlice}
 use Rattle.c_number.specs.Number.{refusalNumber, bit}
 use Rattle.c_number.specs.Outcome.{Outcome, numbers, refused}
 
@@ -34,13 +38,24 @@ abbrev pub answeredOut : Answered → List ℕ → List ℕ
 answeredOut (Sent a) out = atFront (a .time ∷ bit (a .«mic_due») ∷ []) out
 answeredOut (Refused e) out = out
 
--- with the array of numbers: 33 before anything else where it is too short
-unfoldable pub respondedNumber : Answered → ℕ → ℕ
-respondedNumber a room = after (roomHolds 2 room) (refusalNumber NoRoom) (answeredNumber a)
+-- what comes of a call: its answer, the output and the array of numbers afterwards
+pub record EffectFromC : Type 0 where
+  pub number : ℕ
+  pub output : List ℕ
+  pub numbers : List ℕ
 
-unfoldable pub respondedNumbers : Answered → List ℕ → List ℕ
-respondedNumbers a out = after (roomHolds 2 (length out)) out (answeredOut a out)
+-- an answer as numbers
+abbrev pub numbered : Effect → List ℕ → EffectFromC
+numbered x out = record { number = answeredNumber (x .answer); output = x .output; numbers = answeredOut (x .answer) out }
 
--- the message's output, which is `sent` where the array has its room
-unfoldable pub respondedOut : List ℕ → ℕ → List ℕ → List ℕ
-respondedOut sent room out = after (roomHolds 2 room) out sent
+-- the whole call: 33 before anything else where the array is too short
+unfoldable pub respondFromC : Settings → List ℕ → Supplied → List ℕ → EffectFromC
+respondFromC settings s x out =
+    after (roomHolds 2 (length out)) (record { number = refusalNumber NoRoom; output = x .out; numbers = out })
+    (numbered (respondTo settings s x) out)
+
+-- a call's answer, and what then lies in the output and in the array of numbers
+abbrev pub RespondsFromC : Settings → LentSlice → Supplied → ℕ → LentSlice → LentSlice → Type 0
+RespondsFromC settings challenge x answer out array =
+    record { number = answer; output = now (out .exit); numbers = now (array .exit) }
+    ≡ respondFromC settings (now (challenge .entry)) x (now (array .entry))

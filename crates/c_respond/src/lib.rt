@@ -2,11 +2,11 @@
 ghost use mathlib.Core.Path.{_≡_};
 ghost use Prim.Native.Nat.{_≤_};
 ghost use lib.ListN.{length};
-ghost use Rattle.respond.specs.Answer.{respondAnswer, respondOut};
+ghost use Rattle.respond.specs.Answer.{supplied};
 ghost use Rattle.respond.specs.Decision.{decisionOn};
 ghost use Rattle.c_number.specs.Outcome.{callNumber, callOut};
 ghost use Rattle.c_respond.specs.Settings.{settingsOf};
-ghost use Rattle.c_respond.specs.Respond.{decisionNumbers, decidedOutcome, answeredNumber, answeredOut, respondedNumber, respondedNumbers, respondedOut};
+ghost use Rattle.c_respond.specs.Respond.{decisionNumbers, decidedOutcome, answeredNumber, answeredOut, RespondsFromC};
 use crate::settings::SettingsBits;
 use c_number::bit;
 use c_number::give;
@@ -77,9 +77,7 @@ pub fn respond<'a>(
     key: &[u8],
     numbers: &mut [u64],
 ) -> u64
-    ensures answer { λ r. ⌜ r ≡ respondedNumber (respondAnswer (length (now (out .entry))) (now (challenge .entry)) (settingsOf settings) clock (now (version .entry)) (now (mic .entry)) (now (lm .entry)) (now (nt .entry)) (now (domain .entry)) (now (user .entry)) (now (workstation .entry)) (now (key .entry))) (length (now (numbers .entry))) ⌝ }
-    ensures content { λ _. ⌜ now (out .exit) ≡ respondedOut (respondOut (now (out .entry)) (now (challenge .entry)) (settingsOf settings) (now (version .entry)) (now (mic .entry)) (now (lm .entry)) (now (nt .entry)) (now (domain .entry)) (now (user .entry)) (now (workstation .entry)) (now (key .entry))) (length (now (numbers .entry))) (now (out .entry)) ⌝ }
-    ensures beside { λ _. ⌜ now (numbers .exit) ≡ respondedNumbers (respondAnswer (length (now (out .entry))) (now (challenge .entry)) (settingsOf settings) clock (now (version .entry)) (now (mic .entry)) (now (lm .entry)) (now (nt .entry)) (now (domain .entry)) (now (user .entry)) (now (workstation .entry)) (now (key .entry))) (now (numbers .entry)) ⌝ }
+    ensures { λ r. ⌜ RespondsFromC (settingsOf settings) challenge (supplied out clock version mic lm nt domain user workstation key) r out numbers ⌝ }
 {
     let Checked::Held = room_holds(2, numbers.len()) else {
         return refusal_number(Refusal::NoRoom);

@@ -24,7 +24,7 @@ use Rattle.respond.specs.declared.decision.Decided.{Decided}
 use Rattle.respond.specs.declared.decision.Decided.the-variants.{Taken, Refused}
 use Rattle.respond.specs.declared.decision.Decision.{Decision}
 use Rattle.respond.specs.declared.decision.Settings.{Settings}
-use Rattle.respond.specs.Answer.{micDue, answerWith, sendAnswer, sendOut, respondAnswer, respondOut}
+use Rattle.respond.specs.Answer.{micDue, answerWith, Supplied, Effect, refusing, sending, withDomain, respondTo}
 use Rattle.respond.specs.Decision.{decisionOn, onDecided}
 use Rattle.respond.specs.Domain.{domainToSend}
 use Rattle.target_info.specs.TargetInfo.{timestampIn}
@@ -116,76 +116,76 @@ module _ (settings : Settings) (s b : List ℕ) (F : ℕ → ℕ → Type 0) (si
       }
 
 -- what is sent to a challenge that is agreed to
-module _ (s b v mic lm nt dom usr wks key : List ℕ) (settings : Settings) (clock : ℕ) (m16 : length mic ≡ 16) (info : InfoBytes s b) (x : ToSend settings s b clock mic lm dom key) where
-  pub mic-sent-long : length (x .mic-sent) ≡ 16
-  mic-sent-long = ap length (mic-is settings s b clock mic lm dom key x) ∙ mic-long (timestampIn b) mic m16
+module _ (settings : Settings) (s b : List ℕ) (x : Supplied) (m16 : length (x .mic) ≡ 16) (info : InfoBytes s b) (t : ToSend settings s b x) where
+  pub mic-sent-long : length (t .mic-sent) ≡ 16
+  mic-sent-long = ap length (mic-is settings s b x t) ∙ mic-long (timestampIn b) (x .mic) m16
 
   abbrev decision : Decision
   decision = record { flags = flagsAt s 20; timestamp = timestampIn b }
 
-  send-answer : (room : ℕ) → Agreed settings s b → sendAnswer room settings decision clock v mic lm nt (domainToSend dom s) usr wks key ≡
-      answerWith (writeAnswer room (flagsAt s 20) v (x .mic-sent) (x .lm-sent) nt (x .domain-sent) usr wks (x .key-sent)) (x .time) (micDue (timestampIn b))
-  unfolding sendAnswer
-  send-answer room agreed =
-      rw (mic-is settings s b clock mic lm dom key x, lm-is settings s b clock mic lm dom key x, key-is settings s b clock mic lm dom key x, time-is settings s b clock mic lm dom key x, domain-is settings s b clock mic lm dom key x info (agreed .reading))
+  -- what the writer answers, and the output after it
+  abbrev written : Written
+  written =
+      writeAnswer (length (x .out)) (flagsAt s 20) (x .version) (t .mic-sent) (t .lm-sent) (x .nt) (t .domain-sent) (x .user) (x .workstation) (t .key-sent)
 
-  send-out : (out : List ℕ) → Agreed settings s b → sendOut out settings decision v mic lm nt (domainToSend dom s) usr wks key ≡
-      writeOut out (flagsAt s 20) v (x .mic-sent) (x .lm-sent) nt (x .domain-sent) usr wks (x .key-sent)
-  unfolding sendOut
-  send-out out agreed =
-      rw (mic-is settings s b clock mic lm dom key x, lm-is settings s b clock mic lm dom key x, key-is settings s b clock mic lm dom key x, domain-is settings s b clock mic lm dom key x info (agreed .reading))
+  abbrev leaves : List ℕ
+  leaves = writeOut (x .out) (flagsAt s 20) (x .version) (t .mic-sent) (t .lm-sent) (x .nt) (t .domain-sent) (x .user) (x .workstation) (t .key-sent)
+
+  send-is : Agreed settings s b →
+      sending settings decision (withDomain (domainToSend (x .domain) s) x)
+      ≡ record { answer = answerWith written (t .time) (micDue (timestampIn b)); output = leaves }
+  unfolding sending
+  send-is agreed =
+      rw (mic-is settings s b x t, lm-is settings s b x t, key-is settings s b x t, time-is settings s b x t, domain-is settings s b x t info (agreed .reading))
+
+  -- a statement on the effect of answering, by the decision
+  on-decision : (P : Effect → Type 0) →
+      (Agreed settings s b → P (record { answer = answerWith written (t .time) (micDue (timestampIn b)); output = leaves })) →
+      ((e : Refusal) → Declined settings s b (numberOf e) (fieldOf e) (placeOf e) → P (refusing x e)) →
+      P (respondTo settings s x)
+  unfolding respondTo
+  on-decision P agreed declined = go (decisionOn settings s) (judged settings s b info) where
+    go : (d : Decided) → Judged settings s b info d → P (onDecided (refusing x) d (λ y. sending settings y (withDomain (domainToSend (x .domain) s) x)))
+    go (Taken d) j =
+        subst (λ (y : Decision). P (sending settings y (withDomain (domainToSend (x .domain) s) x))) (sym (j .1))
+        (subst P (sym (send-is (j .0))) (agreed (j .0)))
+    go (Refused e) j = declined e j
 
 pub respond-answered : RespondIsAnswered
-unfolding respondAnswer
-respond-answered room s b v mic lm nt dom usr wks key settings clock v8 m16 info x = go (decisionOn settings s) (judged settings s b info) where
-  Right : Answered → Type 0
-  Right a =
-      AnsweredExactly a settings s b (AuthenticateWritingFails room (flagsAt s 20 .bits) (x .lm-sent) nt (x .domain-sent) usr wks (x .key-sent))
-      (authenticateSize (x .lm-sent) nt (x .domain-sent) usr wks (x .key-sent)) (x .time)
+respond-answered settings s b x v8 m16 info t = on-decision settings s b x m16 info t Right agreed-to (λ e j. as-refusal settings s b F size (t .time) e j) where
+  F : ℕ → ℕ → Type 0
+  F = AuthenticateWritingFails (length (x .out)) (flagsAt s 20 .bits) (t .lm-sent) (x .nt) (t .domain-sent) (x .user) (x .workstation) (t .key-sent)
 
-  agreed-to : Agreed settings s b → Right (sendAnswer room settings (record { flags = flagsAt s 20; timestamp = timestampIn b }) clock v mic lm nt (domainToSend dom s) usr wks key)
+  size : ℕ
+  size = authenticateSize (t .lm-sent) (x .nt) (t .domain-sent) (x .user) (x .workstation) (t .key-sent)
+
+  Right : Effect → Type 0
+  Right y = AnsweredExactly (y .answer) settings s b F size (t .time)
+
+  agreed-to : Agreed settings s b →
+      Right (record { answer = answerWith (written settings s b x m16 info t) (t .time) (micDue (timestampIn b)); output = leaves settings s b x m16 info t })
   agreed-to agreed =
-      subst Right (sym (send-answer s b v mic lm nt dom usr wks key settings clock m16 info x room agreed))
-      (as-answer settings s b (AuthenticateWritingFails room (flagsAt s 20 .bits) (x .lm-sent) nt (x .domain-sent) usr wks (x .key-sent))
-      (authenticateSize (x .lm-sent) nt (x .domain-sent) usr wks (x .key-sent)) (x .time)
-      (writeAnswer room (flagsAt s 20) v (x .mic-sent) (x .lm-sent) nt (x .domain-sent) usr wks (x .key-sent)) (micDue (timestampIn b)) agreed (due-is b)
-      (no-place room (flagsAt s 20 .bits) (x .lm-sent) nt (x .domain-sent) usr wks (x .key-sent))
-      (authenticate-written room (flagsAt s 20) v (x .mic-sent) (x .lm-sent) nt (x .domain-sent) usr wks (x .key-sent) v8 (mic-sent-long s b v mic lm nt dom usr wks key settings clock m16 info x)))
-
-  go : (d : Decided) → Judged settings s b info d → Right (onDecided Unanswered d (λ y. sendAnswer room settings y clock v mic lm nt (domainToSend dom s) usr wks key))
-  go (Taken d) j = subst (λ (y : Decision). Right (sendAnswer room settings y clock v mic lm nt (domainToSend dom s) usr wks key)) (sym (j .1)) (agreed-to (j .0))
-  go (Refused e) j =
-      as-refusal settings s b (AuthenticateWritingFails room (flagsAt s 20 .bits) (x .lm-sent) nt (x .domain-sent) usr wks (x .key-sent))
-      (authenticateSize (x .lm-sent) nt (x .domain-sent) usr wks (x .key-sent)) (x .time) e j
+      as-answer settings s b F size (t .time) (written settings s b x m16 info t) (micDue (timestampIn b)) agreed (due-is b)
+      (no-place (length (x .out)) (flagsAt s 20 .bits) (t .lm-sent) (x .nt) (t .domain-sent) (x .user) (x .workstation) (t .key-sent))
+      (authenticate-written (length (x .out)) (flagsAt s 20) (x .version) (t .mic-sent) (t .lm-sent) (x .nt) (t .domain-sent) (x .user) (x .workstation)
+      (t .key-sent) v8 (mic-sent-long settings s b x m16 info t))
 
 -- an answer that is sent is written with what is sent
-pub respond-writes : (out s b v mic lm nt dom usr wks key : List ℕ) (settings : Settings) (clock : ℕ) → length mic ≡ 16 → InfoBytes s b →
-    (x : ToSend settings s b clock mic lm dom key) (y : Answer) → respondAnswer (length out) s settings clock v mic lm nt dom usr wks key ≡ Sent y →
-    (writeAnswer (length out) (flagsAt s 20) v (x .mic-sent) (x .lm-sent) nt (x .domain-sent) usr wks (x .key-sent) ≡ Length (y .len))
-    × (respondOut out s settings v mic lm nt dom usr wks key ≡ writeOut out (flagsAt s 20) v (x .mic-sent) (x .lm-sent) nt (x .domain-sent) usr wks (x .key-sent))
-unfolding respondAnswer respondOut
-respond-writes out s b v mic lm nt dom usr wks key settings clock m16 info x y h = go (decisionOn settings s) (judged settings s b info) h where
-  Writes : Decision → Type 0
-  Writes z =
-      sendAnswer (length out) settings z clock v mic lm nt (domainToSend dom s) usr wks key ≡ Sent y →
-      (writeAnswer (length out) (flagsAt s 20) v (x .mic-sent) (x .lm-sent) nt (x .domain-sent) usr wks (x .key-sent) ≡ Length (y .len))
-      × (sendOut out settings z v mic lm nt (domainToSend dom s) usr wks key ≡ writeOut out (flagsAt s 20) v (x .mic-sent) (x .lm-sent) nt (x .domain-sent) usr wks (x .key-sent))
-
-  agreed-to : Agreed settings s b → Writes (record { flags = flagsAt s 20; timestamp = timestampIn b })
-  agreed-to agreed e = (
-    sent-written _ (x .time) (micDue (timestampIn b)) y (sym (send-answer s b v mic lm nt dom usr wks key settings clock m16 info x (length out) agreed) ∙ e),
-    send-out s b v mic lm nt dom usr wks key settings clock m16 info x out agreed,
-  )
-
-  go : (d : Decided) → Judged settings s b info d → onDecided Unanswered d (λ z. sendAnswer (length out) settings z clock v mic lm nt (domainToSend dom s) usr wks key) ≡ Sent y →
-      (writeAnswer (length out) (flagsAt s 20) v (x .mic-sent) (x .lm-sent) nt (x .domain-sent) usr wks (x .key-sent) ≡ Length (y .len))
-      × (onDecided (λ e. out) d (λ z. sendOut out settings z v mic lm nt (domainToSend dom s) usr wks key) ≡ writeOut out (flagsAt s 20) v (x .mic-sent) (x .lm-sent) nt (x .domain-sent) usr wks (x .key-sent))
-  go (Taken d) j e = subst Writes (sym (j .1)) (agreed-to (j .0)) e
-  go (Refused f) j e = absurd (let z : _≡_ {A = ℕ} 0 1 = cc in omega arith)
+pub respond-writes : (settings : Settings) (s b : List ℕ) (x : Supplied) (m16 : length (x .mic) ≡ 16) (info : InfoBytes s b)
+    (t : ToSend settings s b x) (y : Answer) → respondTo settings s x .answer ≡ Sent y →
+    (written settings s b x m16 info t ≡ Length (y .len)) × (respondTo settings s x .output ≡ leaves settings s b x m16 info t)
+respond-writes settings s b x m16 info t y =
+    on-decision settings s b x m16 info t
+    (λ z. z .answer ≡ Sent y → (written settings s b x m16 info t ≡ Length (y .len)) × (z .output ≡ leaves settings s b x m16 info t))
+    (λ agreed e. (sent-written _ (t .time) (micDue (timestampIn b)) y e, refl)) none
+  where
+    none : (e : Refusal) → Declined settings s b (numberOf e) (fieldOf e) (placeOf e) → Unanswered e ≡ Sent y →
+        (written settings s b x m16 info t ≡ Length (y .len)) × (x .out ≡ leaves settings s b x m16 info t)
+    none e j h = absurd (let z : _≡_ {A = ℕ} 0 1 = cc in omega arith)
 
 pub respond-reads-back : RespondReadsBack
-respond-reads-back out s b v mic lm nt dom usr wks key settings clock v8 m16 info x y h =
-    let w = respond-writes out s b v mic lm nt dom usr wks key settings clock m16 info x y h in
+respond-reads-back settings s b x v8 m16 info t y h =
+    let w = respond-writes settings s b x m16 info t y h in
     rw (w .1)
-    (authenticate-reads-back out (flagsAt s 20) v (x .mic-sent) (x .lm-sent) nt (x .domain-sent) usr wks (x .key-sent) (y .len) v8
-    (mic-sent-long s b v mic lm nt dom usr wks key settings clock m16 info x) (w .0))
+    (authenticate-reads-back (x .out) (flagsAt s 20) (x .version) (t .mic-sent) (t .lm-sent) (x .nt) (t .domain-sent) (x .user) (x .workstation)
+    (t .key-sent) (y .len) v8 (mic-sent-long settings s b x m16 info t) (w .0))

@@ -37,12 +37,12 @@ use Rattle.respond.specs.declared.decision.Decision.{Decision}
 use Rattle.respond.specs.declared.decision.Decided.{Decided}
 use Rattle.respond.specs.declared.decision.Decided.the-variants.{Taken as Decides, Refused as Declines}
 use Rattle.respond.specs.declared.decision.Settings.{Settings}
-use Rattle.respond.specs.Answer.{micDue, timeToSend, lmToSend, micToSend, keyToSend, answerWith, sendAnswer, respondAnswer}
+use Rattle.respond.specs.Answer.{micDue, timeToSend, lmToSend, micToSend, keyToSend, answerWith, Supplied, refusing, sending, withDomain, respondTo}
 use Rattle.respond.specs.Decision.{decisionOn, onDecided}
 use Rattle.respond.specs.Domain.{domainToSend}
 use Rattle.c_number.specs.Number.{refusalNumber, verdictNumber, writtenNumber}
 use Rattle.c_number.specs.Outcome.{Outcome, numbers, refused, outcomeNumber, callNumber, twoArrayNumber}
-use Rattle.c_respond.specs.Respond.{answeredNumber, respondedNumber}
+use Rattle.c_respond.specs.Respond.{answeredNumber, respondFromC}
 use Rattle.demands.specs.Answers.{TellsRefusal, TellsOutcome, CallTells, TwoArraysTell, TellsVerdict, CheckPairsTells, TellsWritten, Writing, write-negotiate, write-authenticate, write-nl-auth-request, write-nl-auth-response, write-response-pairs, writingAnswer, WritingShort, WritingTells, lineOf, LineTells, CopyFits, CopyTells, RespondShort, TellsAnswered, RespondTells}
 use Rattle.demands.specs.FromC.{count, outcome, numberCount, byteCount, twoArrayOutcome}
 use Rattle.demands.proofs.Kept.AnswerKept.{message-fits, mic-long}
@@ -156,41 +156,36 @@ answer-told : (r : Written) (time : ℕ) (due : Bool) → SmallW r → ((n : ℕ
 answer-told (Length n) time due w l = tells-length n (omega (arith, l n refl))
 answer-told (Refused e) time due w l = tells-refusal e w
 
-module _ (room : ℕ) (s v mic lm nt domain user workstation key : List ℕ) (settings : Settings) (clock : ℕ) (v8 : length v ≡ 8) (m16 : length mic ≡ 16) where
+module _ (settings : Settings) (s : List ℕ) (x : Supplied) (v8 : length (x .version) ≡ 8) (m16 : length (x .mic) ≡ 16) where
   -- what is written for a decision, and the answer with it
   sent : Decision → Writing
   sent d =
-      write-authenticate room (d .flags) v (micToSend (d .timestamp) mic) (lmToSend settings (d .timestamp) lm) nt (domainToSend domain s) user workstation
-      (keyToSend (d .flags) key) v8 (mic-long (d .timestamp) mic m16)
+      write-authenticate (length (x .out)) (d .flags) (x .version) (micToSend (d .timestamp) (x .mic)) (lmToSend settings (d .timestamp) (x .lm)) (x .nt)
+      (domainToSend (x .domain) s) (x .user) (x .workstation) (keyToSend (d .flags) (x .key)) v8 (mic-long (d .timestamp) (x .mic) m16)
 
-  send : Decision → Answered
-  send d = sendAnswer room settings d clock v mic lm nt (domainToSend domain s) user workstation key
+  answer : Decided → Answered
+  answer d = onDecided (refusing x) d (λ y. sending settings y (withDomain (domainToSend (x .domain) s) x)) .answer
 
-  sent-short : (x : Answer) → onDecided Unanswered (decisionOn settings s) send ≡ Sent x → x .len ≤ 65535
-  unfolding send sendAnswer sent
-  sent-short x h = go (decisionOn settings s) h where
-    go : (d : Decided) → onDecided Unanswered d send ≡ Sent x → x .len ≤ 65535
-    go (Decides d) p =
-        writing-short (sent d) (x .len) (sent-written (writingAnswer (sent d)) (timeToSend settings (d .timestamp) clock) (micDue (d .timestamp)) x p)
-    go (Declines e) p = absurd (let z : _≡_ {A = ℕ} 0 1 = cc in omega arith)
+  sent-short : (y : Answer) (d : Decided) → answer d ≡ Sent y → y .len ≤ 65535
+  unfolding answer sending sent
+  sent-short y (Decides d) p =
+      writing-short (sent d) (y .len) (sent-written (writingAnswer (sent d)) (timeToSend settings (d .timestamp) (x .clock)) (micDue (d .timestamp)) y p)
+  sent-short y (Declines e) p = absurd (let z : _≡_ {A = ℕ} 0 1 = cc in omega arith)
 
-  sent-told : TellsAnswered (answeredNumber (onDecided Unanswered (decisionOn settings s) send)) (onDecided Unanswered (decisionOn settings s) send)
-  unfolding send sendAnswer sent
-  sent-told = go (decisionOn settings s) (decision-small settings s) where
-    go : (d : Decided) → SmallD d → TellsAnswered (answeredNumber (onDecided Unanswered d send)) (onDecided Unanswered d send)
-    go (Decides d) w =
-        answer-told (writingAnswer (sent d)) (timeToSend settings (d .timestamp) clock) (micDue (d .timestamp)) (writing-small (sent d)) (writing-short (sent d))
-    go (Declines e) w = tells-refusal e w
+  sent-told : (d : Decided) → SmallD d → TellsAnswered (answeredNumber (answer d)) (answer d)
+  unfolding answer sending sent
+  sent-told (Decides d) w =
+      answer-told (writingAnswer (sent d)) (timeToSend settings (d .timestamp) (x .clock)) (micDue (d .timestamp)) (writing-small (sent d)) (writing-short (sent d))
+  sent-told (Declines e) w = tells-refusal e w
 
 pub respond-short : RespondShort
-unfolding respondAnswer send
-respond-short room s v mic lm nt domain user workstation key settings clock x v8 m16 h =
-    sent-short room s v mic lm nt domain user workstation key settings clock v8 m16 x h
+unfolding respondTo answer
+respond-short settings s x y v8 m16 h = sent-short settings s x v8 m16 y (decisionOn settings s) h
 
 pub respond-tells : RespondTells
-unfolding respondedNumber respondAnswer send
-respond-tells room nums s v mic lm nt domain user workstation key settings clock v8 m16 =
+unfolding respondFromC respondTo answer
+respond-tells settings s x xs v8 m16 =
     record {
-      short = λ l. rw (lt-leb 2 nums l) (tells-refusal NoRoom (omega arith));
-      told = λ l. rw (le-leb 2 nums l) (sent-told room s v mic lm nt domain user workstation key settings clock v8 m16);
+      short = λ l. rw (lt-leb 2 (length xs) l) (tells-refusal NoRoom (omega arith));
+      told = λ l. rw (le-leb 2 (length xs) l) (sent-told settings s x v8 m16 (decisionOn settings s) (decision-small settings s));
     }

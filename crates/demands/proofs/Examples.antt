@@ -22,7 +22,7 @@ use Rattle.write_dns_name.specs.Writing.{pieces, labelsOf, labelBytes, coded, n
 use Rattle.line_nl_auth.specs.Nl.{nlStart, nlOem, nlUtf8, nlText}
 use Rattle.respond.specs.Domain.{domainPart}
 use Rattle.respond.specs.Decision.{decisionOn}
-use Rattle.respond.specs.Answer.{lmToSend, micToSend, keyToSend, sendAnswer, sendOut, respondAnswer, respondOut}
+use Rattle.respond.specs.Answer.{lmToSend, micToSend, keyToSend, sending, respondTo}
 use Rattle.write_response_pairs.specs.ResponsePairs.{dueBits, bitsDue, addedPairs, pairsBack, pairsFor, pairBytes, listBytes, listWith, listFor, checkList, listAnswer, listOut, writeAnswer as pairsAnswer, writeOut as pairsOut}
 use Rattle.line_challenge.specs.Chal.{timeText, timeWord, chalEnd, chalWords, chalText}
 use Rattle.line_max.specs.Max.{maxDigit, maxWord, maxEnd}
@@ -45,7 +45,7 @@ unfolding readAuthenticate readingOf fieldsAt checkEnds checkBegins checkNames c
 authenticate-example = record { length-written = refl; bytes-written = refl; line = refl; no-room = refl; kept = refl }
 
 answer-example : AnswerExample
-unfolding challengeReadingOf checkInfo fieldsOf challengeFieldsAt challengeEnds challengeBegins challengeNames challengeChecks checkPairs pairsOf stepAt pairOf left timestampIn serverNamesIn domainPart fieldStart decisionOn lmToSend micToSend keyToSend sendAnswer sendOut respondAnswer respondOut readAuthenticate readingOf fieldsAt checkEnds checkBegins checkNames checkShared checkFields micPresent readHead signatureHolds fieldAt fieldBytes hexDigit hex decimalSize decimal escape unitText textOf nameText numberWord nameWord flagsWord setWord startText micWord kindWord authNames authLengths maxDigit maxWord maxEnd authEnd authText authenticateLine kindOf ntlmLine fieldsTo headsBytes afterHeads fixedBytes payloadBytes authenticateBytes checkNamesToWrite checkToWrite writeAnswer writeOut headBytes versionBytes le16 le32
+unfolding challengeReadingOf checkInfo fieldsOf challengeFieldsAt challengeEnds challengeBegins challengeNames challengeChecks checkPairs pairsOf stepAt pairOf left timestampIn serverNamesIn domainPart fieldStart decisionOn lmToSend micToSend keyToSend sending respondTo readAuthenticate readingOf fieldsAt checkEnds checkBegins checkNames checkShared checkFields micPresent readHead signatureHolds fieldAt fieldBytes hexDigit hex decimalSize decimal escape unitText textOf nameText numberWord nameWord flagsWord setWord startText micWord kindWord authNames authLengths maxDigit maxWord maxEnd authEnd authText authenticateLine kindOf ntlmLine fieldsTo headsBytes afterHeads fixedBytes payloadBytes authenticateBytes checkNamesToWrite checkToWrite writeAnswer writeOut headBytes versionBytes le16 le32
 answer-example =
     record {
       answer = refl;

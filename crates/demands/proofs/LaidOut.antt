@@ -92,11 +92,11 @@ authenticate-by-layout out w v mic lm nt dom usr wks key n v8 m16 h =
     rw (t .1) (laid-out w v mic lm nt dom usr wks key v8 m16 (subst (MicThere authenticate) (t .1) there))
 
 pub respond-by-layout : RespondByLayout
-respond-by-layout out s b v mic lm nt dom usr wks key settings clock v8 m16 info x y h =
-    let w = respond-writes out s b v mic lm nt dom usr wks key settings clock m16 info x y h in
+respond-by-layout settings s b x v8 m16 info t y h =
+    let w = respond-writes settings s b x m16 info t y h in
     rw (w .1)
-    (authenticate-by-layout out (flagsAt s 20) v (x .mic-sent) (x .lm-sent) nt (x .domain-sent) usr wks (x .key-sent) (y .len) v8
-    (mic-sent-long s b v mic lm nt dom usr wks key settings clock m16 info x) (w .0))
+    (authenticate-by-layout (x .out) (flagsAt s 20) (x .version) (t .mic-sent) (t .lm-sent) (x .nt) (t .domain-sent) (x .user) (x .workstation)
+    (t .key-sent) (y .len) v8 (mic-sent-long settings s b x m16 info t) (w .0))
 
 -- ---- NEGOTIATE
 

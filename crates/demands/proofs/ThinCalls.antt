@@ -54,9 +54,8 @@ module _ (call : ThinCall) (s b : List ℕ) where
       (λ y. both-ways (goesBy call .confidentiality) y (thin-settings call .confidentiality)) (f .1)
 
 pub thin-calls-refuse : ThinCallsRefuse
-thin-calls-refuse call room clock s b v mic lm nt domain user workstation key v8 mic16 info =
-    let x = something-to-send (goesBy call) s b clock mic lm domain key in
-    let a = respond-answered room s b v mic lm nt domain user workstation key (goesBy call) clock v8 mic16 info x in (
+thin-calls-refuse call s b x v8 m16 info =
+    let a = respond-answered (goesBy call) s b x v8 m16 info (something-to-send (goesBy call) s b x) in (
       (
         λ r. ⊎-elim (λ d. weak-20 call s b .0 d) (λ f. absurd (f .1 .fails)) (a .refused 20 0 0 .0 r),
         λ w. a .refused 20 0 0 .1 (inl (weak-20 call s b .1 w)),

@@ -17,7 +17,7 @@ use Rattle.respond.specs.declared.decision.Decided.{Decided}
 use Rattle.respond.specs.declared.decision.Decided.the-variants.{Taken, Refused}
 use Rattle.respond.specs.declared.decision.Decision.{Decision}
 use Rattle.respond.specs.declared.decision.Settings.{Settings}
-use Rattle.respond.specs.Answer.{respondAnswer, respondOut}
+use Rattle.respond.specs.Answer.{Supplied, respondTo}
 use Rattle.respond.specs.Decision.{decisionOn}
 use Rattle.respond.specs.Domain.{Part, domainPart}
 use Rattle.demands.specs.Order.{FirstIn}
@@ -96,32 +96,31 @@ abbrev pub KeyCounts : List ℕ → Type 0
 KeyCounts s = Set challenge s 0x40000000 × (Set challenge s 0x10 ⊎ Set challenge s 0x20)
 
 -- What of the answer goes by the challenge and the settings: Time, MIC, LM response, key and domain, with the clock and what the
--- caller gives for each. "With NTLMv2 and a timestamp pair, Time is that value and the LM response written is 24 zero bytes;
+-- caller supplies for each. "With NTLMv2 and a timestamp pair, Time is that value and the LM response written is 24 zero bytes;
 -- otherwise Time is the box's clock and the LM response is the caller's. A MIC is due exactly when a timestamp pair is there; if
 -- not due, sixteen zeros are written for it." A key that doesn't count is passed over, and field 6 is empty.
-pub record ToSend (settings : Settings) (s b : List ℕ) (clock : ℕ) (mic lm domain key : List ℕ) : Type 0 where
+pub record ToSend (settings : Settings) (s b : List ℕ) (x : Supplied) : Type 0 where
   pub time : ℕ
   pub mic-sent : List ℕ
   pub lm-sent : List ℕ
   pub domain-sent : List ℕ
   pub key-sent : List ℕ
   pub their-time : settings .ntlmv2 ≡ true → (place : ℕ) → FirstWith b 7 place 0 → time ≡ u64At b (place + 4)
-  pub our-time : (Stamped settings b → ⊥) → time ≡ clock
+  pub our-time : (Stamped settings b → ⊥) → time ≡ x .clock
   pub zero-lm : Stamped settings b → lm-sent ≡ replicate 24 0
-  pub our-lm : (Stamped settings b → ⊥) → lm-sent ≡ lm
-  pub mic-due : PairThere b 7 → mic-sent ≡ mic
+  pub our-lm : (Stamped settings b → ⊥) → lm-sent ≡ x .lm
+  pub mic-due : PairThere b 7 → mic-sent ≡ x .mic
   pub zero-mic : (PairThere b 7 → ⊥) → mic-sent ≡ replicate 16 0
-  pub our-key : KeyCounts s → key-sent ≡ key
+  pub our-key : KeyCounts s → key-sent ≡ x .key
   pub no-key : (KeyCounts s → ⊥) → key-sent ≡ []
-  pub our-domain : 0 < length domain → domain-sent ≡ domain
-  pub their-domain : length domain ≡ 0 → Set challenge s 0x1 → (place : ℕ) → FirstWith b 2 place 0 →
+  pub our-domain : 0 < length (x .domain) → domain-sent ≡ x .domain
+  pub their-domain : length (x .domain) ≡ 0 → Set challenge s 0x1 → (place : ℕ) → FirstWith b 2 place 0 →
       domain-sent ≡ take (sizeOf b place) (drop (place + 4) b)
-  pub no-domain : length domain ≡ 0 → (Set challenge s 0x1 × PairThere b 2 → ⊥) → domain-sent ≡ []
+  pub no-domain : length (x .domain) ≡ 0 → (Set challenge s 0x1 × PairThere b 2 → ⊥) → domain-sent ≡ []
 
 -- there always is such a thing, so that what follows speaks of something
 abbrev pub SomethingToSend : Type 0
-SomethingToSend =
-    (settings : Settings) (s b : List ℕ) (clock : ℕ) (mic lm domain key : List ℕ) → ToSend settings s b clock mic lm domain key
+SomethingToSend = (settings : Settings) (s b : List ℕ) (x : Supplied) → ToSend settings s b x
 
 -- ---- the answer
 
@@ -140,18 +139,17 @@ pub record AnsweredExactly (answer : Answered) (settings : Settings) (s b : List
 -- for every settings, so also for the three thin calls; Version and MIC are of 8 and 16 bytes, as the call takes them
 abbrev pub RespondIsAnswered : Type 0
 RespondIsAnswered =
-    (room : ℕ) (s b version mic lm nt domain user workstation key : List ℕ) (settings : Settings) (clock : ℕ) →
-    length version ≡ 8 → length mic ≡ 16 → InfoBytes s b → (x : ToSend settings s b clock mic lm domain key) →
-    AnsweredExactly (respondAnswer room s settings clock version mic lm nt domain user workstation key) settings s b
-    (AuthenticateWritingFails room (u32At s 20) (x .lm-sent) nt (x .domain-sent) user workstation (x .key-sent))
-    (authenticateSize (x .lm-sent) nt (x .domain-sent) user workstation (x .key-sent)) (x .time)
+    (settings : Settings) (s b : List ℕ) (x : Supplied) → length (x .version) ≡ 8 → length (x .mic) ≡ 16 → InfoBytes s b →
+    (t : ToSend settings s b x) →
+    AnsweredExactly (respondTo settings s x .answer) settings s b
+    (AuthenticateWritingFails (length (x .out)) (u32At s 20) (t .lm-sent) (x .nt) (t .domain-sent) (x .user) (x .workstation) (t .key-sent))
+    (authenticateSize (t .lm-sent) (x .nt) (t .domain-sent) (x .user) (x .workstation) (t .key-sent)) (t .time)
 
 -- demand 2: "An AUTHENTICATE we write reads back with the same flags, six fields and MIC": an answer, with the challenge's flags and
 -- what is sent
 abbrev pub RespondReadsBack : Type 0
 RespondReadsBack =
-    (out s b version mic lm nt domain user workstation key : List ℕ) (settings : Settings) (clock : ℕ) →
-    length version ≡ 8 → length mic ≡ 16 → InfoBytes s b → (x : ToSend settings s b clock mic lm domain key) (y : Answer) →
-    respondAnswer (length out) s settings clock version mic lm nt domain user workstation key ≡ Sent y →
-    AuthenticateBack (take (y .len) (respondOut out s settings version mic lm nt domain user workstation key)) (record { bits = u32At s 20 })
-    (x .mic-sent) (x .lm-sent) nt (x .domain-sent) user workstation (x .key-sent)
+    (settings : Settings) (s b : List ℕ) (x : Supplied) → length (x .version) ≡ 8 → length (x .mic) ≡ 16 → InfoBytes s b →
+    (t : ToSend settings s b x) (y : Answer) → respondTo settings s x .answer ≡ Sent y →
+    AuthenticateBack (take (y .len) (respondTo settings s x .output)) (record { bits = u32At s 20 })
+    (t .mic-sent) (t .lm-sent) (x .nt) (t .domain-sent) (x .user) (x .workstation) (t .key-sent)

@@ -26,11 +26,11 @@ use Rattle.respond.specs.declared.answer.Answer.{Answer}
 use Rattle.respond.specs.declared.answer.Answered.{Answered}
 use Rattle.respond.specs.declared.answer.Answered.the-variants.{Sent, Refused as Unanswered}
 use Rattle.respond.specs.declared.decision.Settings.{Settings}
-use Rattle.respond.specs.Answer.{respondAnswer}
+use Rattle.respond.specs.Answer.{Supplied, respondTo}
 use Rattle.write_response_pairs.specs.ResponsePairs.{writeAnswer as pairsAnswer}
 use Rattle.c_number.specs.Number.{verdictNumber, writtenNumber}
 use Rattle.c_number.specs.Outcome.{Outcome, numbers, refused, callNumber, twoArrayNumber}
-use Rattle.c_respond.specs.Respond.{respondedNumber}
+use Rattle.c_respond.specs.Respond.{respondFromC}
 use Rattle.demands.specs.FromC.{Call, count, outcome, TwoArrayCall, numberCount, byteCount, twoArrayOutcome}
 
 -- DIALTABLE_IS_REFUSED, DIALTABLE_NUMBER, DIALTABLE_FIELD and DIALTABLE_PLACE
@@ -153,20 +153,18 @@ CopyTells = (bytes out : List ℕ) → length out < 0x8000000000000000 → Tells
 
 abbrev pub RespondShort : Type 0
 RespondShort =
-    (room : ℕ) (s version mic lm nt domain user workstation key : List ℕ) (settings : Settings) (clock : ℕ) (x : Answer) →
-    length version ≡ 8 → length mic ≡ 16 →
-    respondAnswer room s settings clock version mic lm nt domain user workstation key ≡ Sent x → x .len ≤ 65535
+    (settings : Settings) (s : List ℕ) (x : Supplied) (y : Answer) → length (x .version) ≡ 8 → length (x .mic) ≡ 16 →
+    respondTo settings s x .answer ≡ Sent y → y .len ≤ 65535
 
 abbrev pub TellsAnswered : ℕ → Answered → Type 0
 TellsAnswered answer (Sent x) = TellsLength answer (x .len)
 TellsAnswered answer (Unanswered e) = TellsRefusal answer e
 
-pub record AnswerTells (answer : Answered) (room : ℕ) : Type 0 where
-  pub short : room < 2 → TellsRefusal (respondedNumber answer room) NoRoom
-  pub told : 2 ≤ room → TellsAnswered (respondedNumber answer room) answer
+pub record AnswerTells (answer : Answered) (room number : ℕ) : Type 0 where
+  pub short : room < 2 → TellsRefusal number NoRoom
+  pub told : 2 ≤ room → TellsAnswered number answer
 
 abbrev pub RespondTells : Type 0
 RespondTells =
-    (room numbers-room : ℕ) (s version mic lm nt domain user workstation key : List ℕ) (settings : Settings) (clock : ℕ) →
-    length version ≡ 8 → length mic ≡ 16 →
-    AnswerTells (respondAnswer room s settings clock version mic lm nt domain user workstation key) numbers-room
+    (settings : Settings) (s : List ℕ) (x : Supplied) (xs : List ℕ) → length (x .version) ≡ 8 → length (x .mic) ≡ 16 →
+    AnswerTells (respondTo settings s x .answer) (length xs) (respondFromC settings s x xs .number)

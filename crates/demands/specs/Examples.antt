@@ -23,7 +23,7 @@ use Rattle.read_negotiate.specs.Negotiate.{readNegotiate}
 use Rattle.write_negotiate.specs.Writing.{writeAnswer as negotiateAnswer, writeOut as negotiateOut}
 use Rattle.write_authenticate.specs.Writing.{writeAnswer, writeOut}
 use Rattle.respond.specs.declared.answer.Answered.the-variants.{Sent, Refused as Unanswered}
-use Rattle.respond.specs.Answer.{respondAnswer, respondOut}
+use Rattle.respond.specs.Answer.{Supplied, respondTo}
 use Rattle.respond.specs.Decision.{defaults, benchSettings, oldServerSettings}
 use Rattle.write_response_pairs.specs.ResponsePairs.{listFor, writeAnswer as pairsAnswer, writeOut as pairsOut}
 use Rattle.line.specs.Line.{ntlmLine, nlAuthLine}
@@ -166,17 +166,32 @@ answerMessage =
     heads
     ++ (0x15 ∷ 0x02 ∷ 0x80 ∷ 0x40 ∷ replicate 8 0x00 ++ (mic ++ (line16 ++ (box16 ++ (replicate 24 0x00 ++ (nt ++ key))))))
 
--- with a clock reading of 5, which a timestamp puts aside
+-- n bytes of output, with a clock reading of 5, which a timestamp puts aside
+abbrev inRoom : ℕ → Supplied
+inRoom n =
+    record {
+      out = replicate n 0xFF;
+      clock = 5;
+      version = version;
+      mic = mic;
+      lm = lm;
+      nt = nt;
+      domain = [];
+      user = box16;
+      workstation = [];
+      key = key;
+    }
+
 pub record AnswerExample : Type 0 where
-  pub answer : respondAnswer 172 challengeMessage oldServerSettings 5 version mic lm nt [] box16 [] key ≡
+  pub answer : respondTo oldServerSettings challengeMessage (inRoom 172) .answer ≡
       Sent (record { len = 172; time = 0x0807060504030201; «mic_due» = true })
-  pub bytes-written : respondOut (replicate 172 0xFF) challengeMessage oldServerSettings version mic lm nt [] box16 [] key ≡ answerMessage
+  pub bytes-written : respondTo oldServerSettings challengeMessage (inRoom 172) .output ≡ answerMessage
   pub line : ntlmLine answerMessage ≡ lineOf "auth flags=40800215 set=U domain=LINE user=box7 work= lm=24 nt=28 key=16 mic=1 kind=odd max=000000"
-  pub no-room : respondAnswer 171 challengeMessage oldServerSettings 5 version mic lm nt [] box16 [] key ≡ Unanswered NoRoom
-  pub kept : respondOut (replicate 171 0xFF) challengeMessage oldServerSettings version mic lm nt [] box16 [] key ≡ replicate 171 0xFF
-  pub bench-no : respondAnswer 171 challengeMessage (benchSettings false) 5 version mic lm nt [] box16 [] key ≡ Unanswered NoRoom
-  pub bench-yes : respondAnswer 171 challengeMessage (benchSettings true) 5 version mic lm nt [] box16 [] key ≡ Unanswered No128Bit
-  pub by-default : respondAnswer 171 challengeMessage defaults 5 version mic lm nt [] box16 [] key ≡ Unanswered No128Bit
+  pub no-room : respondTo oldServerSettings challengeMessage (inRoom 171) .answer ≡ Unanswered NoRoom
+  pub kept : respondTo oldServerSettings challengeMessage (inRoom 171) .output ≡ replicate 171 0xFF
+  pub bench-no : respondTo (benchSettings false) challengeMessage (inRoom 171) .answer ≡ Unanswered NoRoom
+  pub bench-yes : respondTo (benchSettings true) challengeMessage (inRoom 171) .answer ≡ Unanswered No128Bit
+  pub by-default : respondTo defaults challengeMessage (inRoom 171) .answer ≡ Unanswered No128Bit
 
 -- ---- the pair list that goes back for the CHALLENGE above, with the name "box7", which is marked unverified
 

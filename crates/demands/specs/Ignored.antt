@@ -28,7 +28,7 @@ use Rattle.read_nl_auth.specs.declared.string.NlString.{NlString}
 use Rattle.read_nl_auth.specs.NlAuth.{stringBytes, labelsOf, readNlAuth}
 use Rattle.line.specs.Line.{negotiateLine, authenticateLine, challengeLine, ntlmLine, nlAuthLine}
 use Rattle.respond.specs.declared.decision.Settings.{Settings}
-use Rattle.respond.specs.Answer.{respondAnswer, respondOut}
+use Rattle.respond.specs.Answer.{Supplied, respondTo}
 use Rattle.respond.specs.Decision.{decisionOn}
 use Rattle.respond.specs.Domain.{domainPart}
 use Rattle.demands.specs.MaxLen.{bareAuthenticate, bareChallenge, bareNegotiate, EndsInMax, AlikeButMax}
@@ -166,14 +166,9 @@ DecisionIgnored = (settings : Settings) (s t : List ℕ) → DifferInIgnored cha
 abbrev pub DomainIgnored : Type 0
 DomainIgnored = (own s t : List ℕ) → DifferInIgnored challenge s t → domainPart own s ≡ domainPart own t
 
--- answered with the same settings, clock, output and bytes of the caller's, they get the same answer and the same output
-pub record SameAnswering (settings : Settings) (s t : List ℕ) : Type 0 where
-  pub answer : (room clock : ℕ) (version mic lm nt domain user workstation key : List ℕ) →
-      respondAnswer room s settings clock version mic lm nt domain user workstation key
-      ≡ respondAnswer room t settings clock version mic lm nt domain user workstation key
-  pub output : (out version mic lm nt domain user workstation key : List ℕ) →
-      respondOut out s settings version mic lm nt domain user workstation key
-      ≡ respondOut out t settings version mic lm nt domain user workstation key
+-- answered with the same settings and what else the caller supplies, they get the same answer and the same output
+abbrev pub SameAnswering : Settings → List ℕ → List ℕ → Type 0
+SameAnswering settings s t = (x : Supplied) → respondTo settings s x ≡ respondTo settings t x
 
 abbrev pub RespondIgnored : Type 0
 RespondIgnored = (settings : Settings) (s t : List ℕ) → DifferInIgnored challenge s t → SameAnswering settings s t

@@ -15,11 +15,11 @@ use Rattle.respond.specs.declared.answer.Answer.{Answer}
 use Rattle.respond.specs.declared.answer.Answered.{Answered}
 use Rattle.respond.specs.declared.answer.Answered.the-variants.{Sent, Refused as Unanswered}
 use Rattle.respond.specs.declared.decision.Settings.{Settings}
-use Rattle.respond.specs.Answer.{respondAnswer, respondOut}
+use Rattle.respond.specs.Answer.{Supplied, respondTo}
 use Rattle.place.specs.Written.{bytesAnswer, bytesAfter}
 use Rattle.c_number.specs.Number.{bit}
 use Rattle.c_number.specs.Outcome.{Outcome, numbers, callNumber, callOut, twoArrayNumber, twoArrayOut, twoArrayBytes}
-use Rattle.c_respond.specs.Respond.{respondedNumber, respondedNumbers, respondedOut}
+use Rattle.c_respond.specs.Respond.{EffectFromC, respondFromC}
 use Rattle.nl_auth_flags.specs.declared.NlAuthFlags.{NlAuthFlags}
 use Rattle.nl_auth_flags.specs.Flags.{known}
 use Rattle.write_nl_auth.specs.Writing.{requestAnswer, requestOut, responseAnswer, responseOut}
@@ -62,9 +62,8 @@ pub record KeptAnswer (answer : Answered) (before after : List ℕ) : Type 0 whe
 
 abbrev pub RespondKept : Type 0
 RespondKept =
-    (out s version mic lm nt domain user workstation key : List ℕ) (settings : Settings) (clock : ℕ) → length version ≡ 8 → length mic ≡ 16 →
-    KeptAnswer (respondAnswer (length out) s settings clock version mic lm nt domain user workstation key) out
-    (respondOut out s settings version mic lm nt domain user workstation key)
+    (settings : Settings) (s : List ℕ) (x : Supplied) → length (x .version) ≡ 8 → length (x .mic) ≡ 16 →
+    KeptAnswer (respondTo settings s x .answer) (x .out) (respondTo settings s x .output)
 
 -- the C interface: a call that hands out numbers is answered 0, or leaves its arrays as they were
 abbrev pub CallKept : Type 0
@@ -107,16 +106,15 @@ TwoArraysFront =
 
 -- an answer from C: where its array is too short, or where it is refused, array and output are as they were; an answer that
 -- is sent hands out Time and whether a MIC is due, and nothing after its message changes in the output
-pub record KeptFromC (answer : Answered) (sent xs out : List ℕ) : Type 0 where
-  pub short : length xs < 2 → (respondedNumbers answer xs ≡ xs) × (respondedOut sent (length xs) out ≡ out)
-  pub refused : (e : Refusal) → answer ≡ Unanswered e → (respondedNumbers answer xs ≡ xs) × (respondedOut sent (length xs) out ≡ out)
-  pub number : (x : Answer) → answer ≡ Sent x → 2 ≤ length xs → respondedNumber answer (length xs) ≡ x .len
-  pub front : (x : Answer) → answer ≡ Sent x → 2 ≤ length xs → Front (x .time ∷ bit (x .«mic_due») ∷ []) xs (respondedNumbers answer xs)
-  pub same-length : (x : Answer) → answer ≡ Sent x → length (respondedOut sent (length xs) out) ≡ length out
-  pub rest : (x : Answer) → answer ≡ Sent x → drop (x .len) (respondedOut sent (length xs) out) ≡ drop (x .len) out
+pub record KeptFromC (answer : Answered) (out xs : List ℕ) (y : EffectFromC) : Type 0 where
+  pub short : length xs < 2 → (y .numbers ≡ xs) × (y .output ≡ out)
+  pub refused : (e : Refusal) → answer ≡ Unanswered e → (y .numbers ≡ xs) × (y .output ≡ out)
+  pub number : (x : Answer) → answer ≡ Sent x → 2 ≤ length xs → y .number ≡ x .len
+  pub front : (x : Answer) → answer ≡ Sent x → 2 ≤ length xs → Front (x .time ∷ bit (x .«mic_due») ∷ []) xs (y .numbers)
+  pub same-length : (x : Answer) → answer ≡ Sent x → length (y .output) ≡ length out
+  pub rest : (x : Answer) → answer ≡ Sent x → drop (x .len) (y .output) ≡ drop (x .len) out
 
 abbrev pub RespondedKept : Type 0
 RespondedKept =
-    (xs out s version mic lm nt domain user workstation key : List ℕ) (settings : Settings) (clock : ℕ) → length version ≡ 8 → length mic ≡ 16 →
-    KeptFromC (respondAnswer (length out) s settings clock version mic lm nt domain user workstation key)
-    (respondOut out s settings version mic lm nt domain user workstation key) xs out
+    (settings : Settings) (s : List ℕ) (x : Supplied) (xs : List ℕ) → length (x .version) ≡ 8 → length (x .mic) ≡ 16 →
+    KeptFromC (respondTo settings s x .answer) (x .out) xs (respondFromC settings s x xs)

@@ -22,7 +22,7 @@ use Rattle.write_nl_auth.specs.Writing.{requestAnswer, requestOut, responseAnsw
 use Rattle.respond.specs.declared.answer.Answer.{Answer}
 use Rattle.respond.specs.declared.answer.Answered.the-variants.{Sent}
 use Rattle.respond.specs.declared.decision.Settings.{Settings}
-use Rattle.respond.specs.Answer.{respondAnswer, respondOut}
+use Rattle.respond.specs.Answer.{Supplied, respondTo}
 use Rattle.demands.specs.Answering.{ToSend}
 use Rattle.demands.specs.DnsName.{TextLabels}
 use Rattle.demands.specs.Message.{Format, negotiate, authenticate, FlagSet, MicThere}
@@ -75,11 +75,10 @@ AuthenticateByLayout =
 -- every answer to a challenge: the challenge's flags, and of MIC, LM response, domain and key what is sent (`ToSend`)
 abbrev pub RespondByLayout : Type 0
 RespondByLayout =
-    (out s b version mic lm nt domain user workstation key : List ℕ) (settings : Settings) (clock : ℕ) →
-    length version ≡ 8 → length mic ≡ 16 → InfoBytes s b → (x : ToSend settings s b clock mic lm domain key) (y : Answer) →
-    respondAnswer (length out) s settings clock version mic lm nt domain user workstation key ≡ Sent y →
-    LaidOut (take (y .len) (respondOut out s settings version mic lm nt domain user workstation key)) (u32At s 20) version
-    (x .mic-sent) (x .lm-sent) nt (x .domain-sent) user workstation (x .key-sent)
+    (settings : Settings) (s b : List ℕ) (x : Supplied) → length (x .version) ≡ 8 → length (x .mic) ≡ 16 → InfoBytes s b →
+    (t : ToSend settings s b x) (y : Answer) → respondTo settings s x .answer ≡ Sent y →
+    LaidOut (take (y .len) (respondTo settings s x .output)) (u32At s 20) (x .version)
+    (t .mic-sent) (t .lm-sent) (x .nt) (t .domain-sent) (x .user) (x .workstation) (t .key-sent)
 
 -- ---- NEGOTIATE, with the caller's flags but for the two bits, which are as the names make them
 

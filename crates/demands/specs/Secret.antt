@@ -17,7 +17,7 @@ use Rattle.place.specs.Written.{bytesAnswer, bytesAfter}
 use Rattle.respond.specs.declared.answer.Answer.{Answer}
 use Rattle.respond.specs.declared.answer.Answered.the-variants.{Sent}
 use Rattle.respond.specs.declared.decision.Settings.{Settings}
-use Rattle.respond.specs.Answer.{respondAnswer, respondOut}
+use Rattle.respond.specs.Answer.{Supplied, Effect, respondTo}
 use Rattle.demands.specs.Bench.{p1, userOffset}
 use Rattle.demands.specs.FromC.{read-authenticate, twoArrayOutcome}
 use Rattle.demands.specs.Ignored.{SameBytes}
@@ -106,17 +106,33 @@ pub record AsLong (mic lm nt key mic′ lm′ nt′ key′ : List ℕ) : Type 0 
   pub nt-same : length nt ≡ length nt′
   pub key-same : length key ≡ length key′
 
+-- the same supplied with another output, and with other secrets
+abbrev pub withSecrets : Supplied → (out mic lm nt key : List ℕ) → Supplied
+withSecrets x out m l n k =
+    record {
+      out = out;
+      clock = x .clock;
+      version = x .version;
+      mic = m;
+      lm = l;
+      nt = n;
+      domain = x .domain;
+      user = x .user;
+      workstation = x .workstation;
+      key = k;
+    }
+
+-- two effects of one answer
+pub record AnsweredAlike (x y : Effect) : Type 0 where
+  pub answer : x .answer ≡ y .answer
+  pub messages : (a : Answer) → x .answer ≡ Sent a → AlikeOutside (take (a .len) (x .output)) (take (a .len) (y .output))
+
 -- a call that goes by these settings
 abbrev pub SecretAnsweredBy : Settings → Type 0
 SecretAnsweredBy settings =
-    (out out′ s version domain user workstation : List ℕ) (clock : ℕ)
-    (mic lm nt key mic′ lm′ nt′ key′ : List ℕ) →
-    length out ≡ length out′ → length version ≡ 8 → AsLong mic lm nt key mic′ lm′ nt′ key′ →
-    (respondAnswer (length out) s settings clock version mic lm nt domain user workstation key
-    ≡ respondAnswer (length out′) s settings clock version mic′ lm′ nt′ domain user workstation key′)
-    × ((x : Answer) → respondAnswer (length out) s settings clock version mic lm nt domain user workstation key ≡ Sent x →
-    AlikeOutside (take (x .len) (respondOut out s settings version mic lm nt domain user workstation key))
-    (take (x .len) (respondOut out′ s settings version mic′ lm′ nt′ domain user workstation key′)))
+    (s : List ℕ) (x : Supplied) (out mic lm nt key : List ℕ) →
+    length (x .out) ≡ length out → length (x .version) ≡ 8 → AsLong (x .mic) (x .lm) (x .nt) (x .key) mic lm nt key →
+    AnsweredAlike (respondTo settings s x) (respondTo settings s (withSecrets x out mic lm nt key))
 
 abbrev pub SecretAnswered : Type 0
 SecretAnswered = (settings : Settings) → SecretAnsweredBy settings

@@ -8,7 +8,7 @@ use mathlib.Core.Logic.{_↔_}
 use mathlib.Core.List.{List}
 use lib.ListN.{length}
 use Rattle.respond.specs.declared.decision.Settings.{Settings}
-use Rattle.respond.specs.Answer.{respondAnswer}
+use Rattle.respond.specs.Answer.{Supplied, respondTo}
 use Rattle.respond.specs.Decision.{defaults, benchSettings, oldServerSettings}
 use Rattle.c_respond.specs.Settings.{settingsOf}
 use Rattle.demands.specs.Message.{challenge, Set}
@@ -51,8 +51,7 @@ HeaderDefaults = settingsOf 0x3 ≡ defaults
 -- all of them, the bench's where its caller says yes, the old-server call none. By 21 none of the three refuses
 abbrev pub ThinCallsRefuse : Type 0
 ThinCallsRefuse =
-    (call : ThinCall) (room clock : ℕ) (s b version mic lm nt domain user workstation key : List ℕ) →
-    length version ≡ 8 → length mic ≡ 16 → InfoBytes s b →
-    (AnswerRefusedWith (respondAnswer room s (goesBy call) clock version mic lm nt domain user workstation key) 20 0 0
+    (call : ThinCall) (s b : List ℕ) (x : Supplied) → length (x .version) ≡ 8 → length (x .mic) ≡ 16 → InfoBytes s b →
+    (AnswerRefusedWith (respondTo (goesBy call) s x .answer) 20 0 0
     ↔ (ChallengeHolds s b × (demands128 call ≡ true) × (Set challenge s 0x20000000 → ⊥)))
-    × ((i p : ℕ) → AnswerRefusedWith (respondAnswer room s (goesBy call) clock version mic lm nt domain user workstation key) 21 i p → ⊥)
+    × ((i p : ℕ) → AnswerRefusedWith (respondTo (goesBy call) s x .answer) 21 i p → ⊥)

@@ -20,7 +20,7 @@ ghost use Rattle.write_nl_auth.specs.Writing.{requestAnswer, requestOut, respon
 ghost use Rattle.http_header.specs.HttpHeader.{exportAnswer, exportOut, importAnswer, importOut};
 ghost use Rattle.explain.specs.Explain.{explanation};
 ghost use Rattle.line.specs.Line.{negotiateLine, authenticateLine, challengeLine, nlAuthLine, ntlmLine, shownLine};
-ghost use Rattle.respond.specs.Answer.{respondAnswer, respondOut};
+ghost use Rattle.respond.specs.Answer.{supplied};
 ghost use Rattle.respond.specs.Decision.{defaults, benchSettings, oldServerSettings, decisionOn};
 ghost use Rattle.respond.specs.Domain.{domainToSend};
 ghost use Rattle.write_response_pairs.specs.ResponsePairs.{writeAnswer as pairsAnswer, writeOut as pairsOut};
@@ -33,7 +33,7 @@ ghost use Rattle.c_mic.specs.Numbers.{micOutcome, checkingNumber};
 ghost use Rattle.mic.specs.Mic.{workOut, checkMic};
 ghost use Rattle.c_pairs.specs.Pairs.{countOutcome, searchOutcome, askedOutcome};
 ghost use Rattle.c_respond.specs.Settings.{settingsOf};
-ghost use Rattle.c_respond.specs.Respond.{decidedOutcome, respondedNumber, respondedNumbers, respondedOut};
+ghost use Rattle.c_respond.specs.Respond.{decidedOutcome, RespondsFromC};
 use batch::Entry;
 use c_number::copy;
 use c_number::line_number;
@@ -149,9 +149,7 @@ pub extern "C" fn dialtable_respond<'a>(
     key: &[u8],
     numbers: &mut [u64],
 ) -> u64
-    ensures answer { λ r. ⌜ r ≡ respondedNumber (respondAnswer (length (now (out .entry))) (now (challenge .entry)) (settingsOf settings) clock (now (version .entry)) (now (mic .entry)) (now (lm .entry)) (now (nt .entry)) (now (domain .entry)) (now (user .entry)) (now (workstation .entry)) (now (key .entry))) (length (now (numbers .entry))) ⌝ }
-    ensures content { λ _. ⌜ now (out .exit) ≡ respondedOut (respondOut (now (out .entry)) (now (challenge .entry)) (settingsOf settings) (now (version .entry)) (now (mic .entry)) (now (lm .entry)) (now (nt .entry)) (now (domain .entry)) (now (user .entry)) (now (workstation .entry)) (now (key .entry))) (length (now (numbers .entry))) (now (out .entry)) ⌝ }
-    ensures beside { λ _. ⌜ now (numbers .exit) ≡ respondedNumbers (respondAnswer (length (now (out .entry))) (now (challenge .entry)) (settingsOf settings) clock (now (version .entry)) (now (mic .entry)) (now (lm .entry)) (now (nt .entry)) (now (domain .entry)) (now (user .entry)) (now (workstation .entry)) (now (key .entry))) (now (numbers .entry)) ⌝ }
+    ensures { λ r. ⌜ RespondsFromC (settingsOf settings) challenge (supplied out clock version mic lm nt domain user workstation key) r out numbers ⌝ }
 {
     c_respond::respond(
         out,
@@ -186,9 +184,7 @@ pub extern "C" fn dialtable_respond_for_bench<'a>(
     key: &[u8],
     numbers: &mut [u64],
 ) -> u64
-    ensures answer { λ r. ⌜ r ≡ respondedNumber (respondAnswer (length (now (out .entry))) (now (challenge .entry)) (benchSettings (not (eqb demand_128 0))) clock (now (version .entry)) (now (mic .entry)) (now (lm .entry)) (now (nt .entry)) (now (domain .entry)) (now (user .entry)) (now (workstation .entry)) (now (key .entry))) (length (now (numbers .entry))) ⌝ }
-    ensures content { λ _. ⌜ now (out .exit) ≡ respondedOut (respondOut (now (out .entry)) (now (challenge .entry)) (benchSettings (not (eqb demand_128 0))) (now (version .entry)) (now (mic .entry)) (now (lm .entry)) (now (nt .entry)) (now (domain .entry)) (now (user .entry)) (now (workstation .entry)) (now (key .entry))) (length (now (numbers .entry))) (now (out .entry)) ⌝ }
-    ensures beside { λ _. ⌜ now (numbers .exit) ≡ respondedNumbers (respondAnswer (length (now (out .entry))) (now (challenge .entry)) (benchSettings (not (eqb demand_128 0))) clock (now (version .entry)) (now (mic .entry)) (now (lm .entry)) (now (nt .entry)) (now (domain .entry)) (now (user .entry)) (now (workstation .entry)) (now (key .entry))) (now (numbers .entry)) ⌝ }
+    ensures { λ r. ⌜ RespondsFromC (benchSettings (not (eqb demand_128 0))) challenge (supplied out clock version mic lm nt domain user workstation key) r out numbers ⌝ }
 {
     c_respond::respond(
         out,
@@ -222,9 +218,7 @@ pub extern "C" fn dialtable_respond_to_old_server<'a>(
     key: &[u8],
     numbers: &mut [u64],
 ) -> u64
-    ensures answer { λ r. ⌜ r ≡ respondedNumber (respondAnswer (length (now (out .entry))) (now (challenge .entry)) oldServerSettings clock (now (version .entry)) (now (mic .entry)) (now (lm .entry)) (now (nt .entry)) (now (domain .entry)) (now (user .entry)) (now (workstation .entry)) (now (key .entry))) (length (now (numbers .entry))) ⌝ }
-    ensures content { λ _. ⌜ now (out .exit) ≡ respondedOut (respondOut (now (out .entry)) (now (challenge .entry)) oldServerSettings (now (version .entry)) (now (mic .entry)) (now (lm .entry)) (now (nt .entry)) (now (domain .entry)) (now (user .entry)) (now (workstation .entry)) (now (key .entry))) (length (now (numbers .entry))) (now (out .entry)) ⌝ }
-    ensures beside { λ _. ⌜ now (numbers .exit) ≡ respondedNumbers (respondAnswer (length (now (out .entry))) (now (challenge .entry)) oldServerSettings clock (now (version .entry)) (now (mic .entry)) (now (lm .entry)) (now (nt .entry)) (now (domain .entry)) (now (user .entry)) (now (workstation .entry)) (now (key .entry))) (now (numbers .entry)) ⌝ }
+    ensures { λ r. ⌜ RespondsFromC oldServerSettings challenge (supplied out clock version mic lm nt domain user workstation key) r out numbers ⌝ }
 {
     c_respond::respond(
         out,
@@ -258,9 +252,7 @@ pub extern "C" fn dialtable_respond_for_relay<'a>(
     key: &[u8],
     numbers: &mut [u64],
 ) -> u64
-    ensures answer { λ r. ⌜ r ≡ respondedNumber (respondAnswer (length (now (out .entry))) (now (challenge .entry)) defaults clock (now (version .entry)) (now (mic .entry)) (now (lm .entry)) (now (nt .entry)) (now (domain .entry)) (now (user .entry)) (now (workstation .entry)) (now (key .entry))) (length (now (numbers .entry))) ⌝ }
-    ensures content { λ _. ⌜ now (out .exit) ≡ respondedOut (respondOut (now (out .entry)) (now (challenge .entry)) defaults (now (version .entry)) (now (mic .entry)) (now (lm .entry)) (now (nt .entry)) (now (domain .entry)) (now (user .entry)) (now (workstation .entry)) (now (key .entry))) (length (now (numbers .entry))) (now (out .entry)) ⌝ }
-    ensures beside { λ _. ⌜ now (numbers .exit) ≡ respondedNumbers (respondAnswer (length (now (out .entry))) (now (challenge .entry)) defaults clock (now (version .entry)) (now (mic .entry)) (now (lm .entry)) (now (nt .entry)) (now (domain .entry)) (now (user .entry)) (now (workstation .entry)) (now (key .entry))) (now (numbers .entry)) ⌝ }
+    ensures { λ r. ⌜ RespondsFromC defaults challenge (supplied out clock version mic lm nt domain user workstation key) r out numbers ⌝ }
 {
     c_respond::respond(
         out,

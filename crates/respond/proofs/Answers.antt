@@ -13,12 +13,19 @@ use Rattle.place.specs.declared.written.Written.{Written}
 use Rattle.place.specs.declared.written.Written.the-variants.{Length, Refused as Unwritten}
 use Rattle.write_authenticate.specs.Writing.{writeAnswer, writeOut}
 use Rattle.target_info.specs.declared.Timestamp.{Timestamp}
+use Rattle.read_challenge.specs.declared.FullReading.{FullReading}
+use Rattle.read_challenge.specs.declared.FullReading.the-variants.{Refused as Unread}
+use Rattle.read_challenge.specs.Challenge.{fullReadingOf, fullRefusal}
 use Rattle.respond.specs.declared.decision.Settings.{Settings}
 use Rattle.respond.specs.declared.decision.Decision.{Decision}
 use Rattle.respond.specs.declared.answer.Answered.{Answered}
 use Rattle.respond.specs.declared.answer.Answered.the-variants.{Sent, Refused}
+use Rattle.respond.specs.declared.decision.Decided.{Decided}
+use Rattle.respond.specs.declared.decision.Decided.the-variants.{Taken, Refused as Declined}
+use Rattle.respond.specs.Decision.{decisionOn, decidedRefusal}
 use Rattle.respond.specs.Domain.{domainToSend}
-use Rattle.respond.specs.Answer.{micDue, timeToSend, lmToSend, micToSend, keyToSend, answerWith, sendAnswer, sendOut, respondAnswer, respondOut}
+use Rattle.respond.specs.Answer.{micDue, timeToSend, lmToSend, micToSend, keyToSend, answerWith, Supplied, Effect, refusing, sending, withDomain, respondTo}
+use Rattle.respond.proofs.Decisions.{undecided, refusal-there}
 
 -- the MIC by whether it was told to be due
 module _ (t : Timestamp) (mic : List ℕ) (b : Bool) (q : b ≡ micDue t) where
@@ -57,41 +64,35 @@ module _ (w : Written) (t : ℕ) (b : Bool) where
   unsent e h = rw h
 
 -- a message of the parts that were chosen
-module _ (settings : Settings) (d : Decision) (v mic lm nt domain user workstation key m l k : List ℕ)
-    (em : m ≡ micToSend (d .timestamp) mic)
-    (el : l ≡ cond (settings .ntlmv2 && micDue (d .timestamp)) (replicate 24 0) lm)
-    (ek : k ≡ keyToSend (d .flags) key) where
-  pub send-answers : (room clock t : ℕ) (b : Bool) (w : Written) (r : Answered) →
-      w ≡ writeAnswer room (d .flags) v m l nt domain user workstation k → t ≡ timeToSend settings (d .timestamp) clock →
-      b ≡ micDue (d .timestamp) → r ≡ answerWith w t b →
-      r ≡ sendAnswer room settings d clock v mic lm nt domain user workstation key
-  unfolding sendAnswer lmToSend
-  send-answers room clock t b w r ew et eb h = h ∙ rw (← em, ← el, ← ek, ← ew, ← et, ← eb)
+pub sends : (settings : Settings) (d : Decision) (x : Supplied) (m l k out : List ℕ) (t : ℕ) (b : Bool) (w : Written) (r : Answered) →
+    m ≡ micToSend (d .timestamp) (x .mic) →
+    l ≡ cond (settings .ntlmv2 && micDue (d .timestamp)) (replicate 24 0) (x .lm) →
+    k ≡ keyToSend (d .flags) (x .key) →
+    w ≡ writeAnswer (length (x .out)) (d .flags) (x .version) m l (x .nt) (x .domain) (x .user) (x .workstation) k →
+    out ≡ writeOut (x .out) (d .flags) (x .version) m l (x .nt) (x .domain) (x .user) (x .workstation) k →
+    t ≡ timeToSend settings (d .timestamp) (x .clock) → b ≡ micDue (d .timestamp) → r ≡ answerWith w t b →
+    record { answer = r; output = out } ≡ sending settings d x
+unfolding sending lmToSend
+sends settings d x m l k out t b w r em el ek ew eo et eb h = rw (h, ew, eo, et, eb, em, el, ek)
 
-  pub send-leaves : (out o : List ℕ) → o ≡ writeOut out (d .flags) v m l nt domain user workstation k →
-      o ≡ sendOut out settings d v mic lm nt domain user workstation key
-  unfolding sendOut lmToSend
-  send-leaves out o h = h ∙ rw (← em, ← el, ← ek)
+-- what comes of a challenge that was not read, of one that was refused, and of one that is answered with the domain to send
+module _ (settings : Settings) (s : List ℕ) (x : Supplied) where
+  pub unread-stops : (r : FullReading) (e d : Refusal) (y : Effect) → y ≡ refusing x d → r ≡ fullReadingOf s → r ≡ Unread e →
+      d ≡ fullRefusal r → y ≡ respondTo settings s x
+  unfolding respondTo
+  unread-stops r e d y z p h q = z ∙ simp (← undecided settings s r e d p h q)
 
--- with the domain to send
-module _ (settings : Settings) (d : Decision) (v mic lm nt own s domain user workstation key : List ℕ) (e : domain ≡ domainToSend own s) where
-  pub of-domain : (room clock : ℕ) (r : Answered) → r ≡ sendAnswer room settings d clock v mic lm nt domain user workstation key →
-      r ≡ sendAnswer room settings d clock v mic lm nt (domainToSend own s) user workstation key
-  of-domain room clock r h = rw (← e) h
+  module _ (r : Decided) (p : r ≡ decisionOn settings s) where
+    pub declined-stops : (e d : Refusal) (y : Effect) → y ≡ refusing x d → r ≡ Declined e → d ≡ decidedRefusal r → y ≡ respondTo settings s x
+    unfolding respondTo
+    declined-stops e d y z h q = z ∙ simp (← p, h, q, ← refusal-there r e h)
 
-  pub out-of-domain : (out o : List ℕ) → o ≡ sendOut out settings d v mic lm nt domain user workstation key →
-      o ≡ sendOut out settings d v mic lm nt (domainToSend own s) user workstation key
-  out-of-domain out o h = rw (← e) h
+    pub answers : (d : Decision) (domain : List ℕ) (y : Effect) → r ≡ Taken d → domain ≡ domainToSend (x .domain) s →
+        y ≡ sending settings d (withDomain domain x) → y ≡ respondTo settings s x
+    unfolding respondTo
+    answers d domain y h e q = q ∙ simp (← p, h, e)
 
 -- with settings that were made, by what they are known to be
-module _ (settings known : Settings) (e : settings ≡ known) (s v mic lm nt domain user workstation key : List ℕ) where
-  pub settled-answers : (room clock : ℕ) (r : Answered) →
-      r ≡ respondAnswer room s settings clock v mic lm nt domain user workstation key →
-      r ≡ respondAnswer room s known clock v mic lm nt domain user workstation key
-  settled-answers room clock r h = rw (← e) h
-
-  pub settled-leaves : (out o : List ℕ) → o ≡ respondOut out s settings v mic lm nt domain user workstation key →
-      o ≡ respondOut out s known v mic lm nt domain user workstation key
-  settled-leaves out o h = rw (← e) h
-
-pub ruleset settled = (settled-answers, settled-leaves)
+pub settled : (settings known : Settings) (s : List ℕ) (x : Supplied) (y : Effect) → settings ≡ known → y ≡ respondTo settings s x →
+    y ≡ respondTo known s x
+settled settings known s x y e h = rw (← e) h

@@ -25,7 +25,7 @@ use Rattle.respond.specs.declared.decision.Settings.{Settings}
 use Rattle.respond.specs.declared.decision.Decision.{Decision}
 use Rattle.respond.specs.declared.decision.Decided.{Decided}
 use Rattle.respond.specs.declared.decision.Decided.the-variants.{Taken as Answerable, Refused}
-use Rattle.respond.specs.Decision.{defaults, benchSettings, strengthHolds, serverNamesHold, decisionOn, onDecided, decidedRefusal}
+use Rattle.respond.specs.Decision.{defaults, benchSettings, strengthHolds, serverNamesHold, decisionOn, decidedRefusal}
 use Rattle.respond.proofs.Domains.{on-taken}
 
 -- the defaults with another word on 128-bit
@@ -73,17 +73,6 @@ pub undecided : (settings : Settings) (s : List ℕ) (r : FullReading) (e d : Re
 unfolding decisionOn
 undecided settings s r e d p h q = simp (← refusal-alone s r p e h, q, ← full-there r e h)
 
--- what follows the decision on a challenge that was not taken
-pub unread-stops : {A : Type 0} (settings : Settings) (s : List ℕ) (f : Refusal → A) (r : FullReading) (e d : Refusal) (x : Decision → A) (y : A) →
-    r ≡ fullReadingOf s → r ≡ Unread e → d ≡ fullRefusal r → y ≡ f d →
-    y ≡ onDecided f (decisionOn settings s) x
-unread-stops settings s f r e d x y p h q z = z ∙ simp (← undecided settings s r e d p h q)
-
--- what follows a challenge that was taken, and one that was refused
-pub with-decided : {A : Type 0} (f : Refusal → A) (k r : Decided) (d : Decision) (x : Decision → A) (y : A) →
-    r ≡ k → r ≡ Answerable d → y ≡ x d → y ≡ onDecided f k x
-with-decided f k r d x y p h q = simp (← p, h) q
-
 -- the refusal of a challenge that was refused, and what stands for that of one that was not
 pub refusal-there : (r : Decided) (e : Refusal) → r ≡ Refused e → e ≡ decidedRefusal r
 unfolding decidedRefusal
@@ -92,7 +81,3 @@ refusal-there r e h = simp h
 pub refusal-none : (r : Decided) (d : Decision) → r ≡ Answerable d → TooLong ≡ decidedRefusal r
 unfolding decidedRefusal
 refusal-none r d h = simp h
-
-pub decision-stops : {A : Type 0} (f : Refusal → A) (k r : Decided) (e d : Refusal) (x : Decision → A) (y : A) →
-    r ≡ k → r ≡ Refused e → d ≡ decidedRefusal r → y ≡ f d → y ≡ onDecided f k x
-decision-stops f k r e d x y p h q z = z ∙ simp (← p, h, q, ← refusal-there r e h)

@@ -2,7 +2,10 @@
 use Prim.Native.Nat.{ℕ}
 use mathlib.Core.Bool.{Bool, true, false, _||_, _&&_, cond}
 use mathlib.Core.List.{List, []}
-use lib.ListN.{replicate}
+use lib.ListN.{length, replicate}
+use denote.Ref.{RefT, now}
+use denote.Triple.Both.{Both}
+use Rattle.wire.specs.declared.refusal.Refusal.{Refusal}
 use Rattle.negotiate_flags.specs.declared.NegotiateFlags.{NegotiateFlags}
 use Rattle.negotiate_flags.specs.Flags.{sign, seal, keyExch}
 use Rattle.place.specs.declared.written.Written.{Written}
@@ -44,28 +47,85 @@ abbrev pub answerWith : Written → ℕ → Bool → Answered
 answerWith (Length n) time due = Sent (record { len = n; time = time; «mic_due» = due })
 answerWith (Unwritten e) time due = Refused e
 
--- a challenge that is answered: flags are the challenge's, the other fields the caller's
-unfoldable pub sendAnswer : ℕ → Settings → Decision → ℕ → List ℕ → List ℕ → List ℕ → List ℕ → List ℕ → List ℕ → List ℕ → List ℕ → Answered
-sendAnswer room settings d clock v mic lm nt domain user workstation key =
-    answerWith
-    (writeAnswer room (d .flags) v (micToSend (d .timestamp) mic) (lmToSend settings (d .timestamp) lm) nt
-    domain user workstation (keyToSend (d .flags) key))
-    (timeToSend settings (d .timestamp) clock)
-    (micDue (d .timestamp))
+-- what the caller supplies: the output, the box's clock, and the fields of AUTHENTICATE
+pub record Supplied : Type 0 where
+  pub out : List ℕ
+  pub clock : ℕ
+  pub version : List ℕ
+  pub mic : List ℕ
+  pub lm : List ℕ
+  pub nt : List ℕ
+  pub domain : List ℕ
+  pub user : List ℕ
+  pub workstation : List ℕ
+  pub key : List ℕ
 
-unfoldable pub sendOut : List ℕ → Settings → Decision → List ℕ → List ℕ → List ℕ → List ℕ → List ℕ → List ℕ → List ℕ → List ℕ → List ℕ
-sendOut out settings d v mic lm nt domain user workstation key =
-    writeOut out (d .flags) v (micToSend (d .timestamp) mic) (lmToSend settings (d .timestamp) lm) nt
-    domain user workstation (keyToSend (d .flags) key)
+-- what comes of it: the answer, and the output afterwards
+pub record Effect : Type 0 where
+  pub answer : Answered
+  pub output : List ℕ
+
+-- a refusal leaves the output as it was
+abbrev pub refusing : Supplied → Refusal → Effect
+refusing x e = record { answer = Refused e; output = x .out }
+
+-- a challenge that is answered: flags are the challenge's, the other fields the caller's
+unfoldable pub sending : Settings → Decision → Supplied → Effect
+sending settings d x =
+    record {
+      answer =
+          answerWith
+          (writeAnswer (length (x .out)) (d .flags) (x .version) (micToSend (d .timestamp) (x .mic)) (lmToSend settings (d .timestamp) (x .lm))
+          (x .nt) (x .domain) (x .user) (x .workstation) (keyToSend (d .flags) (x .key)))
+          (timeToSend settings (d .timestamp) (x .clock))
+          (micDue (d .timestamp));
+      output =
+          writeOut (x .out) (d .flags) (x .version) (micToSend (d .timestamp) (x .mic)) (lmToSend settings (d .timestamp) (x .lm))
+          (x .nt) (x .domain) (x .user) (x .workstation) (keyToSend (d .flags) (x .key));
+    }
+
+-- the same with another domain
+abbrev pub withDomain : List ℕ → Supplied → Supplied
+withDomain domain x =
+    record {
+      out = x .out;
+      clock = x .clock;
+      version = x .version;
+      mic = x .mic;
+      lm = x .lm;
+      nt = x .nt;
+      domain = domain;
+      user = x .user;
+      workstation = x .workstation;
+      key = x .key;
+    }
 
 -- reading, 20, 21, then writing with the domain to send
-unfoldable pub respondAnswer : ℕ → List ℕ → Settings → ℕ → List ℕ → List ℕ → List ℕ → List ℕ → List ℕ → List ℕ → List ℕ → List ℕ → Answered
-respondAnswer room s settings clock v mic lm nt domain user workstation key =
-    onDecided Refused (decisionOn settings s) (λ d.
-    sendAnswer room settings d clock v mic lm nt (domainToSend domain s) user workstation key)
+unfoldable pub respondTo : Settings → List ℕ → Supplied → Effect
+respondTo settings s x =
+    onDecided (refusing x) (decisionOn settings s) (λ d. sending settings d (withDomain (domainToSend (x .domain) s) x))
 
--- the output afterwards, as it was where the call is refused
-unfoldable pub respondOut : List ℕ → List ℕ → Settings → List ℕ → List ℕ → List ℕ → List ℕ → List ℕ → List ℕ → List ℕ → List ℕ → List ℕ
-respondOut out s settings v mic lm nt domain user workstation key =
-    onDecided (λ e. out) (decisionOn settings s) (λ d.
-    sendOut out settings d v mic lm nt (domainToSend domain s) user workstation key)
+-- ---- the parameters of a call
+
+-- a slice or an array that is lent: at entry, and at exit
+abbrev pub LentSlice : Type 0
+LentSlice = Both (RefT (List ℕ)) (RefT (List ℕ))
+
+abbrev pub supplied : LentSlice → ℕ → LentSlice → LentSlice → LentSlice → LentSlice → LentSlice → LentSlice → LentSlice → LentSlice → Supplied
+supplied out clock version mic lm nt domain user workstation key =
+    record {
+      out = now (out .entry);
+      clock = clock;
+      version = now (version .entry);
+      mic = now (mic .entry);
+      lm = now (lm .entry);
+      nt = now (nt .entry);
+      domain = now (domain .entry);
+      user = now (user .entry);
+      workstation = now (workstation .entry);
+      key = now (key .entry);
+    }
+
+-- an answer, with what then lies in the output
+abbrev pub effect : Answered → LentSlice → Effect
+effect answer out = record { answer = answer; output = now (out .exit) }

@@ -1,8 +1,7 @@
 // Answering a challenge: what is written, Time, and whether a MIC is due.
 ghost use mathlib.Core.Path.{_≡_};
 ghost use mathlib.Core.Bool.{_&&_, cond};
-ghost use lib.ListN.{length};
-ghost use Rattle.respond.specs.Answer.{micDue, timeToSend, micToSend, keyToSend, answerWith, sendAnswer, sendOut, respondAnswer, respondOut};
+ghost use Rattle.respond.specs.Answer.{micDue, timeToSend, micToSend, keyToSend, answerWith, sending, respondTo, supplied, effect};
 use crate::decision::Decided;
 use crate::decision::Decision;
 use crate::decision::Settings;
@@ -113,8 +112,7 @@ fn send(
     workstation: &[u8],
     key: &[u8],
 ) -> Answered
-    ensures answer { λ r. ⌜ r ≡ sendAnswer (length (now (out .entry))) settings d clock (now (version .entry)) (now (mic .entry)) (now (lm .entry)) (now (nt .entry)) (now (domain .entry)) (now (user .entry)) (now (workstation .entry)) (now (key .entry)) ⌝ }
-    ensures content { λ _. ⌜ now (out .exit) ≡ sendOut (now (out .entry)) settings d (now (version .entry)) (now (mic .entry)) (now (lm .entry)) (now (nt .entry)) (now (domain .entry)) (now (user .entry)) (now (workstation .entry)) (now (key .entry)) ⌝ }
+    ensures { λ r. ⌜ effect r out ≡ sending settings d (supplied out clock version mic lm nt domain user workstation key) ⌝ }
 {
     let flags = d.flags;
     let timestamp = d.timestamp;
@@ -153,8 +151,7 @@ pub fn respond<'a>(
     workstation: &[u8],
     key: &[u8],
 ) -> Answered
-    ensures answer { λ r. ⌜ r ≡ respondAnswer (length (now (out .entry))) (now (challenge .entry)) settings clock (now (version .entry)) (now (mic .entry)) (now (lm .entry)) (now (nt .entry)) (now (domain .entry)) (now (user .entry)) (now (workstation .entry)) (now (key .entry)) ⌝ }
-    ensures content { λ _. ⌜ now (out .exit) ≡ respondOut (now (out .entry)) (now (challenge .entry)) settings (now (version .entry)) (now (mic .entry)) (now (lm .entry)) (now (nt .entry)) (now (domain .entry)) (now (user .entry)) (now (workstation .entry)) (now (key .entry)) ⌝ }
+    ensures { λ r. ⌜ effect r out ≡ respondTo settings (now (challenge .entry)) (supplied out clock version mic lm nt domain user workstation key) ⌝ }
 {
     let reading = read_full(challenge);
     let FullReading::Taken(f) = reading else {

@@ -1,8 +1,7 @@
 // Answering a challenge by settings that the caller doesn't give whole: the defaults, but for 128-bit.
 ghost use mathlib.Core.Path.{_≡_};
-ghost use lib.ListN.{length};
 ghost use Rattle.respond.specs.Decision.{defaults, benchSettings, oldServerSettings};
-ghost use Rattle.respond.specs.Answer.{respondAnswer, respondOut};
+ghost use Rattle.respond.specs.Answer.{respondTo, supplied, effect};
 use crate::answer::Answered;
 use crate::answer::respond;
 use crate::decision::Settings;
@@ -22,8 +21,7 @@ pub fn respond_for_bench<'a>(
     workstation: &[u8],
     key: &[u8],
 ) -> Answered
-    ensures answer { λ r. ⌜ r ≡ respondAnswer (length (now (out .entry))) (now (challenge .entry)) (benchSettings demand_128) clock (now (version .entry)) (now (mic .entry)) (now (lm .entry)) (now (nt .entry)) (now (domain .entry)) (now (user .entry)) (now (workstation .entry)) (now (key .entry)) ⌝ }
-    ensures content { λ _. ⌜ now (out .exit) ≡ respondOut (now (out .entry)) (now (challenge .entry)) (benchSettings demand_128) (now (version .entry)) (now (mic .entry)) (now (lm .entry)) (now (nt .entry)) (now (domain .entry)) (now (user .entry)) (now (workstation .entry)) (now (key .entry)) ⌝ }
+    ensures { λ r. ⌜ effect r out ≡ respondTo (benchSettings demand_128) (now (challenge .entry)) (supplied out clock version mic lm nt domain user workstation key) ⌝ }
 {
     let settings = Settings::for_bench(demand_128);
     respond(
@@ -56,8 +54,7 @@ pub fn respond_to_old_server<'a>(
     workstation: &[u8],
     key: &[u8],
 ) -> Answered
-    ensures answer { λ r. ⌜ r ≡ respondAnswer (length (now (out .entry))) (now (challenge .entry)) oldServerSettings clock (now (version .entry)) (now (mic .entry)) (now (lm .entry)) (now (nt .entry)) (now (domain .entry)) (now (user .entry)) (now (workstation .entry)) (now (key .entry)) ⌝ }
-    ensures content { λ _. ⌜ now (out .exit) ≡ respondOut (now (out .entry)) (now (challenge .entry)) oldServerSettings (now (version .entry)) (now (mic .entry)) (now (lm .entry)) (now (nt .entry)) (now (domain .entry)) (now (user .entry)) (now (workstation .entry)) (now (key .entry)) ⌝ }
+    ensures { λ r. ⌜ effect r out ≡ respondTo oldServerSettings (now (challenge .entry)) (supplied out clock version mic lm nt domain user workstation key) ⌝ }
 {
     let settings = Settings::for_old_server();
     respond(
@@ -90,8 +87,7 @@ pub fn respond_for_relay<'a>(
     workstation: &[u8],
     key: &[u8],
 ) -> Answered
-    ensures answer { λ r. ⌜ r ≡ respondAnswer (length (now (out .entry))) (now (challenge .entry)) defaults clock (now (version .entry)) (now (mic .entry)) (now (lm .entry)) (now (nt .entry)) (now (domain .entry)) (now (user .entry)) (now (workstation .entry)) (now (key .entry)) ⌝ }
-    ensures content { λ _. ⌜ now (out .exit) ≡ respondOut (now (out .entry)) (now (challenge .entry)) defaults (now (version .entry)) (now (mic .entry)) (now (lm .entry)) (now (nt .entry)) (now (domain .entry)) (now (user .entry)) (now (workstation .entry)) (now (key .entry)) ⌝ }
+    ensures { λ r. ⌜ effect r out ≡ respondTo defaults (now (challenge .entry)) (supplied out clock version mic lm nt domain user workstation key) ⌝ }
 {
     let settings = Settings::defaults();
     respond(

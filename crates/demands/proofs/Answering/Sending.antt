@@ -19,7 +19,7 @@ use Rattle.head.specs.Head.{flagsAt}
 use Rattle.target_info.specs.declared.Timestamp.{Timestamp}
 use Rattle.target_info.specs.declared.Timestamp.the-variants.{Time, Nothing}
 use Rattle.respond.specs.declared.decision.Settings.{Settings}
-use Rattle.respond.specs.Answer.{micDue, timeToSend, lmToSend, micToSend, keyToSend}
+use Rattle.respond.specs.Answer.{Supplied, micDue, timeToSend, lmToSend, micToSend, keyToSend}
 use Rattle.respond.specs.Domain.{Part, onFound, domainPart, domainToSend}
 use Rattle.target_info.specs.TargetInfo.{firstBy, timestampIn}
 use Rattle.demands.specs.Message.{challenge, Set}
@@ -88,42 +88,42 @@ time-else settings b clock not-so = go (timestampIn b) (settings .ntlmv2) refl (
   go Nothing v e p = refl
 
 -- ---- what is sent is what the definitions make
-module _ (settings : Settings) (s b : List ℕ) (clock : ℕ) (mic lm domain key : List ℕ) (x : ToSend settings s b clock mic lm domain key) where
-  pub mic-is : x .mic-sent ≡ micToSend (timestampIn b) mic
+module _ (settings : Settings) (s b : List ℕ) (g : Supplied) (x : ToSend settings s b g) where
+  pub mic-is : x .mic-sent ≡ micToSend (timestampIn b) (g .mic)
   unfolding micToSend
-  mic-is = chosen (micDue (timestampIn b)) mic (replicate 16 0) (x .mic-sent) (due-is b) (x .mic-due) (x .zero-mic)
+  mic-is = chosen (micDue (timestampIn b)) (g .mic) (replicate 16 0) (x .mic-sent) (due-is b) (x .mic-due) (x .zero-mic)
 
-  pub lm-is : x .lm-sent ≡ lmToSend settings (timestampIn b) lm
+  pub lm-is : x .lm-sent ≡ lmToSend settings (timestampIn b) (g .lm)
   unfolding lmToSend
-  lm-is = chosen (settings .ntlmv2 && micDue (timestampIn b)) (replicate 24 0) lm (x .lm-sent) (stamped settings b) (x .zero-lm) (x .our-lm)
+  lm-is = chosen (settings .ntlmv2 && micDue (timestampIn b)) (replicate 24 0) (g .lm) (x .lm-sent) (stamped settings b) (x .zero-lm) (x .our-lm)
 
-  pub key-is : x .key-sent ≡ keyToSend (flagsAt s 20) key
+  pub key-is : x .key-sent ≡ keyToSend (flagsAt s 20) (g .key)
   unfolding keyToSend
-  key-is = chosen (keyExch (flagsAt s 20) && (sign (flagsAt s 20) || seal (flagsAt s 20))) key [] (x .key-sent) (key-counts s) (x .our-key) (x .no-key)
+  key-is = chosen (keyExch (flagsAt s 20) && (sign (flagsAt s 20) || seal (flagsAt s 20))) (g .key) [] (x .key-sent) (key-counts s) (x .our-key) (x .no-key)
 
-  pub time-is : x .time ≡ timeToSend settings (timestampIn b) clock
+  pub time-is : x .time ≡ timeToSend settings (timestampIn b) (g .clock)
   time-is = go (settings .ntlmv2 && micDue (timestampIn b)) refl where
-    go : (t : Bool) → (settings .ntlmv2 && micDue (timestampIn b)) ≡ t → x .time ≡ timeToSend settings (timestampIn b) clock
+    go : (t : Bool) → (settings .ntlmv2 && micDue (timestampIn b)) ≡ t → x .time ≡ timeToSend settings (timestampIn b) (g .clock)
     go true e =
         let p = stamped settings b .0 e in
-        x .their-time (p .0) (p .1 .0) (p .1 .1) ∙ sym (time-of settings b clock (p .1 .0) (p .0) (p .1 .1))
+        x .their-time (p .0) (p .1 .0) (p .1 .1) ∙ sym (time-of settings b (g .clock) (p .1 .0) (p .0) (p .1 .1))
     go false e =
         let not-so : Stamped settings b → ⊥ = λ h. both-ways _ (stamped settings b .1 h) e in
-        x .our-time not-so ∙ sym (time-else settings b clock not-so)
+        x .our-time not-so ∙ sym (time-else settings b (g .clock) not-so)
 
-  pub domain-is : InfoBytes s b → ChallengeHolds s b → x .domain-sent ≡ domainToSend domain s
-  domain-is info holds = go (eqb (length domain) 0) refl where
+  pub domain-is : InfoBytes s b → ChallengeHolds s b → x .domain-sent ≡ domainToSend (g .domain) s
+  domain-is info holds = go (eqb (length (g .domain)) 0) refl where
     bytes-of : Part → List ℕ
     bytes-of p = p .bytes
 
-    empty : length domain ≡ 0 → Judged s b info domain (domainPart domain s) → x .domain-sent ≡ domainToSend domain s
+    empty : length (g .domain) ≡ 0 → Judged s b info (g .domain) (domainPart (g .domain) s) → x .domain-sent ≡ domainToSend (g .domain) s
     empty z (inl t) = x .their-domain z (t .4) (t .0) (t .1) ∙ sym (ap bytes-of (t .2))
-    empty z (inr t) = x .no-domain z (λ h. t .0 holds (h .0) (h .1)) ∙ sym (none-of domain z) ∙ sym (ap bytes-of (t .1))
+    empty z (inr t) = x .no-domain z (λ h. t .0 holds (h .0) (h .1)) ∙ sym (none-of (g .domain) z) ∙ sym (ap bytes-of (t .1))
 
-    go : (t : Bool) → eqb (length domain) 0 ≡ t → x .domain-sent ≡ domainToSend domain s
-    go true p = let z = eqb-true (length domain) 0 p in empty z (domain-judged s b info domain z)
-    go false p = let l = some (eqb-false (length domain) 0 p) in x .our-domain l ∙ sym (ap bytes-of (domain-given s b info domain l)) where
-      some : (length domain ≡ 0 → ⊥) → 0 < length domain
+    go : (t : Bool) → eqb (length (g .domain)) 0 ≡ t → x .domain-sent ≡ domainToSend (g .domain) s
+    go true p = let z = eqb-true (length (g .domain)) 0 p in empty z (domain-judged s b info (g .domain) z)
+    go false p = let l = some (eqb-false (length (g .domain)) 0 p) in x .our-domain l ∙ sym (ap bytes-of (domain-given s b info (g .domain) l)) where
+      some : (length (g .domain) ≡ 0 → ⊥) → 0 < length (g .domain)
       some d = omega (arith, d)
 
 -- ---- and there is such a thing
@@ -153,22 +153,22 @@ module _ (s b : List ℕ) where
 
 pub something-to-send : SomethingToSend
 unfolding micToSend lmToSend keyToSend
-something-to-send settings s b clock mic lm domain key =
+something-to-send settings s b g =
     record {
-      time = timeToSend settings (timestampIn b) clock;
-      mic-sent = micToSend (timestampIn b) mic;
-      lm-sent = lmToSend settings (timestampIn b) lm;
-      domain-sent = cond (eqb (length domain) 0) (theirs s b) domain;
-      key-sent = keyToSend (flagsAt s 20) key;
-      their-time = λ v place first. time-of settings b clock place v first;
-      our-time = time-else settings b clock;
-      zero-lm = choice-true _ (replicate 24 0) lm (stamped settings b);
-      our-lm = choice-false _ (replicate 24 0) lm (stamped settings b);
-      mic-due = choice-true _ mic (replicate 16 0) (due-is b);
-      zero-mic = choice-false _ mic (replicate 16 0) (due-is b);
-      our-key = choice-true _ key [] (key-counts s);
-      no-key = choice-false _ key [] (key-counts s);
-      our-domain = λ l. simp (ne-eqb (length domain) 0 (λ e. omega arith));
-      their-domain = λ z set place first. simp (eq-eqb (length domain) 0 z) (theirs-is s b set place first);
-      no-domain = λ z not-so. simp (eq-eqb (length domain) 0 z) (theirs-none s b not-so);
+      time = timeToSend settings (timestampIn b) (g .clock);
+      mic-sent = micToSend (timestampIn b) (g .mic);
+      lm-sent = lmToSend settings (timestampIn b) (g .lm);
+      domain-sent = cond (eqb (length (g .domain)) 0) (theirs s b) (g .domain);
+      key-sent = keyToSend (flagsAt s 20) (g .key);
+      their-time = λ v place first. time-of settings b (g .clock) place v first;
+      our-time = time-else settings b (g .clock);
+      zero-lm = choice-true _ (replicate 24 0) (g .lm) (stamped settings b);
+      our-lm = choice-false _ (replicate 24 0) (g .lm) (stamped settings b);
+      mic-due = choice-true _ (g .mic) (replicate 16 0) (due-is b);
+      zero-mic = choice-false _ (g .mic) (replicate 16 0) (due-is b);
+      our-key = choice-true _ (g .key) [] (key-counts s);
+      no-key = choice-false _ (g .key) [] (key-counts s);
+      our-domain = λ l. simp (ne-eqb (length (g .domain)) 0 (λ e. omega arith));
+      their-domain = λ z set place first. simp (eq-eqb (length (g .domain)) 0 z) (theirs-is s b set place first);
+      no-domain = λ z not-so. simp (eq-eqb (length (g .domain)) 0 z) (theirs-none s b not-so);
     }

@@ -13,10 +13,9 @@ use Rattle.av_pairs.specs.AvPairs.{pairsOf}
 use Rattle.field.specs.Field.{fieldStart}
 use Rattle.read_challenge.specs.declared.Challenge.{Challenge}
 use Rattle.read_challenge.specs.Challenge.{readingOf, onTaken, infoOf}
-use Rattle.respond.specs.declared.answer.Answered.the-variants.{Refused as Unanswered}
 use Rattle.respond.specs.declared.decision.Decided.{Decided}
 use Rattle.respond.specs.declared.decision.Decided.the-variants.{Taken, Refused}
-use Rattle.respond.specs.Answer.{sendAnswer, sendOut, respondAnswer, respondOut}
+use Rattle.respond.specs.Answer.{refusing, sending, withDomain, respondTo}
 use Rattle.respond.specs.Decision.{decisionOn, onDecided, strengthHolds, serverNamesHold}
 use Rattle.respond.specs.Domain.{Part, ownPart, onFound, domainPart, domainToSend}
 use Rattle.target_info.specs.TargetInfo.{firstBy, timestampIn, serverNamesIn}
@@ -54,20 +53,10 @@ domain-ignored own s t d =
     ∙ ap (λ (n : ℕ). onTaken (λ e. ownPart own) (readingOf t) (λ c. part-of own n c (infoOf t c))) (d .length-same))
 
 pub respond-ignored : RespondIgnored
-unfolding respondAnswer respondOut
-respond-ignored settings s t d =
-    record {
-      answer = λ room clock v mic lm nt domain user workstation key.
-          ap (λ (x : Decided). onDecided Unanswered x (λ y. sendAnswer room settings y clock v mic lm nt (domainToSend domain s) user workstation key))
-          (decision-ignored settings s t d)
-          ∙ ap (λ (p : Part). onDecided Unanswered (decisionOn settings t) (λ y. sendAnswer room settings y clock v mic lm nt (p .bytes) user workstation key))
-          (domain-ignored domain s t d);
-      output = λ out v mic lm nt domain user workstation key.
-          ap (λ (x : Decided). onDecided (λ e. out) x (λ y. sendOut out settings y v mic lm nt (domainToSend domain s) user workstation key))
-          (decision-ignored settings s t d)
-          ∙ ap (λ (p : Part). onDecided (λ e. out) (decisionOn settings t) (λ y. sendOut out settings y v mic lm nt (p .bytes) user workstation key))
-          (domain-ignored domain s t d);
-    }
+unfolding respondTo
+respond-ignored settings s t d x =
+    ap (λ (y : Decided). onDecided (refusing x) y (λ z. sending settings z (withDomain (domainToSend (x .domain) s) x))) (decision-ignored settings s t d)
+    ∙ ap (λ (p : Part). onDecided (refusing x) (decisionOn settings t) (λ z. sending settings z (withDomain (p .bytes) x))) (domain-ignored (x .domain) s t d)
 
 pub thin-calls-ignored : ThinCallsIgnored
 thin-calls-ignored call s t d = respond-ignored (goesBy call) s t d

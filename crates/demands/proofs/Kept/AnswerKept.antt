@@ -21,7 +21,7 @@ use Rattle.target_info.specs.declared.Timestamp.{Timestamp}
 use Rattle.respond.specs.declared.answer.Answered.the-variants.{Refused}
 use Rattle.respond.specs.declared.decision.Decided.{Decided}
 use Rattle.respond.specs.declared.decision.Decided.the-variants.{Taken as Decides, Refused as Declines}
-use Rattle.respond.specs.Answer.{micDue, timeToSend, lmToSend, micToSend, keyToSend, answerWith, sendAnswer, sendOut, respondAnswer, respondOut}
+use Rattle.respond.specs.Answer.{micDue, timeToSend, lmToSend, micToSend, keyToSend, answerWith, Effect, refusing, sending, withDomain, respondTo}
 use Rattle.respond.specs.Decision.{decisionOn, onDecided}
 use Rattle.respond.specs.Domain.{domainToSend}
 use Rattle.demands.specs.Kept.{Kept, KeptAnswer, AuthenticateKept, RespondKept}
@@ -70,19 +70,23 @@ mic-long t mic h = go (micDue t) where
   go false = refl
 
 pub respond-kept : RespondKept
-unfolding respondAnswer respondOut sendAnswer sendOut
-respond-kept out s v mic lm nt dom usr wks key settings clock v8 m16 = go (decisionOn settings s) where
-  go : (d : Decided) →
-      KeptAnswer (onDecided Refused d (λ x. sendAnswer (length out) settings x clock v mic lm nt (domainToSend dom s) usr wks key)) out
-      (onDecided (λ e. out) d (λ x. sendOut out settings x v mic lm nt (domainToSend dom s) usr wks key))
+unfolding respondTo sending
+respond-kept settings s x v8 m16 = go (decisionOn settings s) where
+  dom : List ℕ
+  dom = domainToSend (x .domain) s
+
+  effect : Decided → Effect
+  effect d = onDecided (refusing x) d (λ z. sending settings z (withDomain dom x))
+
+  go : (d : Decided) → KeptAnswer (effect d .answer) (x .out) (effect d .output)
   go (Decides d) =
-      as-answer (writeAnswer (length out) (d .flags) v (micToSend (d .timestamp) mic) (lmToSend settings (d .timestamp) lm) nt (domainToSend dom s) usr wks (keyToSend (d .flags) key))
-      (timeToSend settings (d .timestamp) clock) (micDue (d .timestamp)) out
-      (writeOut out (d .flags) v (micToSend (d .timestamp) mic) (lmToSend settings (d .timestamp) lm) nt (domainToSend dom s) usr wks (keyToSend (d .flags) key))
-      (authenticate-kept out (d .flags) v (micToSend (d .timestamp) mic) (lmToSend settings (d .timestamp) lm) nt (domainToSend dom s) usr wks (keyToSend (d .flags) key) v8 (mic-long (d .timestamp) mic m16))
+      as-answer (writeAnswer (length (x .out)) (d .flags) (x .version) (micToSend (d .timestamp) (x .mic)) (lmToSend settings (d .timestamp) (x .lm)) (x .nt) dom (x .user) (x .workstation) (keyToSend (d .flags) (x .key)))
+      (timeToSend settings (d .timestamp) (x .clock)) (micDue (d .timestamp)) (x .out)
+      (writeOut (x .out) (d .flags) (x .version) (micToSend (d .timestamp) (x .mic)) (lmToSend settings (d .timestamp) (x .lm)) (x .nt) dom (x .user) (x .workstation) (keyToSend (d .flags) (x .key)))
+      (authenticate-kept (x .out) (d .flags) (x .version) (micToSend (d .timestamp) (x .mic)) (lmToSend settings (d .timestamp) (x .lm)) (x .nt) dom (x .user) (x .workstation) (keyToSend (d .flags) (x .key)) v8 (mic-long (d .timestamp) (x .mic) m16))
   go (Declines e) =
       record {
         refused = λ f h. refl;
-        same-length = λ x h. absurd (let z : _≡_ {A = ℕ} 0 1 = cc in omega arith);
-        rest = λ x h. absurd (let z : _≡_ {A = ℕ} 0 1 = cc in omega arith);
+        same-length = λ y h. absurd (let z : _≡_ {A = ℕ} 0 1 = cc in omega arith);
+        rest = λ y h. absurd (let z : _≡_ {A = ℕ} 0 1 = cc in omega arith);
       }

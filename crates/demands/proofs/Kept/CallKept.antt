@@ -12,10 +12,10 @@ use Rattle.wire.specs.declared.refusal.Refusal.the-variants.{NoRoom}
 use Rattle.wire.specs.Check.{checked, after}
 use Rattle.respond.specs.declared.answer.Answered.{Answered}
 use Rattle.respond.specs.declared.answer.Answered.the-variants.{Refused}
-use Rattle.respond.specs.Answer.{respondAnswer, respondOut}
+use Rattle.respond.specs.Answer.{respondTo}
 use Rattle.c_number.specs.Number.{refusalNumber, bit}
 use Rattle.c_number.specs.Outcome.{Outcome, numbers, refused, outcomeNumber, outcomeOut, outcomeBytes, callNumber, callOut, twoArrayNumber, twoArrayOut, twoArrayBytes}
-use Rattle.c_respond.specs.Respond.{answeredOut, respondedNumber, respondedNumbers, respondedOut}
+use Rattle.c_respond.specs.Respond.{EffectFromC, numbered, respondFromC}
 use Rattle.demands.specs.Kept.{CallKept, TwoArraysKept, KeptAnswer, RespondedKept}
 use Rattle.demands.proofs.Kept.AnswerKept.{respond-kept}
 use Rattle.demands.proofs.Kept.CallFront.{at-front}
@@ -41,40 +41,49 @@ beside-kept n m h bytes out beside = go (leb n (length out) && leb m (length bes
   go false h = inr (refl, refl)
 
 pub responded-kept : RespondedKept
-unfolding respondedNumber respondedNumbers respondedOut
-responded-kept xs out s v mic lm nt domain user workstation key settings clock v8 m16 =
+unfolding respondFromC
+responded-kept settings s x xs v8 m16 =
     record {
       short = λ l. by-room (leb 2 (length xs)) (lt-leb 2 (length xs) l) a sent;
       refused = λ e h. by-answer (leb 2 (length xs)) a sent e h (kept .refused e h);
-      number = λ x h l. rw (h, le-leb 2 (length xs) l);
-      front = λ x h l. rw (h, le-leb 2 (length xs) l) (at-front (x .time ∷ bit (x .«mic_due») ∷ []) xs l);
-      same-length = λ x h. by-length (leb 2 (length xs)) (kept .same-length x h);
-      rest = λ x h. by-rest (leb 2 (length xs)) (x .len) (kept .rest x h);
+      number = λ y h l. rw (le-leb 2 (length xs) l, h);
+      front = λ y h l. rw (le-leb 2 (length xs) l, h) (at-front (y .time ∷ bit (y .«mic_due») ∷ []) xs l);
+      same-length = λ y h. by-length (leb 2 (length xs)) (kept .same-length y h);
+      rest = λ y h. by-rest (leb 2 (length xs)) (y .len) (kept .rest y h);
     }
   where
     a : Answered
-    a = respondAnswer (length out) s settings clock v mic lm nt domain user workstation key
+    a = respondTo settings s x .answer
+
+    out : List ℕ
+    out = x .out
 
     sent : List ℕ
-    sent = respondOut out s settings v mic lm nt domain user workstation key
+    sent = respondTo settings s x .output
 
     kept : KeptAnswer a out sent
-    kept = respond-kept out s v mic lm nt domain user workstation key settings clock v8 m16
+    kept = respond-kept settings s x v8 m16
+
+    -- what comes of a call, by whether its array has its room
+    whole : Bool → Answered → List ℕ → EffectFromC
+    whole t b l =
+        after (checked t) (record { number = refusalNumber NoRoom; output = out; numbers = xs })
+        (numbered (record { answer = b; output = l }) xs)
 
     by-room : (t : Bool) → t ≡ false → (b : Answered) (l : List ℕ) →
-        (after (checked t) xs (answeredOut b xs) ≡ xs) × (after (checked t) out l ≡ out)
+        (whole t b l .numbers ≡ xs) × (whole t b l .output ≡ out)
     by-room true p b l = absurd (true-not-false p)
     by-room false p b l = (refl, refl)
 
-    by-length : (t : Bool) → length sent ≡ length out → length (after (checked t) out sent) ≡ length out
+    by-length : (t : Bool) → length sent ≡ length out → length (whole t a sent .output) ≡ length out
     by-length true e = e
     by-length false e = refl
 
-    by-rest : (t : Bool) (n : ℕ) → drop n sent ≡ drop n out → drop n (after (checked t) out sent) ≡ drop n out
+    by-rest : (t : Bool) (n : ℕ) → drop n sent ≡ drop n out → drop n (whole t a sent .output) ≡ drop n out
     by-rest true n e = e
     by-rest false n e = refl
 
     by-answer : (t : Bool) (b : Answered) (l : List ℕ) (e : Refusal) → b ≡ Refused e → l ≡ out →
-        (after (checked t) xs (answeredOut b xs) ≡ xs) × (after (checked t) out l ≡ out)
+        (whole t b l .numbers ≡ xs) × (whole t b l .output ≡ out)
     by-answer true b l e h k = (rw h refl, k)
     by-answer false b l e h k = (refl, refl)

@@ -20,10 +20,10 @@ use Rattle.respond.specs.declared.decision.Decided.{Decided}
 use Rattle.respond.specs.declared.decision.Decided.the-variants.{Taken as Decides, Refused as Declines}
 use Rattle.respond.specs.declared.decision.Decision.{Decision}
 use Rattle.respond.specs.declared.decision.Settings.{Settings}
-use Rattle.respond.specs.Answer.{micDue, timeToSend, lmToSend, micToSend, keyToSend, answerWith, sendAnswer, sendOut, respondAnswer, respondOut}
+use Rattle.respond.specs.Answer.{micDue, timeToSend, lmToSend, micToSend, keyToSend, answerWith, Supplied, Effect, refusing, sending, withDomain, respondTo}
 use Rattle.respond.specs.Decision.{decisionOn, onDecided}
 use Rattle.respond.specs.Domain.{domainToSend}
-use Rattle.demands.specs.Secret.{AsLong, AlikeOutside, SecretAnswered, ThinCallsSecret}
+use Rattle.demands.specs.Secret.{AsLong, AlikeOutside, withSecrets, AnsweredAlike, SecretAnswered, ThinCallsSecret}
 use Rattle.demands.specs.ThinCalls.{goesBy}
 use Rattle.demands.proofs.ReadBack.{written-is}
 use Rattle.demands.proofs.ReadBack.WriteBack.{messages-alike, key-held}
@@ -97,24 +97,29 @@ sent-written (Length n) time due x h = ap Length (ap len h) where
 sent-written (Unwritten e) time due x h = absurd (let z : _≡_ {A = ℕ} 0 1 = cc in omega arith)
 
 pub secret-answered : SecretAnswered
-unfolding respondAnswer respondOut sendAnswer sendOut
-secret-answered settings out out′ s v dom usr wks clock mic lm nt key mic′ lm′ nt′ key′ rooms v8 same = go (decisionOn settings s) where
-  go : (d : Decided) →
-      (onDecided Refused d (λ x. sendAnswer (length out) settings x clock v mic lm nt (domainToSend dom s) usr wks key)
-      ≡ onDecided Refused d (λ x. sendAnswer (length out′) settings x clock v mic′ lm′ nt′ (domainToSend dom s) usr wks key′))
-      × ((x : Answer) → onDecided Refused d (λ y. sendAnswer (length out) settings y clock v mic lm nt (domainToSend dom s) usr wks key) ≡ Sent x →
-      AlikeOutside (take (x .len) (onDecided (λ e. out) d (λ y. sendOut out settings y v mic lm nt (domainToSend dom s) usr wks key)))
-      (take (x .len) (onDecided (λ e. out′) d (λ y. sendOut out′ settings y v mic′ lm′ nt′ (domainToSend dom s) usr wks key′))))
+unfolding respondTo sending
+secret-answered settings s x out mic lm nt key rooms v8 same = go (decisionOn settings s) where
+  dom : List ℕ
+  dom = domainToSend (x .domain) s
+
+  effect : Decided → Supplied → Effect
+  effect d y = onDecided (refusing y) d (λ z. sending settings z (withDomain dom y))
+
+  go : (d : Decided) → AnsweredAlike (effect d x) (effect d (withSecrets x out mic lm nt key))
   go (Decides d) =
-      let as-long = sent-long settings d mic lm nt key mic′ lm′ nt′ key′ same in
-      let ts = d .timestamp in (
-        ap (λ (r : Written). answerWith r (timeToSend settings ts clock) (micDue ts))
-            (write-same (length out) (length out′) rooms (d .flags) v (domainToSend dom s) usr wks (micToSend ts mic) (lmToSend settings ts lm) nt (keyToSend (d .flags) key) (micToSend ts mic′) (lmToSend settings ts lm′) nt′ (keyToSend (d .flags) key′) v8 as-long),
-        λ x h.
-            written-alike out out′ rooms (d .flags) v (domainToSend dom s) usr wks (micToSend ts mic) (lmToSend settings ts lm) nt (keyToSend (d .flags) key) (micToSend ts mic′) (lmToSend settings ts lm′) nt′ (keyToSend (d .flags) key′) v8 as-long (x .len)
-            (sent-written _ (timeToSend settings ts clock) (micDue ts) x h),
-      )
-  go (Declines e) = (refl, λ x h. absurd (let z : _≡_ {A = ℕ} 0 1 = cc in omega arith))
+      let as-long = sent-long settings d (x .mic) (x .lm) (x .nt) (x .key) mic lm nt key same in
+      let ts = d .timestamp in
+      record {
+        answer =
+            ap (λ (r : Written). answerWith r (timeToSend settings ts (x .clock)) (micDue ts))
+            (write-same (length (x .out)) (length out) rooms (d .flags) (x .version) dom (x .user) (x .workstation) (micToSend ts (x .mic)) (lmToSend settings ts (x .lm)) (x .nt) (keyToSend (d .flags) (x .key)) (micToSend ts mic) (lmToSend settings ts lm) nt (keyToSend (d .flags) key) v8 as-long);
+        messages = λ a h.
+            written-alike (x .out) out rooms (d .flags) (x .version) dom (x .user) (x .workstation) (micToSend ts (x .mic)) (lmToSend settings ts (x .lm)) (x .nt) (keyToSend (d .flags) (x .key)) (micToSend ts mic) (lmToSend settings ts lm) nt (keyToSend (d .flags) key) v8 as-long (a .len)
+            (sent-written _ (timeToSend settings ts (x .clock)) (micDue ts) a h);
+      }
+  go (Declines e) = record { answer = refl; messages = λ a h. absurd (not-sent a h) } where
+    not-sent : (a : Answer) → Refused e ≡ Sent a → ⊥
+    not-sent a h = let z : _≡_ {A = ℕ} 0 1 = cc in omega arith
 
 pub thin-calls-secret : ThinCallsSecret
 thin-calls-secret call = secret-answered (goesBy call)

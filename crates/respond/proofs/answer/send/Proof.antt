@@ -1,6 +1,6 @@
 -- `send` writes the parts that the decision chooses.
 use borrow.Author.Needs.{needs}
-use Rattle.respond.proofs.Answers.{send-answers, send-leaves}
+use Rattle.respond.proofs.Answers.{sends}
 use Rattle.respond.proofs.answer.send.Statement.{statement}
 use Rattle.respond.proofs.answer.send.Tie as tie
 
@@ -10,4 +10,4 @@ send-spec =
     (tie.spec
     (λ c κs. search needs) (λ c. search needs) (λ c κs. search needs) (λ c κs. search needs) (λ c κs. search needs)
     (λ c κs. search needs) (λ c κs. search needs) (λ c κs. search needs) (λ c. search needs)
-    (λ c. (search send-answers depth 8 fits 20000, search send-leaves)))
+    (λ c. search sends depth 8 fits 20000))
