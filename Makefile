@@ -32,19 +32,19 @@ help:
 	@echo '                    needs Debian packages, which it names, and root'
 
 run:
-	@tools/run "$$MESSAGES"
+	@tools/depot run "$$MESSAGES"
 
 example:
 	@tools/example
 
 explain:
-	@tools/explain "$$FILE"
+	@tools/depot explain "$$FILE"
 
 night:
-	@tools/night "$$FILE"
+	@tools/depot night "$$FILE"
 
 canonical:
-	@tools/canonical "$$FILE" "$$OUT"
+	@tools/depot canonical "$$FILE" "$$OUT"
 
 lib:
 	@tools/build-lib
@@ -67,13 +67,13 @@ dist:
 	@tools/dist
 
 compare:
-	@tools/need rt cargo && tools/build-second && tools/build-proved && tools/compare
+	@tools/need rt cargo cc && tools/build-programs compare ntlm_line nl_auth_line ntlm_explain && tools/compare
 
 wide:
-	@tools/need rt cargo && tools/build-lib && tools/wide
+	@tools/need rt cargo cc && tools/wide
 
 bench:
-	@tools/need rt cargo && tools/build-lib && tools/bench
+	@tools/need rt cargo cc && tools/bench
 
 test:
 	@tools/gate

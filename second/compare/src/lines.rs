@@ -6,7 +6,7 @@ use std::sync::atomic::{AtomicUsize, Ordering};
 use std::sync::Mutex;
 use std::thread;
 
-use programs::Answer;
+use depot::program::Answer;
 use reader::LINE_LIMIT;
 
 use crate::cases::Case;
@@ -127,7 +127,7 @@ impl fmt::Display for Shown<'_> {
 mod tests {
     use super::compare;
     use crate::cases::{cases, Case};
-    use programs::Answer;
+    use depot::program::Answer;
     use reader::{Program, LINE_LIMIT};
     use std::convert::Infallible;
 

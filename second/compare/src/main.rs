@@ -9,7 +9,7 @@ use std::thread;
 
 use compare::command::{fail, finish, seed_and_count, NOT_NUMBERS};
 use compare::{cases, compare};
-use programs::Program;
+use depot::program::Program;
 
 const USAGE: &str = "usage: compare NTLM_LINE NL_AUTH_LINE NTLM_EXPLAIN SEED N";
 

@@ -1,8 +1,10 @@
-//! What the depot bench reads: the message files of a folder, and the message
-//! that each holds.
+//! What the depot bench reads and runs: the message files of a folder and the message
+//! that each holds, a night's messages, and programs that print a line.
 
 #![forbid(unsafe_code)]
 
 pub mod folder;
 pub mod form;
+pub mod night;
+pub mod program;
 pub mod secret_file;

@@ -14,18 +14,22 @@ use std::process::ExitCode;
 
 use depot::folder::{Content, Folder, MessageFile, NoFolder, NotRead};
 use depot::form::Kind;
-use night::{index_of, read_index, NoNight};
-use programs::{Answer, CannotRun, Program, Text};
+use depot::night::{index_of, read_index, NoNight};
+use depot::program::{Answer, CannotRun, Program, Text};
 
 const USAGE: &str =
-    "usage: depot look FOLDER | depot run FOLDER NTLM_LINE NL_AUTH_LINE NTLM_EXPLAIN SECOND LINKED \
-                     | depot read FILE | depot explain FILE NTLM_EXPLAIN SECOND \
-                     | depot look-night FILE | depot night FILE NIGHT SECOND";
+    "usage: depot look run FOLDER | depot run FOLDER NTLM_LINE NL_AUTH_LINE NTLM_EXPLAIN SECOND LINKED \
+                     | depot look explain FILE | depot explain FILE NTLM_EXPLAIN SECOND \
+                     | depot look night FILE | depot night FILE LINKED SECOND \
+                     | depot look canonical FILE";
 
 fn main() -> ExitCode {
     let args: Vec<OsString> = env::args_os().skip(1).collect();
     let done = match args.as_slice() {
-        [command, folder] if command == "look" => look(Path::new(folder)),
+        [look, command, input] if look == "look" => match needs(command, Path::new(input)) {
+            Some(needs) => needs.and_then(|names| print_names(&names)),
+            None => return fail(2, &USAGE),
+        },
         [command, folder, programs @ ..] if command == "run" && programs.len() == 5 => {
             let programs: Vec<&Path> = programs.iter().map(Path::new).collect();
             let [ntlm, nl_auth, explain, second, linked] = programs[..] else {
@@ -33,15 +37,13 @@ fn main() -> ExitCode {
             };
             Bench::new(ntlm, nl_auth, explain, second, linked).run(Path::new(folder))
         }
-        [command, file] if command == "read" => read(Path::new(file)).map(|_| true),
         [command, file, explain, second] if command == "explain" => {
             let pair = Pair::explain(Path::new(explain), Path::new(second));
             explain_file(&pair, Path::new(file))
         }
-        [command, file] if command == "look-night" => Night::read(Path::new(file)).map(|_| true),
-        [command, file, night, second] if command == "night" => {
-            let night_and_second = [night, second].map(Path::new);
-            Night::read(Path::new(file)).and_then(|night| night.run(night_and_second))
+        [command, file, linked, second] if command == "night" => {
+            let linked_and_second = [linked, second].map(Path::new);
+            Night::read(Path::new(file)).and_then(|night| night.run(linked_and_second))
         }
         _ => return fail(2, &USAGE),
     };
@@ -122,11 +124,66 @@ impl fmt::Display for Failure {
     }
 }
 
-/// Says whether the folder can be run, without running it: a wrong name is
-/// told before the programs are built.
-fn look(folder: &Path) -> Result<bool, Failure> {
-    Folder::list(folder)?;
+/// The names of what a command needs on this input, which are built before it is run: the
+/// proved programs, and `linked`, which has the library in it. A wrong input is told here, before
+/// anything is proved. None where there is no such command.
+fn needs(command: &OsStr, input: &Path) -> Option<Result<Vec<&'static str>, Failure>> {
+    match command.to_str()? {
+        "run" => Some(
+            Folder::list(input)
+                .map_err(Failure::from)
+                .map(|folder| Needs::of(&folder).names()),
+        ),
+        "explain" => Some(read_ntlm(input).map(|_| vec!["ntlm_explain"])),
+        "night" => Some(Night::read(input).map(|_| vec!["linked"])),
+        "canonical" => Some(read(input).map(|_| vec!["linked"])),
+        _ => None,
+    }
+}
+
+/// Prints names on one line.
+fn print_names(names: &[&str]) -> Result<bool, Failure> {
+    writeln!(io::stdout(), "{}", names.join(" "))?;
     Ok(true)
+}
+
+/// Which programs the messages of a folder go through.
+#[derive(Default)]
+struct Needs {
+    ntlm: bool,
+    nl_auth: bool,
+    import: bool,
+}
+
+impl Needs {
+    /// A header line's message isn't known before it is imported, so that it may be of any kind.
+    fn of(folder: &Folder) -> Self {
+        let mut needs = Self::default();
+        for file in &folder.messages {
+            let kind = match file.read_all() {
+                Ok(Content::Message(_, message)) => Kind::of(&message),
+                Ok(Content::HeaderTexts(_)) => {
+                    needs.import = true;
+                    Kind::Unclear
+                }
+                Err(_) => continue,
+            };
+            needs.ntlm |= kind != Kind::NlAuth;
+            needs.nl_auth |= kind != Kind::Ntlm;
+        }
+        needs
+    }
+
+    fn names(&self) -> Vec<&'static str> {
+        let names = [
+            (self.ntlm, "ntlm_line"),
+            (self.nl_auth, "nl_auth_line"),
+            (self.ntlm, "ntlm_explain"),
+            (self.import, "linked"),
+        ];
+        let needed = names.into_iter().filter(|(needed, _)| *needed);
+        needed.map(|(_, name)| name).collect()
+    }
 }
 
 /// The message of a file.
@@ -137,13 +194,19 @@ fn read(file: &Path) -> Result<Vec<u8>, Failure> {
     }
 }
 
-/// Prints the checks of the message in a file. True where both programs print the
-/// same.
-fn explain_file(pair: &Pair, file: &Path) -> Result<bool, Failure> {
+/// The same of one whose checks can be printed.
+fn read_ntlm(file: &Path) -> Result<Vec<u8>, Failure> {
     let message = read(file)?;
     if Kind::of(&message) == Kind::NlAuth {
         return Err(Failure::NotNtlm(file.to_owned()));
     }
+    Ok(message)
+}
+
+/// Prints the checks of the message in a file. True where both programs print the
+/// same.
+fn explain_file(pair: &Pair, file: &Path) -> Result<bool, Failure> {
+    let message = read_ntlm(file)?;
     let (proved, second) = pair.run(&message)?;
     let mut out = BufWriter::new(io::stdout().lock());
     let same = proved.is_same(&second);
@@ -182,10 +245,10 @@ impl Night {
 
     /// Runs the buffer through both programs, and prints the answer of each entry.
     /// True where both give the same.
-    fn run(&self, [night, second]: [&Path; 2]) -> Result<bool, Failure> {
-        let index = self.index.as_os_str();
-        let proved = Program::of_lines(night, &[index]).run(&self.buffer)?;
-        let second = Program::of_lines(second, &[OsStr::new("night"), index]).run(&self.buffer)?;
+    fn run(&self, [linked, second]: [&Path; 2]) -> Result<bool, Failure> {
+        let words = [OsStr::new("night"), self.index.as_os_str()];
+        let proved = Program::of_lines(linked, &words).run(&self.buffer)?;
+        let second = Program::of_lines(second, &words).run(&self.buffer)?;
         let mut out = BufWriter::new(io::stdout().lock());
         let same = proved.is_same(&second);
         if same {
@@ -269,7 +332,7 @@ impl Bench {
     /// Runs every message. True where all were read and no two lines differ.
     fn run(&self, folder: &Path) -> Result<bool, Failure> {
         let folder = Folder::list(folder)?;
-        self.try_programs()?;
+        self.try_programs(&Needs::of(&folder))?;
         let mut out = BufWriter::new(io::stdout().lock());
         let mut counts = Counts::default();
         for file in &folder.messages {
@@ -308,10 +371,16 @@ impl Bench {
         Ok(counts.is_good())
     }
 
-    /// Runs each program once on nothing, so that one that can't be run is told
-    /// before any message is.
-    fn try_programs(&self) -> Result<(), CannotRun> {
-        for pair in [&self.ntlm, &self.nl_auth, &self.explain, &self.import] {
+    /// Runs each program that is needed once on nothing, so that one that can't be run is
+    /// told before any message is.
+    fn try_programs(&self, needs: &Needs) -> Result<(), CannotRun> {
+        let pairs = [
+            (needs.ntlm, &self.ntlm),
+            (needs.nl_auth, &self.nl_auth),
+            (needs.ntlm, &self.explain),
+            (needs.import, &self.import),
+        ];
+        for (_, pair) in pairs.into_iter().filter(|(needed, _)| *needed) {
             pair.run(&[])?;
         }
         Ok(())

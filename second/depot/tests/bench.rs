@@ -27,6 +27,7 @@ fn program(name: &str) -> PathBuf {
             ("refuses_otherwise", "echo 'refused 3 field=0 at=0'"),
             ("takes", "echo 'nl type=0 flags=00000001 a=LINE'"),
             ("says_its_word", "echo \"read as ${1:-proved}\""),
+            ("says_its_words", "echo \"given $*\""),
             ("counts", "wc -c | tr -d ' '; exit"),
             ("fails", "echo 'refused 2 field=0 at=0'; exit 3"),
             ("prints_nothing", ":"),
@@ -98,6 +99,16 @@ fn folder_of(name: &str, files: Files<'_>) -> PathBuf {
         fs::write(folder.join(name), content).expect("a file");
     }
     folder
+}
+
+/// Looks at the input of a command.
+fn look(command: &str, input: &Path) -> (Option<i32>, String, String) {
+    told(&depot(&[Path::new("look"), Path::new(command), input]))
+}
+
+/// What is told of an input that needs these names built.
+fn needs(names: &str) -> (Option<i32>, String, String) {
+    (Some(0), format!("{names}\n"), String::new())
 }
 
 fn depot(args: &[&Path]) -> Output {
@@ -252,8 +263,8 @@ fn one_file_is_explained() {
         let (status, out, _) = explain(&file, "explains_otherwise", "refuses");
         assert!(out.starts_with("DIFFERENT: the checks part at line 2\nproved: check 2 "));
         assert_eq!(status, Some(1));
-        let looked = told(&depot(&[Path::new("read"), &file]));
-        assert_eq!(looked, (Some(0), String::new(), String::new()));
+        assert_eq!(look("explain", &file), needs("ntlm_explain"));
+        assert_eq!(look("canonical", &file), needs("linked"));
     }
 }
 
@@ -266,8 +277,8 @@ fn a_file_that_gives_no_message_is_one_plain_line() {
         (folder, ""),
     ];
     for (file, start) in cases {
-        let read = told(&depot(&[Path::new("read"), &file]));
-        for (status, out, err) in [read, explain(&file, "explains", "refuses")] {
+        let [explained, written] = ["explain", "canonical"].map(|command| look(command, &file));
+        for (status, out, err) in [explained, written, explain(&file, "explains", "refuses")] {
             assert_eq!((status, out.as_str()), (Some(1), ""));
             assert_eq!(err.lines().count(), 1, "{err}");
             assert!(err.starts_with(start), "{err}");
@@ -278,18 +289,17 @@ fn a_file_that_gives_no_message_is_one_plain_line() {
 }
 
 /// Runs a night: a folder with a buffer and its index.
-fn night(folder: &Path, night: &str, second: &str) -> (Option<i32>, String, String) {
-    let (night, second) = (program(night), program(second));
+fn night(folder: &Path, linked: &str, second: &str) -> (Option<i32>, String, String) {
+    let (linked, second) = (program(linked), program(second));
     let file = folder.join("a.night");
-    told(&depot(&[Path::new("night"), &file, &night, &second]))
+    told(&depot(&[Path::new("night"), &file, &linked, &second]))
 }
 
 #[test]
 fn a_night_is_run_through_both_programs() {
     let files: [(&str, &[u8]); 2] = [("a.night", b"NTLMSSP\0"), ("a.index", b"0 8 NEGOTIATE\n")];
     let folder = folder_of("night", &files);
-    let looked = told(&depot(&[Path::new("look-night"), &folder.join("a.night")]));
-    assert_eq!(looked, (Some(0), String::new(), String::new()));
+    assert_eq!(look("night", &folder.join("a.night")), needs("linked"));
     let (status, out, err) = night(&folder, "answers", "answers");
     let answers = "0 8 NEGOTIATE taken\n1 entries\n";
     assert_eq!(out, format!("{answers}8 bytes, 1 entries: the same\n"));
@@ -316,10 +326,10 @@ fn both_programs_are_given_the_buffer_and_the_index() {
     let (status, out, _) = night(&folder, "counts", "counts");
     assert_eq!(out, "70000\n70000 bytes, 0 entries: the same\n");
     assert_eq!(status, Some(0));
-    let (_, out, _) = night(&folder, "says_its_word", "says_its_word");
+    let (_, out, _) = night(&folder, "says_its_words", "says_its_words");
     let index = folder.join("a.index");
-    assert!(out.contains(&format!("proved: read as {}\n", index.display())));
-    assert!(out.contains("second: read as night\n"));
+    let given = format!("given night {}\n70000 bytes, ", index.display());
+    assert!(out.starts_with(&given), "{out}");
 }
 
 #[test]
@@ -336,7 +346,7 @@ fn a_night_that_cannot_be_run_is_one_plain_line() {
     ];
     for (name, files, start) in cases {
         let folder = folder_of(name, files);
-        let looked = told(&depot(&[Path::new("look-night"), &folder.join("a.night")]));
+        let looked = look("night", &folder.join("a.night"));
         for (status, out, err) in [looked, night(&folder, "answers", "answers")] {
             assert_eq!((status, out.as_str()), (Some(1), ""));
             assert_eq!(err.lines().count(), 1, "{err}");
@@ -505,13 +515,10 @@ fn a_folder_with_nothing_to_run_is_one_plain_line() {
         (file, ""),
     ];
     for (folder, start) in cases {
-        for command in ["look", "run"] {
-            let programs = [(); 5].map(|()| program("refuses"));
-            let mut args = vec![Path::new(command), &folder];
-            if command == "run" {
-                args.extend(programs.iter().map(PathBuf::as_path));
-            }
-            let (status, out, err) = told(&depot(&args));
+        for (status, out, err) in [
+            look("run", &folder),
+            run(&folder, "takes", "takes", "takes"),
+        ] {
             assert_eq!((status, out.as_str()), (Some(1), ""));
             assert_eq!(err.lines().count(), 1, "{err}");
             assert!(err.starts_with(start), "{err}");
@@ -521,19 +528,49 @@ fn a_folder_with_nothing_to_run_is_one_plain_line() {
 }
 
 #[test]
-fn a_folder_to_run_is_looked_at_without_a_word() {
-    let folder = folder_of("looked_at", &[("a.bin", P12)]);
-    let (status, out, err) = told(&depot(&[Path::new("look"), &folder]));
-    assert_eq!((status, out.as_str(), err.as_str()), (Some(0), "", ""));
+fn a_folder_is_looked_at_for_what_it_needs() {
+    let ntlm = "ntlm_line ntlm_explain";
+    let both = "ntlm_line nl_auth_line ntlm_explain";
+    let header = b"Authorization: NTLM TlRMTVNTUAA=\n";
+    let cases: [(Files<'_>, &str); 6] = [
+        (&[("a.bin", b"NTLMSSP\0")], ntlm),
+        (&[("a.bin", P12)], "nl_auth_line"),
+        (&[("a.bin", b"NTLMSSP\0"), ("b.bin", P12)], both),
+        (&[("a.bin", b"NTLMSSQ\0")], both),
+        (
+            &[("a.txt", header)],
+            "ntlm_line nl_auth_line ntlm_explain linked",
+        ),
+        // A file that isn't read needs nothing.
+        (&[("a.txt", b"box 31")], ""),
+    ];
+    for (files, names) in cases {
+        let folder = folder_of("looked_at", files);
+        assert_eq!(look("run", &folder), needs(names));
+    }
+}
+
+/// What a folder doesn't need may be missing.
+#[test]
+fn what_is_not_needed_is_not_run() {
+    let folder = folder_of("not_needed", &[("a.bin", P12)]);
+    let programs = ["not_there", "takes", "not_there", "takes"];
+    let (status, _, err) = run_linked(&folder, programs, "not_there");
+    assert_eq!((status, err.as_str()), (Some(0), ""));
+    let folder = folder_of("not_needed_ntlm", &[("a.bin", b"NTLMSSP\0")]);
+    let programs = ["takes", "not_there", "explains", "takes"];
+    let (status, _, err) = run_linked(&folder, programs, "not_there");
+    assert_eq!((status, err.as_str()), (Some(0), ""));
 }
 
 #[test]
 fn a_missing_program_is_one_plain_line() {
-    let folder = folder_of("no_program", &[("a.bin", P12)]);
-    for missing in 0..4 {
-        let mut names = ["refuses"; 4];
+    let folder = folder_of("no_program", &[("a.txt", HEADERS)]);
+    for missing in 0..5 {
+        let mut names = ["refuses"; 5];
         names[missing] = "not_there";
-        let (status, out, err) = run_all(&folder, names);
+        let [ntlm, nl_auth, explain, second, linked] = names;
+        let (status, out, err) = run_linked(&folder, [ntlm, nl_auth, explain, second], linked);
         assert_eq!((status, out.as_str()), (Some(1), ""));
         assert_eq!(err.lines().count(), 1, "{err}");
         assert!(
@@ -549,12 +586,14 @@ fn wrong_words_are_status_2() {
         &[][..],
         &["run"],
         &["look"],
+        &["look", "a"],
         &["look", "a", "b"],
+        &["look", "run"],
+        &["look", "run", "a", "b"],
         &["run", "a", "b", "c", "d", "e"],
-        &["read"],
         &["explain", "a", "b"],
         &["walk", "a"],
-        &["look-night"],
+        &["look", "night"],
         &["night", "a"],
         &["night", "a", "b"],
     ] {
@@ -628,7 +667,7 @@ fn an_import_that_differs_shows_no_message() {
 fn header_lines_are_not_for_one_message() {
     let folder = folder_of("headers-read", &[("trace.txt", HEADERS)]);
     let file = folder.join("trace.txt");
-    let (status, out, err) = told(&depot(&[Path::new("read"), &file]));
+    let (status, out, err) = look("explain", &file);
     assert_eq!((status, out.as_str()), (Some(1), ""));
     assert!(err.contains("it holds header lines, which make run takes: "));
     assert_eq!(err.lines().count(), 1);

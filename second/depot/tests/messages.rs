@@ -5,6 +5,7 @@ use std::path::Path;
 
 use depot::folder::{Content, Folder};
 use depot::form::Kind;
+use depot::night;
 use reader::{check_messages, export_header, import_header, Entry, Program, Refusal, LINE_LIMIT};
 
 const MESSAGES: &str = concat!(env!("CARGO_MANIFEST_DIR"), "/../../messages");

@@ -13,7 +13,7 @@ use std::io::{self, BufRead, BufReader, BufWriter, IsTerminal, Read, Write};
 use std::path::{Path, PathBuf};
 use std::process::ExitCode;
 
-use night::{Answers, NoNight, Place, Refused};
+use depot::night::{Answers, NoNight, Place, Refused};
 use reader::{check_messages, import_header, Entry, Program, Refusal, LINE_LIMIT, MAX_MESSAGE};
 
 const USAGE: &str =
@@ -168,7 +168,7 @@ fn without_line_end(line: &[u8]) -> &[u8] {
 fn print_night(index: &Path) -> Result<(), Failure> {
     let mut output = BufWriter::new(io::stdout().lock());
     let input = &mut io::stdin().lock();
-    night::run(index, input, &mut output, check).map_err(Failure::Night)
+    depot::night::run(index, input, &mut output, check).map_err(Failure::Night)
 }
 
 fn check(buffer: &[u8], places: &[Place]) -> Answers {

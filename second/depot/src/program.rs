@@ -1,7 +1,6 @@
 //! Runs a program that reads one message from standard input and prints one
 //! line, or some.
 
-#![forbid(unsafe_code)]
 #![warn(missing_docs)]
 
 use std::ffi::{OsStr, OsString};

@@ -1,32 +1,17 @@
-//! Checks a night's messages by one call of the proved library: the buffer from
-//! standard input, the index from a file.
+//! A night's messages by one call of the proved library: the buffer from standard
+//! input, the index from a file.
 
-use std::env;
-use std::ffi::OsString;
-use std::io::{self, BufWriter, Write};
+use std::io::{self, BufWriter};
 use std::path::Path;
-use std::process::ExitCode;
 
+use depot::night::{self, Answers, Place, Refused};
 use dialtable::{check_messages, Entry, Mark, Refusal, Verdict};
-use night::{Answers, Place, Refused};
 
-fn main() -> ExitCode {
-    let args: Vec<OsString> = env::args_os().skip(1).collect();
-    let [index] = args.as_slice() else {
-        return fail(2, "usage: night INDEX, with the buffer on standard input");
-    };
+/// Prints the answer of each entry and their count.
+pub fn print(index: &Path) -> Result<(), String> {
     let mut out = BufWriter::new(io::stdout().lock());
-    match night::run(Path::new(index), &mut io::stdin().lock(), &mut out, check) {
-        Ok(()) => ExitCode::SUCCESS,
-        Err(failure) => fail(1, &failure.to_string()),
-    }
-}
-
-/// One plain line on standard error. It never holds any of a message.
-fn fail(status: u8, message: &str) -> ExitCode {
-    // Where standard error is closed, the status still tells.
-    let _ = writeln!(io::stderr(), "{message}");
-    ExitCode::from(status)
+    let done = night::run(index, &mut io::stdin().lock(), &mut out, check);
+    done.map_err(|why| why.to_string())
 }
 
 fn check(buffer: &[u8], places: &[Place]) -> Answers {

@@ -2,7 +2,6 @@
 //! which the messages stand, and an index, a line of text for each entry. Nothing
 //! here reads a message.
 
-#![forbid(unsafe_code)]
 #![warn(missing_docs)]
 
 use std::fmt;

@@ -1,7 +1,10 @@
 //! Calls of the proved library, linked in: the canonical form of an AUTHENTICATE
-//! from one file to another, and the message that a header line's text carries.
+//! from one file to another, the message that a header line's text carries, and a
+//! night's messages.
 
 #![forbid(unsafe_code)]
+
+mod night;
 
 use std::env;
 use std::ffi::OsString;
@@ -13,7 +16,8 @@ use depot::folder::{MessageFile, NotRead};
 use depot::form::Kind;
 use depot::secret_file;
 
-const USAGE: &str = "usage: linked canonical FILE OUT | linked import < TEXT";
+const USAGE: &str =
+    "usage: linked canonical FILE OUT | linked import < TEXT | linked night INDEX < BUFFER";
 
 const NO_TERMINAL: &str =
     "a message is not shown on a terminal, since it holds secrets: send it on to a program, as \
@@ -29,6 +33,7 @@ fn main() -> ExitCode {
             Err(NO_TERMINAL.to_owned())
         }
         [command] if command == "import" => import().map_err(|error| format!("linked: {error}")),
+        [command, index] if command == "night" => night::print(Path::new(index)),
         _ => return fail(2, USAGE),
     };
     match done {
