@@ -3,13 +3,15 @@
 
 MESSAGES ?= messages
 PREFIX ?= /usr/local
-export MESSAGES FILE OUT DESTDIR PREFIX TARGET
+export MESSAGES FILE OUT REFUSED DESTDIR PREFIX TARGET
 
 help:
 	@echo 'make run            the depot bench: every message in messages/ through the proved program and the second one;'
-	@echo '                    MESSAGES=folder for another folder. The status is 0 where all lines are the same'
+	@echo '                    MESSAGES=folder for another folder. The status is 0 where all lines are the same; with REFUSED=fail'
+	@echo '                    only where no message is refused either'
 	@echo 'make example        a sign-in with messages that were recorded, and the lines of its three messages: needs no server'
-	@echo 'make explain        why one NTLM message is refused, check by check: FILE=message, raw, in hex or in base64'
+	@echo 'make explain        why one message is refused, check by check (NL_AUTH: its line) and in words: FILE=message, in any'
+	@echo '                    form that messages/README.md lists'
 	@echo 'make night          the messages of a night in one call, by the proved library and the second program: FILE=buffer, with'
 	@echo '                    its index beside it (messages/README.md)'
 	@echo 'make canonical      one AUTHENTICATE tidied, for comparing it with another: FILE=message, raw, in hex or in base64, to'

@@ -74,7 +74,9 @@ pub fn read(content: Vec<u8>) -> Result<(Form, Vec<u8>), NoMessage> {
     // Letters may be base64 by chance, so the base64 of anything but a
     // message's beginning doesn't count. With it, hex digits that are base64
     // too are told apart: no text begins a message both ways.
-    let base64 = decode_base64(&content).filter(|message| begins_a_message(message));
+    let base64 = decode_base64(&content)
+        .ok()
+        .filter(|message| begins_a_message(message));
     match (hex, base64) {
         (_, Some(message)) => Ok((Form::Base64, message)),
         (Some(message), None) => Ok((Form::Hex, message)),
@@ -182,45 +184,61 @@ fn hex_value(digit: u8) -> Option<u8> {
 
 /// Base64 (RFC 4648, section 4) on one or more lines, each of whole groups of
 /// four, with nothing between them but line ends. The padding must be there,
-/// and the bits that it leaves over must be zero. At least one group.
-fn decode_base64(text: &[u8]) -> Option<Vec<u8>> {
+/// and the bits that it leaves over must be zero. At least one group. Otherwise
+/// the place in the text where it stops.
+fn decode_base64(text: &[u8]) -> Result<Vec<u8>, usize> {
     let mut message = Vec::with_capacity(text.len() / 4 * 3);
     let mut ended = false;
-    for line in text.split(|&byte| byte == b'\n') {
-        let line = line.strip_suffix(b"\r").unwrap_or(line);
+    let mut at = 0;
+    for whole_line in text.split(|&byte| byte == b'\n') {
+        let line = whole_line.strip_suffix(b"\r").unwrap_or(whole_line);
         let (groups, rest) = line.as_chunks::<4>();
-        if !rest.is_empty() {
-            return None;
-        }
-        for group in groups {
+        for (group, place) in groups.iter().zip((at..).step_by(4)) {
             if ended {
-                return None;
+                return Err(place);
             }
-            ended = decode_group(group, &mut message)?;
+            ended = decode_group(group, &mut message).map_err(|stop| place + stop)?;
         }
+        if !rest.is_empty() {
+            let digits = rest
+                .iter()
+                .take_while(|&&byte| base64_value(byte).is_some());
+            let sound = if ended { 0 } else { digits.count() };
+            return Err(at + line.len() - rest.len() + sound);
+        }
+        at += whole_line.len() + 1;
     }
-    (!message.is_empty()).then_some(message)
+    if message.is_empty() {
+        return Err(0);
+    }
+    Ok(message)
 }
 
-/// Puts the bytes of one group. True where padding ends the text.
-fn decode_group(group: &[u8; 4], message: &mut Vec<u8>) -> Option<bool> {
+/// Where the base64 of a text stops, which it has to its end.
+pub(crate) fn base64_stop(text: &[u8]) -> Option<usize> {
+    decode_base64(text).err()
+}
+
+/// Puts the bytes of one group. True where padding ends the text; otherwise the
+/// character where it stops.
+fn decode_group(group: &[u8; 4], message: &mut Vec<u8>) -> Result<bool, usize> {
     let (digits, bytes) = match group {
         [_, _, b'=', b'='] => (2, 1),
         [_, _, _, b'='] => (3, 2),
         _ => (4, 3),
     };
     let mut bits: u32 = 0;
-    for &digit in &group[..digits] {
-        bits = bits << 6 | u32::from(base64_value(digit)?);
+    for (place, &digit) in group[..digits].iter().enumerate() {
+        bits = bits << 6 | u32::from(base64_value(digit).ok_or(place)?);
     }
     bits <<= 6 * (4 - digits);
     let [_, decoded @ ..] = bits.to_be_bytes();
     let (kept, left_over) = decoded.split_at(bytes);
     if left_over.iter().any(|&byte| byte != 0) {
-        return None;
+        return Err(digits - 1);
     }
     message.extend_from_slice(kept);
-    Some(bytes < 3)
+    Ok(bytes < 3)
 }
 
 fn base64_value(digit: u8) -> Option<u8> {
@@ -356,7 +374,7 @@ mod tests {
             "QUFB\rQUFB",
             "QUE=\n=",
         ] {
-            assert_eq!(decode_base64(text.as_bytes()), None, "{text}");
+            assert!(decode_base64(text.as_bytes()).is_err(), "{text}");
         }
     }
 
@@ -371,7 +389,7 @@ mod tests {
             let bits = u32::from_be_bytes([0, a, b, c]);
             text.extend([18, 12, 6, 0].map(|shift| DIGITS[(bits >> shift & 63) as usize]));
         }
-        assert_eq!(decode_base64(&text), Some(message));
+        assert_eq!(decode_base64(&text), Ok(message));
     }
 
     #[test]

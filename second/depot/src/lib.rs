@@ -1,5 +1,6 @@
 //! What the depot bench reads and runs: the message files of a folder and the message
-//! that each holds, a night's messages, and programs that print a line.
+//! that each holds, a night's messages, and programs that print a line; a refusal in words,
+//! and the summary of a run.
 
 #![forbid(unsafe_code)]
 
@@ -8,3 +9,5 @@ pub mod form;
 pub mod night;
 pub mod program;
 pub mod secret_file;
+pub mod summary;
+pub mod words;

@@ -16,10 +16,12 @@ use depot::folder::{Content, Folder, MessageFile, NoFolder, NotRead};
 use depot::form::Kind;
 use depot::night::{index_of, read_index, NoNight};
 use depot::program::{Answer, CannotRun, Program, Text};
+use depot::summary::{Found, Outcome, Summary};
+use depot::words::{self, ReadAs};
 
 const USAGE: &str =
     "usage: depot look run FOLDER | depot run FOLDER NTLM_LINE NL_AUTH_LINE NTLM_EXPLAIN SECOND LINKED \
-                     | depot look explain FILE | depot explain FILE NTLM_EXPLAIN SECOND \
+                     | depot look explain FILE | depot explain FILE NTLM_EXPLAIN NL_AUTH_LINE SECOND \
                      | depot look night FILE | depot night FILE LINKED SECOND \
                      | depot look canonical FILE";
 
@@ -35,11 +37,13 @@ fn main() -> ExitCode {
             let [ntlm, nl_auth, explain, second, linked] = programs[..] else {
                 return fail(2, &USAGE);
             };
-            Bench::new(ntlm, nl_auth, explain, second, linked).run(Path::new(folder))
+            refused_fails().and_then(|refused_fails| {
+                let bench = Bench::new(ntlm, nl_auth, explain, second, linked);
+                bench.run(Path::new(folder), refused_fails)
+            })
         }
-        [command, file, explain, second] if command == "explain" => {
-            let pair = Pair::explain(Path::new(explain), Path::new(second));
-            explain_file(&pair, Path::new(file))
+        [command, file, explain, nl_auth, second] if command == "explain" => {
+            explain_file(Path::new(file), [explain, nl_auth, second].map(Path::new))
         }
         [command, file, linked, second] if command == "night" => {
             let linked_and_second = [linked, second].map(Path::new);
@@ -65,7 +69,8 @@ fn fail(status: u8, message: &dyn fmt::Display) -> ExitCode {
 enum Failure {
     NoFolder(NoFolder),
     NoFile(PathBuf, NotRead),
-    NotNtlm(PathBuf),
+    NotAWord(OsString),
+    AreRefused(usize),
     NoBuffer(PathBuf, NotRead),
     NoNight(NoNight),
     CannotRun(CannotRun),
@@ -106,10 +111,15 @@ impl fmt::Display for Failure {
                 path.display()
             ),
             Self::NoFile(path, why) => write!(f, "{} is not read: {why}", path.display()),
-            Self::NotNtlm(path) => write!(
+            Self::AreRefused(count) => write!(
                 f,
-                "{} is an NL_AUTH message: make explain is for NTLM messages, make run prints its line",
-                path.display()
+                "REFUSED=fail, and {count} refused: the list above has them, and what to look at in each"
+            ),
+            Self::NotAWord(word) => write!(
+                f,
+                "REFUSED={} is not understood: REFUSED=fail makes a refused message a nonzero status, \
+                 without it REFUSED is left out",
+                word.to_string_lossy().escape_debug()
             ),
             Self::NoBuffer(path, NotRead::Missing) => write!(
                 f,
@@ -134,7 +144,10 @@ fn needs(command: &OsStr, input: &Path) -> Option<Result<Vec<&'static str>, Fail
                 .map_err(Failure::from)
                 .map(|folder| Needs::of(&folder).names()),
         ),
-        "explain" => Some(read_ntlm(input).map(|_| vec!["ntlm_explain"])),
+        "explain" => Some(read(input).map(|message| match Kind::of(&message) {
+            Kind::NlAuth => vec!["nl_auth_line"],
+            _ => vec!["ntlm_explain"],
+        })),
         "night" => Some(Night::read(input).map(|_| vec!["linked"])),
         "canonical" => Some(read(input).map(|_| vec!["linked"])),
         _ => None,
@@ -194,19 +207,24 @@ fn read(file: &Path) -> Result<Vec<u8>, Failure> {
     }
 }
 
-/// The same of one whose checks can be printed.
-fn read_ntlm(file: &Path) -> Result<Vec<u8>, Failure> {
-    let message = read(file)?;
-    if Kind::of(&message) == Kind::NlAuth {
-        return Err(Failure::NotNtlm(file.to_owned()));
+/// Whether a refused message is a nonzero status: REFUSED=fail, for the check before a box
+/// is closed.
+fn refused_fails() -> Result<bool, Failure> {
+    match env::var_os("REFUSED") {
+        Some(word) if word == "fail" => Ok(true),
+        Some(word) if !word.is_empty() => Err(Failure::NotAWord(word)),
+        _ => Ok(false),
     }
-    Ok(message)
 }
 
-/// Prints the checks of the message in a file. True where both programs print the
-/// same.
-fn explain_file(pair: &Pair, file: &Path) -> Result<bool, Failure> {
-    let message = read_ntlm(file)?;
+/// Prints the checks of the message in a file, or the line of an NL_AUTH message, and what a
+/// refusal means. True where both programs print the same.
+fn explain_file(file: &Path, [explain, nl_auth, second]: [&Path; 3]) -> Result<bool, Failure> {
+    let message = read(file)?;
+    let (pair, what) = match Kind::of(&message) {
+        Kind::NlAuth => (Pair::nl_auth(nl_auth, second), "lines"),
+        _ => (Pair::explain(explain, second), "checks"),
+    };
     let (proved, second) = pair.run(&message)?;
     let mut out = BufWriter::new(io::stdout().lock());
     let same = proved.is_same(&second);
@@ -214,11 +232,20 @@ fn explain_file(pair: &Pair, file: &Path) -> Result<bool, Failure> {
         for line in lines(&proved) {
             writeln!(out, "{}", Text(line))?;
         }
+        if let Some(words) = in_words(&proved, pair.read_as, &message) {
+            writeln!(out, "{words}")?;
+        }
     } else {
-        write_parted(&proved, &second, "checks", "", &mut out)?;
+        write_parted(&proved, &second, what, "", &mut out)?;
     }
     out.flush()?;
     Ok(same)
+}
+
+/// What a refusal means that a program printed, or the check that failed.
+fn in_words(answer: &Answer, read_as: ReadAs, bytes: &[u8]) -> Option<String> {
+    let number = lines(answer).find_map(words::number_of)?;
+    words::of(number, read_as, bytes)
 }
 
 /// A night's messages: the buffer, and the file that lists them.
@@ -269,16 +296,29 @@ impl Night {
 /// A proved program and the second one for the same kind of message.
 struct Pair {
     kind: &'static str,
+    read_as: ReadAs,
     proved: Program,
     second: Program,
 }
 
 impl Pair {
+    /// The programs that print the line of an NL_AUTH message.
+    fn nl_auth(proved: &Path, second: &Path) -> Self {
+        let no_words: [&str; 0] = [];
+        Self {
+            kind: "NL_AUTH",
+            read_as: ReadAs::NlAuth,
+            proved: Program::new(proved, &no_words),
+            second: Program::new(second, &["nl"]),
+        }
+    }
+
     /// The programs that tell why an NTLM message is refused.
     fn explain(proved: &Path, second: &Path) -> Self {
         let no_words: [&str; 0] = [];
         Self {
             kind: "NTLM",
+            read_as: ReadAs::Ntlm,
             proved: Program::of_lines(proved, &no_words),
             second: Program::of_lines(second, &["explain"]),
         }
@@ -296,64 +336,37 @@ struct Bench {
     import: Pair,
 }
 
-/// What the summary counts.
-#[derive(Default)]
-struct Counts {
-    messages: usize,
-    taken: usize,
-    refused: usize,
-    different: usize,
-    not_read: usize,
-}
-
 impl Bench {
     fn new(ntlm: &Path, nl_auth: &Path, explain: &Path, second: &Path, linked: &Path) -> Self {
         let no_words: [&str; 0] = [];
         Self {
             ntlm: Pair {
                 kind: "NTLM",
+                read_as: ReadAs::Ntlm,
                 proved: Program::new(ntlm, &no_words),
                 second: Program::new(second, &["ntlm"]),
             },
-            nl_auth: Pair {
-                kind: "NL_AUTH",
-                proved: Program::new(nl_auth, &no_words),
-                second: Program::new(second, &["nl"]),
-            },
+            nl_auth: Pair::nl_auth(nl_auth, second),
             explain: Pair::explain(explain, second),
             import: Pair {
                 kind: "header line",
+                read_as: ReadAs::HeaderText,
                 proved: Program::new(linked, &["import"]),
                 second: Program::new(second, &["import"]),
             },
         }
     }
 
-    /// Runs every message. True where all were read and no two lines differ.
-    fn run(&self, folder: &Path) -> Result<bool, Failure> {
+    /// Runs every message. True where all were read and no two lines differ, and with
+    /// `refused_fails` none was refused.
+    fn run(&self, folder: &Path, refused_fails: bool) -> Result<bool, Failure> {
         let folder = Folder::list(folder)?;
         self.try_programs(&Needs::of(&folder))?;
         let mut out = BufWriter::new(io::stdout().lock());
-        let mut counts = Counts::default();
+        let mut summary = Summary::default();
         for file in &folder.messages {
-            match file.read_all() {
-                Ok(Content::Message(form, message)) => {
-                    counts.messages += 1;
-                    write!(out, "{}: {form}, {} bytes, ", file.name, message.len())?;
-                    self.run_message(&message, &mut counts, &mut out)?;
-                }
-                Ok(Content::HeaderTexts(texts)) => {
-                    for (line, text) in &texts {
-                        counts.messages += 1;
-                        write!(out, "{}, {line}: header line, ", file.name)?;
-                        self.run_header(text, &mut counts, &mut out)?;
-                    }
-                }
-                Err(why) => {
-                    counts.messages += 1;
-                    counts.not_read += 1;
-                    writeln!(out, "{}: NOT READ: {why}", file.name)?;
-                }
+            for found in self.run_file(file, &mut out)? {
+                summary.add(&found);
             }
         }
         if !folder.passed_over.is_empty() {
@@ -366,9 +379,38 @@ impl Bench {
                 writeln!(out, "a night is run by itself, as make night FILE=file")?;
             }
         }
-        writeln!(out, "{counts}")?;
+        writeln!(out, "{summary}")?;
         out.flush()?;
-        Ok(counts.is_good())
+        match summary.refused() {
+            refused if refused_fails && refused > 0 => Err(Failure::AreRefused(refused)),
+            _ => Ok(summary.is_good()),
+        }
+    }
+
+    /// Runs the messages of a file and prints what they came to.
+    fn run_file(&self, file: &MessageFile, out: &mut impl Write) -> Result<Vec<Found>, Failure> {
+        let found = |name: String, (outcome, why)| Found { outcome, name, why };
+        match file.read_all() {
+            Ok(Content::Message(form, message)) => {
+                write!(out, "{}: {form}, {} bytes, ", file.name, message.len())?;
+                let outcome = self.run_message(&message, out)?;
+                Ok(vec![found(file.name.clone(), outcome)])
+            }
+            Ok(Content::HeaderTexts(texts)) => {
+                let run = |(line, text): &(usize, Vec<u8>)| {
+                    let name = format!("{}, {line}", file.name);
+                    write!(out, "{name}: header line, ")?;
+                    let outcome = self.run_header(text, out)?;
+                    Ok(found(name, outcome))
+                };
+                texts.iter().map(run).collect()
+            }
+            Err(why) => {
+                writeln!(out, "{}: NOT READ: {why}", file.name)?;
+                let outcome = (Outcome::NotRead, why.to_string());
+                Ok(vec![found(file.name.clone(), outcome)])
+            }
+        }
     }
 
     /// Runs each program that is needed once on nothing, so that one that can't be run is
@@ -388,44 +430,40 @@ impl Bench {
 
     /// A header line's message goes through the import of both programs, and then the
     /// way of every message. Nothing of what they import is shown: it holds secrets.
-    fn run_header(
-        &self,
-        text: &[u8],
-        counts: &mut Counts,
-        out: &mut impl Write,
-    ) -> Result<(), Failure> {
+    fn run_header(&self, text: &[u8], out: &mut impl Write) -> Result<(Outcome, String), Failure> {
         let (proved, second) = self.import.run(text)?;
         let answered = imported(&proved).is_some() || is_refusal(&proved);
         if !proved.is_same(&second) || !answered {
+            let why = "the two don't import it alike";
             writeln!(out, "{} characters", text.len())?;
-            writeln!(out, "    DIFFERENT: the two don't import it alike")?;
+            writeln!(out, "    DIFFERENT: {why}")?;
             writeln!(out, "    proved: {}", Imported(&proved))?;
             writeln!(out, "    second: {}", Imported(&second))?;
-            counts.different += 1;
-            return Ok(());
+            return Ok((Outcome::Different, why.to_owned()));
         }
         match imported(&proved) {
             Some(message) => {
                 write!(out, "{} bytes, ", message.len())?;
-                self.run_message(&message, counts, out)
+                self.run_message(&message, out)
             }
             None => {
                 writeln!(out, "{} characters", text.len())?;
                 writeln!(out, "    {proved}")?;
-                counts.refused += 1;
-                Ok(())
+                let words = in_words(&proved, self.import.read_as, text).unwrap_or_default();
+                writeln!(out, "    {words}")?;
+                Ok((Outcome::Refused, words))
             }
         }
     }
 
     /// A message whose beginning is of no kind goes through both programs: a
-    /// damaged signature must not decide which one sees it.
+    /// damaged signature must not decide which one sees it. Gives what became of it, and
+    /// why in words.
     fn run_message(
         &self,
         message: &[u8],
-        counts: &mut Counts,
         out: &mut impl Write,
-    ) -> Result<(), Failure> {
+    ) -> Result<(Outcome, String), Failure> {
         let pairs: &[&Pair] = match Kind::of(message) {
             Kind::Ntlm => &[&self.ntlm],
             Kind::NlAuth => &[&self.nl_auth],
@@ -440,29 +478,37 @@ impl Bench {
                 kinds.join(" and as ")
             )?,
         }
-        let mut same = true;
+        let mut different = None;
         let mut taken = false;
+        let mut refused = String::new();
         for pair in pairs {
             let (proved, second) = pair.run(message)?;
             if proved.is_same(&second) {
                 writeln!(out, "    {proved}")?;
+                if let Some(words) = in_words(&proved, pair.read_as, message) {
+                    writeln!(out, "    {words}")?;
+                    refused = if refused.is_empty() { words } else { refused };
+                }
             } else {
-                writeln!(out, "    DIFFERENT: {}", difference(&proved, &second))?;
+                let why = difference(&proved, &second);
+                writeln!(out, "    DIFFERENT: {why}")?;
                 writeln!(out, "    proved: {proved}")?;
                 writeln!(out, "    second: {second}")?;
-                same = false;
+                different = Some(why);
             }
             taken |= !is_refusal(&proved);
-            if pair.kind == self.explain.kind && by_a_check(&proved) {
-                same &= self.explain(message, out)?;
+            if pair.kind == self.explain.kind
+                && by_a_check(&proved)
+                && !self.explain(message, out)?
+            {
+                different = Some("the checks are not the same".to_owned());
             }
         }
-        match (same, taken) {
-            (false, _) => counts.different += 1,
-            (true, true) => counts.taken += 1,
-            (true, false) => counts.refused += 1,
-        }
-        Ok(())
+        Ok(match (different, taken) {
+            (Some(why), _) => (Outcome::Different, why),
+            (None, true) => (Outcome::Taken, String::new()),
+            (None, false) => (Outcome::Refused, refused),
+        })
     }
 
     /// Prints the check that failed, under the line of a refused NTLM message.
@@ -573,36 +619,5 @@ fn difference(proved: &Answer, second: &Answer) -> String {
         (Answer::Fault(_), Answer::Printed(_)) => "the proved program gave no line".to_owned(),
         (Answer::Printed(_), Answer::Fault(_)) => "the second program gave no line".to_owned(),
         (Answer::Fault(_), Answer::Fault(_)) => "neither program gave a line".to_owned(),
-    }
-}
-
-impl Counts {
-    /// Nothing is good about a run that read no message.
-    fn is_good(&self) -> bool {
-        self.messages > 0 && self.different == 0 && self.not_read == 0
-    }
-}
-
-/// The summary line.
-impl fmt::Display for Counts {
-    fn fmt(&self, f: &mut fmt::Formatter<'_>) -> fmt::Result {
-        let Self {
-            messages,
-            taken,
-            refused,
-            different,
-            not_read,
-        } = self;
-        let noun = if *messages == 1 {
-            "message"
-        } else {
-            "messages"
-        };
-        write!(
-            f,
-            "{messages} {noun}: {} the same in both programs ({taken} taken, {refused} refused), \
-             {different} different, {not_read} not read",
-            taken + refused
-        )
     }
 }

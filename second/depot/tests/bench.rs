@@ -15,6 +15,10 @@ const EXPLAIN: &str = "echo check 1 held; \
 /// A message of eight bytes.
 const IMPORT: &str = "echo 4E544C4D53535000";
 const FAILED: &str = "check 2 failed field=0 offset=0 length=0 message=8";
+/// What stands under a refusal of eight bytes by 2, and under one of other bytes.
+const TOO_SHORT: &str =
+    "shorter than its fixed part: it has 8 bytes, and its type would be at byte 8";
+const WORDS_ALONE: &str = "shorter than its fixed part";
 
 /// Programs that stand for the real ones. All are written before any is run: a
 /// file still open for writing can't be run.
@@ -37,6 +41,7 @@ fn program(name: &str) -> PathBuf {
                 "echo 'refused 2 field=0 at=0'; echo 'the line could not be written' >&2",
             ),
             ("refuses_its_line", "echo 'refused 33 field=0 at=0'"),
+            ("refuses_a_string", "echo 'refused 15 field=1 at=0'"),
             ("explains", EXPLAIN),
             (
                 "explains_otherwise",
@@ -176,7 +181,9 @@ fn a_difference_shows_both_lines() {
         format!(
             "a.bin: raw, 8 bytes, NTLM\n    DIFFERENT: the lines part at character 9\n    \
              proved: refused 3 field=0 at=0\n    second: refused 2 field=0 at=0\n    {FAILED}\n\
-             b.bin: raw, 13 bytes, NL_AUTH\n    refused 2 field=0 at=0\n\
+             b.bin: raw, 13 bytes, NL_AUTH\n    refused 2 field=0 at=0\n    {WORDS_ALONE}\n\
+             refused:\n    b.bin: {WORDS_ALONE}\n\
+             different:\n    a.bin: the lines part at character 9\n\
              2 messages: 1 the same in both programs (0 taken, 1 refused), 1 different, 0 not read\n"
         )
     );
@@ -191,10 +198,11 @@ fn a_refused_ntlm_message_shows_the_failed_check() {
     assert_eq!(
         out,
         format!(
-            "a: raw, 8 bytes, NTLM\n    refused 2 field=0 at=0\n    {FAILED}\n\
+            "a: raw, 8 bytes, NTLM\n    refused 2 field=0 at=0\n    {TOO_SHORT}\n    {FAILED}\n\
              b: raw, 8 bytes, begins like no message, read as NTLM and as NL_AUTH\n    \
-             refused 2 field=0 at=0\n    {FAILED}\n    refused 2 field=0 at=0\n\
-             c: raw, 13 bytes, NL_AUTH\n    refused 2 field=0 at=0\n\
+             refused 2 field=0 at=0\n    {TOO_SHORT}\n    {FAILED}\n    refused 2 field=0 at=0\n    {WORDS_ALONE}\n\
+             c: raw, 13 bytes, NL_AUTH\n    refused 2 field=0 at=0\n    {WORDS_ALONE}\n\
+             refused:\n    a: {TOO_SHORT}\n    b: {TOO_SHORT}\n    c: {WORDS_ALONE}\n\
              3 messages: 3 the same in both programs (0 taken, 3 refused), 0 different, 0 not read\n"
         )
     );
@@ -231,8 +239,9 @@ fn checks_that_differ_are_a_difference() {
     ];
     for (explain, told) in cases {
         let (status, out, _) = run_all(&folder, ["refuses", "refuses", explain, "refuses"]);
-        let line = "    refused 2 field=0 at=0\n    ";
-        assert!(out.contains(&format!("{line}{told}1 message: ")), "{out}");
+        let line = format!("    refused 2 field=0 at=0\n    {TOO_SHORT}\n    ");
+        let again = "different:\n    a: the checks are not the same\n1 message: ";
+        assert!(out.contains(&format!("{line}{told}{again}")), "{out}");
         assert!(out.ends_with(" 1 different, 0 not read\n"), "{out}");
         assert_eq!(status, Some(1));
     }
@@ -244,8 +253,19 @@ fn checks_that_differ_are_a_difference() {
 
 /// Prints the checks of one file.
 fn explain(file: &Path, explain: &str, second: &str) -> (Option<i32>, String, String) {
-    let (explain, second) = (program(explain), program(second));
-    told(&depot(&[Path::new("explain"), file, &explain, &second]))
+    explain_all(file, [explain, "refuses", second])
+}
+
+/// The same with a program for NL_AUTH.
+fn explain_all(file: &Path, programs: [&str; 3]) -> (Option<i32>, String, String) {
+    let [explain, nl_auth, second] = programs.map(program);
+    told(&depot(&[
+        Path::new("explain"),
+        file,
+        &explain,
+        &nl_auth,
+        &second,
+    ]))
 }
 
 #[test]
@@ -255,7 +275,7 @@ fn one_file_is_explained() {
     for (file, _) in files {
         let file = folder.join(file);
         let (status, out, err) = explain(&file, "explains", "refuses");
-        let expected = format!("check 1 held\n{FAILED}\ncheck 3 not reached\n");
+        let expected = format!("check 1 held\n{FAILED}\ncheck 3 not reached\n{TOO_SHORT}\n");
         assert_eq!(
             (status, out.as_str(), err.as_str()),
             (Some(0), &expected[..], "")
@@ -265,6 +285,74 @@ fn one_file_is_explained() {
         assert_eq!(status, Some(1));
         assert_eq!(look("explain", &file), needs("ntlm_explain"));
         assert_eq!(look("canonical", &file), needs("linked"));
+    }
+}
+
+#[test]
+fn an_nl_auth_message_is_explained_by_its_line() {
+    let (cut, words) = (
+        b"\0\0\0\0\x01\0\0\0LINE",
+        "a string without its zero byte, or a name cut short: \
+         string A (NetBIOS domain name) begins at byte 8 of 12",
+    );
+    let folder = folder_of("nl_explained", &[("a.bin", cut)]);
+    let file = folder.join("a.bin");
+    assert_eq!(look("explain", &file), needs("nl_auth_line"));
+    let line = "refused 15 field=1 at=0";
+    let programs = ["not_there", "refuses_a_string", "refuses_a_string"];
+    let (status, out, err) = explain_all(&file, programs);
+    assert_eq!(out, format!("{line}\n{words}\n"));
+    assert_eq!((status, err.as_str()), (Some(0), ""));
+    let programs = ["not_there", "refuses_a_string", "refuses"];
+    let (status, out, _) = explain_all(&file, programs);
+    let told = format!("DIFFERENT: the lines part at line 1\nproved: {line}\nsecond: refused 2 ");
+    assert!(out.starts_with(&told), "{out}");
+    assert_eq!(status, Some(1));
+    // The second program's own words under `make run`.
+    let programs = [
+        "not_there",
+        "refuses_a_string",
+        "not_there",
+        "refuses_a_string",
+    ];
+    let (status, out, _) = run_all(&folder, programs);
+    assert!(out.starts_with(&format!(
+        "a.bin: raw, 12 bytes, NL_AUTH\n    {line}\n    {words}\n"
+    )));
+    assert_eq!(status, Some(0));
+}
+
+/// Runs a folder with REFUSED set to a word.
+fn run_refused(folder: &Path, word: &str, second: &str) -> (Option<i32>, String, String) {
+    let programs = [second, second, "explains", second, "imports"].map(program);
+    let output = Command::new(env!("CARGO_BIN_EXE_depot"))
+        .arg("run")
+        .arg(folder)
+        .args(programs)
+        .env("REFUSED", word)
+        .output();
+    told(&output.expect("the bench runs"))
+}
+
+#[test]
+fn a_refusal_is_a_failure_where_that_is_asked_for() {
+    let folder = folder_of("refused_fails", &[("a.bin", P12), ("b.bin", P12)]);
+    let (status, out, err) = run_refused(&folder, "fail", "refuses");
+    assert!(out.contains("refused:\n    a.bin: shorter"), "{out}");
+    assert!(out.ends_with("(0 taken, 2 refused), 0 different, 0 not read\n"));
+    assert!(err.starts_with("REFUSED=fail, and 2 refused: "), "{err}");
+    assert_eq!((status, err.lines().count()), (Some(1), 1));
+    // Without the word, or where none is refused, it is none.
+    for (word, second) in [("", "refuses"), ("fail", "takes")] {
+        let (status, _, err) = run_refused(&folder, word, second);
+        assert_eq!((status, err.as_str()), (Some(0), ""), "{word}");
+    }
+    // A word that isn't understood must not pass for none.
+    for word in ["Fail", "yes", "0", "fail "] {
+        let (status, out, err) = run_refused(&folder, word, "takes");
+        assert_eq!((status, out.as_str()), (Some(1), ""), "{word}");
+        assert!(err.starts_with("REFUSED=") && err.contains(" is not understood: REFUSED=fail "));
+        assert_eq!(err.lines().count(), 1);
     }
 }
 
@@ -614,8 +702,9 @@ fn each_header_line_is_a_message() {
     assert_eq!(
         out,
         format!(
-            "trace.txt, 1: header line, 8 bytes, NTLM\n    refused 2 field=0 at=0\n    {FAILED}\n\
-             trace.txt, 2: header line, 8 bytes, NTLM\n    refused 2 field=0 at=0\n    {FAILED}\n\
+            "trace.txt, 1: header line, 8 bytes, NTLM\n    refused 2 field=0 at=0\n    {TOO_SHORT}\n    {FAILED}\n\
+             trace.txt, 2: header line, 8 bytes, NTLM\n    refused 2 field=0 at=0\n    {TOO_SHORT}\n    {FAILED}\n\
+             refused:\n    trace.txt, 1: {TOO_SHORT}\n    trace.txt, 2: {TOO_SHORT}\n\
              2 messages: 2 the same in both programs (0 taken, 2 refused), 0 different, 0 not read\n"
         )
     );

@@ -6,6 +6,7 @@ use std::path::Path;
 use depot::folder::{Content, Folder};
 use depot::form::Kind;
 use depot::night;
+use depot::words::{self, ReadAs};
 use reader::{check_messages, export_header, import_header, Entry, Program, Refusal, LINE_LIMIT};
 
 const MESSAGES: &str = concat!(env!("CARGO_MANIFEST_DIR"), "/../../messages");
@@ -73,6 +74,59 @@ fn each_file_stands_in_the_table_with_its_line() {
     told.sort();
     assert!(found.len() >= 12);
     assert_eq!(told, found);
+}
+
+/// The figures under a refusal are those that the second reader prints of its failed check, and no
+/// byte behind the fixed part has a say in them.
+#[test]
+fn a_refusal_in_words_has_the_second_readers_figures() {
+    let folder = Folder::list(Path::new(MESSAGES)).expect("messages");
+    let mut tried = 0;
+    for file in &folder.messages {
+        let Ok((_, message)) = file.read() else {
+            continue;
+        };
+        let checks = line(Program::Explain, &message);
+        let Some((_, failed)) = checks.split_once(" failed ") else {
+            continue;
+        };
+        let figure = |name: &str| -> Option<u64> {
+            let word = failed
+                .split([' ', '\\'])
+                .find_map(|word| word.strip_prefix(name))?;
+            word.parse().ok()
+        };
+        let (read_as, program) = match Kind::of(&message) {
+            Kind::NlAuth => continue,
+            _ => (ReadAs::Ntlm, Program::Ntlm),
+        };
+        let told = |message: &[u8]| {
+            let printed = line(program, message);
+            let number = words::number_of(printed.trim_matches('`').as_bytes()).expect("a refusal");
+            words::of(number, read_as, message).expect("words")
+        };
+        let words = told(&message);
+        if figure("field=") != Some(0) {
+            let (offset, length) = (figure("offset=").unwrap(), figure("length=").unwrap());
+            let places = format!("bytes {offset} to {}", offset + length);
+            assert!(words.contains(&places), "{}: {words}", file.name);
+        }
+        if let (Some(at), Some(id)) = (figure("at="), figure("id=")) {
+            assert!(words.contains(&format!(" at byte {at}")), "{words}");
+            assert!(
+                id == 0 || words.contains(&format!("pair {id} (")),
+                "{words}"
+            );
+        }
+        // In an AUTHENTICATE the secrets stand behind the fixed part.
+        if message.len() > 64 && message[8] == 3 {
+            let mut other = message.clone();
+            other[64..].fill(b'!');
+            assert_eq!(told(&other), words, "{}", file.name);
+        }
+        tried += 1;
+    }
+    assert!(tried > 10, "{tried}");
 }
 
 /// The night's answers stand in the README as the second reader gives them.

@@ -106,19 +106,7 @@ impl<'a> NlAuth<'a> {
         if flags.is_empty() {
             return Err(Reason::NoStrings.of_message());
         }
-        let mut strings = [NlAuthString::default(); 5];
-        let mut at = 0;
-        for (string, (bit, number)) in strings.iter_mut().zip(NlAuthFlags::STRINGS) {
-            if !flags.has(bit) {
-                continue;
-            }
-            let read = if bit & NlAuthFlags::DNS_NAMES == 0 {
-                NlAuthString::plain(buffer, at)
-            } else {
-                NlAuthString::dns(buffer, at)
-            };
-            (*string, at) = read.map_err(|reason| reason.of_field(number))?;
-        }
+        let (strings, at) = Self::read_strings(flags, buffer, u8::MAX)?;
         if at < buffer.len() {
             return Err(Reason::BytesAfterStrings.of_message());
         }
@@ -128,6 +116,39 @@ impl<'a> NlAuth<'a> {
             strings,
             buffer,
         })
+    }
+
+    /// The strings with numbers below `before`, and the place of the buffer after the
+    /// last of them.
+    fn read_strings(
+        flags: NlAuthFlags,
+        buffer: &'a [u8],
+        before: u8,
+    ) -> Result<([NlAuthString<'a>; 5], usize), Refusal> {
+        let mut strings = [NlAuthString::default(); 5];
+        let mut at = 0;
+        for (string, (bit, number)) in strings.iter_mut().zip(NlAuthFlags::STRINGS) {
+            if !flags.has(bit) || number >= before {
+                continue;
+            }
+            let read = if bit & NlAuthFlags::DNS_NAMES == 0 {
+                NlAuthString::plain(buffer, at)
+            } else {
+                NlAuthString::dns(buffer, at)
+            };
+            (*string, at) = read.map_err(|reason| reason.of_field(number))?;
+        }
+        Ok((strings, at))
+    }
+
+    /// Where the string of a number ("A = 1") begins in a request, or would begin, from
+    /// the start of the message; that of 6 is where the strings end. None where the
+    /// message has no fixed part or a string before it is refused.
+    pub fn string_place(message: &'a [u8], number: u8) -> Option<usize> {
+        let (fixed, buffer) = message.split_first_chunk::<{ NlAuth::FIXED }>()?;
+        let flags = NlAuthFlags::new(number_at::<4, { NlAuth::FIXED }>(fixed));
+        let (_, at) = Self::read_strings(flags, buffer, number).ok()?;
+        Some(Self::FIXED.saturating_add(at))
     }
 
     /// The strings that are there, each with its number.
