@@ -998,17 +998,19 @@ fn messages_in_header_lines() {
     assert_eq!(text[exported.len()..], [0xEE; 400][exported.len()..]);
     let mut message = [0xEE; 120];
     assert_eq!(import_header(&mut message, &exported), Ok(&p1()[..]));
-    // The lines that curl and a server sent.
-    let lines = String::from_utf8(file("messages/http-curl.txt")).expect("text");
-    for line in lines.lines() {
-        let (_, text) = line.split_once(": ").expect("a header line");
-        let mut room = [0; 400];
-        let message = import_header(&mut room, text.as_bytes()).expect("taken");
-        let mut line = [0; 200];
-        let shown = ntlm_line(message, &mut line).expect("room");
-        assert!(!shown.starts_with(b"refused"));
-        let mut again = [0; 600];
-        assert_eq!(export_header(&mut again, message), Ok(text.as_bytes()));
+    // The lines that clients and servers sent.
+    for client in ["curl", "chromium", "cntlm", "requests-ntlm"] {
+        let lines = file(&format!("messages/http-{client}.txt"));
+        for line in String::from_utf8(lines).expect("text").lines() {
+            let (_, text) = line.split_once(": ").expect("a header line");
+            let mut room = [0; 400];
+            let message = import_header(&mut room, text.as_bytes()).expect("taken");
+            let mut line = [0; 200];
+            let shown = ntlm_line(message, &mut line).expect("room");
+            assert!(!shown.starts_with(b"refused"));
+            let mut again = [0; 600];
+            assert_eq!(export_header(&mut again, message), Ok(text.as_bytes()));
+        }
     }
     for (text, number) in [
         (&b"NTLM"[..], 57),
@@ -1054,7 +1056,7 @@ fn sign_ins() -> Vec<[Vec<u8>; 5]> {
 #[test]
 fn mics_of_real_sign_ins() {
     let sign_ins = sign_ins();
-    assert_eq!(sign_ins.len(), 17);
+    assert_eq!(sign_ins.len(), 18);
     for [key, negotiate, challenge, authenticate, sent] in &sign_ins {
         let messages = SignIn {
             negotiate,

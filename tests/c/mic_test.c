@@ -84,7 +84,7 @@ int main(int argc, char **argv)
             try_sign_in();
     }
     fclose(file);
-    check(passed == 17 * 9, argv[1], "it doesn't hold seventeen sign-ins");
+    check(passed == 18 * 9, argv[1], "it doesn't hold eighteen sign-ins");
     printf("%d passed, %d failed\n", passed, failed);
     return failed != 0;
 }

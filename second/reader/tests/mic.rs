@@ -143,7 +143,7 @@ fn triples() -> Vec<Triple> {
 #[test]
 fn real_sign_ins_check() {
     let triples = triples();
-    assert_eq!(triples.len(), 17);
+    assert_eq!(triples.len(), 18);
     for triple in &triples {
         let worked_out = mic(&triple.key, &triple.sign_in()).expect(&triple.source);
         assert_eq!(worked_out.to_vec(), triple.mic, "{}", triple.source);
