@@ -22,7 +22,8 @@ use Rattle.batch.specs.Batch.{answerOf, atPlace, readMarked, answered}
 use Rattle.demands.specs.Explained.{printedChecks, TakenAs, RefusedAs, OneOf}
 use Rattle.demands.specs.Batch.{markOf, Marked, Passes, Inside, message, AnswerIs, EntryAnswered, Each, BatchAnswers, Listed, in-first-64, in-challenge, DifferInListedSecrets, SameBatch, SecretBatch, BatchIgnored}
 use Rattle.demands.proofs.Alike.{same-part}
-use Rattle.demands.proofs.Explained.{taken-clear, refused-not, Either, either, refused-is}
+use Rattle.demands.specs.TakenExactly.{RefusedWith}
+use Rattle.demands.proofs.Judged.{fails-is, taken-clear, refused-not, Either, either}
 use Rattle.demands.proofs.Explained.Reasons.{why}
 use Rattle.demands.proofs.Explained.Same.{ignored-read}
 use Rattle.demands.proofs.First64.{negotiate-same, authenticate-same}
@@ -82,15 +83,15 @@ module _ (s : List ℕ) (x : Entry) where
 
   refused-is-so : Inside s x → (k : Kind) → Marked x k → (n i p : ℕ) → RefusedAs k (message s x) n i p →
       AnswerIs (answerOf v) n i p
-  refused-is-so l k m n i p h = let y = refused-not k (message s x) n i p h in rw (when-kind l k m ∙ y .1) (y .2 .0, y .2 .1, y .2 .2)
+  refused-is-so l k m n i p h = let y = refused-not (readAs k (message s x)) n i p h in rw (when-kind l k m ∙ y .1) (y .2 .0, y .2 .1, y .2 .2)
 
   never-54 : Inside s x → answerOf v .number ≡ 54 → ⊥
   never-54 l h = go (kind-or-none (x .mark)) where
     go : KindOrNone (x .mark) → ⊥
     go (inr none) = let z : _≡_ {A = ℕ} 4 54 = rw (when-inside l ∙ by-none (x .mark) (message s x) none) at h in omega (arith, z)
-    go (inl km) = of (either (km .0) (message s x)) where
-      of : Either (km .0) (message s x) → ⊥
-      of (inl t) = let z : _≡_ {A = ℕ} 0 54 = rw (when-kind l (km .0) (km .1) ∙ taken-clear (km .0) (message s x) t) at h in omega (arith, z)
+    go (inl km) = of (either (readAs (km .0) (message s x))) where
+      of : Either (readAs (km .0) (message s x)) → ⊥
+      of (inl t) = let z : _≡_ {A = ℕ} 0 54 = rw (when-kind l (km .0) (km .1) ∙ taken-clear (readAs (km .0) (message s x)) t) at h in omega (arith, z)
       of (inr e) = refusal-number (km .0) (message s x) _ _ _ (e .1) .1 (sym (refused-is-so l (km .0) (km .1) _ _ _ (e .1) .0) ∙ h)
 
   entry-answered : EntryAnswered s x (answered s x)
@@ -102,10 +103,10 @@ module _ (s : List ℕ) (x : Entry) where
         mark = refl;
         outside = λ l. rw (when-outside l) (refl, refl, refl);
         only-outside = λ h. only (leb (x .start + x .length) (length s)) refl h;
-        taken = λ l k m t. rw (when-kind l k m ∙ taken-clear k (message s x) t) (refl, refl, refl);
-        only-taken = λ l k m h. zero-taken l k m h (either k (message s x));
+        taken = λ l k m t. rw (when-kind l k m ∙ taken-clear (readAs k (message s x)) t) (refl, refl, refl);
+        only-taken = λ l k m h. zero-taken l k m h (either (readAs k (message s x)));
         refused = refused-is-so;
-        only-refused = λ l k m h. some-refused l k m h (either k (message s x));
+        only-refused = λ l k m h. some-refused l k m h (either (readAs k (message s x)));
         no-kind = λ l none. rw (when-inside l ∙ by-none (x .mark) (message s x) none) (refl, refl, refl);
       }
     where
@@ -113,15 +114,15 @@ module _ (s : List ℕ) (x : Entry) where
       only true e h = absurd (never-54 (leb-true (x .start + x .length) (length s) e) h)
       only false e h = leb-false (x .start + x .length) (length s) e
 
-      zero-taken : Inside s x → (k : Kind) → Marked x k → answerOf v .number ≡ 0 → Either k (message s x) → TakenAs k (message s x)
+      zero-taken : Inside s x → (k : Kind) → Marked x k → answerOf v .number ≡ 0 → Either (readAs k (message s x)) → TakenAs k (message s x)
       zero-taken l k m h (inl t) = t
       zero-taken l k m h (inr e) = absurd (refusal-number k (message s x) _ _ _ (e .1) .0 (sym (refused-is-so l k m _ _ _ (e .1) .0) ∙ h))
 
-      some-refused : Inside s x → (k : Kind) → Marked x k → 0 < answerOf v .number → Either k (message s x) →
+      some-refused : Inside s x → (k : Kind) → Marked x k → 0 < answerOf v .number → Either (readAs k (message s x)) →
           RefusedAs k (message s x) (answerOf v .number) (answerOf v .field) (answerOf v .place)
-      some-refused l k m h (inl t) = absurd (let z : 0 < 0 = rw (when-kind l k m ∙ taken-clear k (message s x) t) at h in omega (arith, z))
+      some-refused l k m h (inl t) = absurd (let z : 0 < 0 = rw (when-kind l k m ∙ taken-clear (readAs k (message s x)) t) at h in omega (arith, z))
       some-refused l k m h (inr e) =
-          let y = refused-is-so l k m _ _ _ (e .1) in refused-is k (message s x) _ _ _ _ _ _ (sym (y .0)) (sym (y .1)) (sym (y .2)) (e .1)
+          let y = refused-is-so l k m _ _ _ (e .1) in fails-is (RefusedWith (readAs k (message s x))) (sym (y .0), sym (y .1), sym (y .2)) (e .1)
 
 -- ---- the list
 

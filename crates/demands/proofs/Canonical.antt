@@ -30,7 +30,8 @@ use Rattle.demands.specs.LaidOut.{LaidOut}
 use Rattle.demands.specs.MaxLen.{bareAuthenticate}
 use Rattle.demands.specs.ReadBack.{AuthenticateBack}
 use Rattle.demands.specs.Secret.{SamePublic, AsLong}
-use Rattle.demands.specs.TakenExactly.{IsTakenAuthenticate}
+use Rattle.demands.specs.TakenExactly.{IsTaken}
+use Rattle.verdict.specs.Verdict.{authVerdict}
 use Rattle.demands.specs.WrittenExactly.{WrittenExactly, authenticateSize, authenticateOrder, AuthenticateWritingFails}
 use Rattle.demands.proofs.Answers.{writing-short, writing-tells}
 use Rattle.demands.proofs.Answers.SmallFields.{authenticate-small}
@@ -67,7 +68,7 @@ each-means s a h =
 
 pub meaning-is-there : MeaningIsThere
 meaning-is-there s t = go (readAuthenticate s .reading) refl t where
-  go : (r : Reading) → readAuthenticate s .reading ≡ r → IsTakenAuthenticate r → (m : Meaning) × Means s m
+  go : (r : Reading) → readAuthenticate s .reading ≡ r → IsTaken (authVerdict r) → (m : Meaning) × Means s m
   go (Taken a) p u = (meaningOf s (readAuthenticate s .mic) a, each-means s a p)
   go (Refused e) p u = absurd u
 

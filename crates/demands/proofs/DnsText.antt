@@ -1,6 +1,6 @@
 -- Laws of the labels of a text: its parts between full stops are the only ones, they fail check 50 exactly when one is empty or
 -- over 63, and in the line a plain text is shown as it is.
-use Prim.Native.Nat.{ℕ, zero, suc, _+_, _<_}
+use Prim.Native.Nat.{ℕ, zero, suc, _<_}
 use mathlib.Core.Path.{_≡_, refl, sym, ap, _∙_, subst}
 use mathlib.Core.Logic.{_⊎_, inl, inr}
 use mathlib.Core.Bool.{Bool, true, false, _&&_, not, cond}

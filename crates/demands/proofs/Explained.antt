@@ -14,127 +14,35 @@ use native.Mathlib.Omega.{arith}
 use lib.Dec.{ltb, eqb}
 use lib.ListN.{length, take, drop, getD, length-take}
 use lib.Seq.{getD-take, getD-drop}
-use borrow.Author.Tests.{eqb-true, eqb-false, eq-eqb, ne-eqb, ltb-true, lt-ltb, le-ltb, le-leb, lt-leb}
-use Rattle.wire.specs.declared.check.Verdict.the-variants.{Clear, Refused as Not}
+use borrow.Author.Tests.{eqb-true, eqb-false, eq-eqb, ne-eqb, ltb-true, lt-ltb, le-ltb}
+use Rattle.wire.specs.declared.check.Verdict.the-variants.{Refused as Not}
 use Rattle.wire.specs.declared.refusal.Refusal.{Refusal}
 use Rattle.wire.specs.Number.{u16At}
-use Rattle.wire.specs.Refusal.{numberOf, fieldOf, placeOf}
-use Rattle.wire.proofs.Places.{placeless-number}
+use Rattle.wire.specs.Refusal.{numberOf, fieldOf}
 use Rattle.field.specs.declared.Field.{Field}
 use Rattle.field.specs.Field.{isEmpty}
-use Rattle.place.specs.Written.{bytesAnswer}
 use Rattle.head.specs.declared.Kind.{Kind}
 use Rattle.head.specs.declared.Kind.the-variants.{Negotiate, Challenge, Authenticate}
 use Rattle.head.specs.Head.{kindOf}
-use Rattle.read_negotiate.specs.declared.Reading.{Reading as NegoReading}
-use Rattle.read_negotiate.specs.declared.Reading.the-variants.{Taken as NegoTaken, Refused as NegoRefused}
-use Rattle.read_negotiate.specs.Negotiate.{readNegotiate}
-use Rattle.read_challenge.specs.declared.Reading.{Reading as ChalReading}
-use Rattle.read_challenge.specs.declared.Reading.the-variants.{Taken as ChalTaken, Refused as ChalRefused}
-use Rattle.read_challenge.specs.Challenge.{readChallenge}
-use Rattle.read_authenticate.specs.declared.Reading.{Reading as AuthReading}
-use Rattle.read_authenticate.specs.declared.Reading.the-variants.{Taken as AuthTaken, Refused as AuthRefused}
-use Rattle.read_authenticate.specs.Authenticate.{readAuthenticate}
 use Rattle.line_checks.specs.declared.Figures.{Figures as Given}
 use Rattle.line_checks.specs.Checks.{checkLines}
-use Rattle.verdict.specs.Verdict.{negoVerdict, chalVerdict, authVerdict, readAs}
+use Rattle.verdict.specs.Verdict.{readAs}
 use Rattle.explain.specs.Explain.{fieldsOf, numbered, figuresOf, noFigures, ofPair, figuresAs, explainedAs, explanation}
 use Rattle.explain.proofs.Laws.{no-head}
 use Rattle.demands.specs.Order.{placeIn}
 use Rattle.demands.specs.Message.{Format, negotiate, authenticate, challenge, Nonempty, lenOf, offsetOf}
 use Rattle.demands.specs.PairList.{idOf, sizeOf}
-use Rattle.demands.specs.TakenExactly.{RefusalIs, InfoBytes, IsTakenNegotiate, IsTakenChallenge, IsTakenAuthenticate, NegotiateRefusedWith, ChallengeRefusedWith, AuthenticateRefusedWith}
-use Rattle.demands.specs.Explained.{Figures, State, held, failed, not-reached, printedChecks, printOf, formatOf, TakenAs, RefusedAs, FailsAt, at-field, at-pair, FiguresAre, OneOf, Before, Told, ExplainedExactly, ExplainedAnswered, ExplainedKept}
-use Rattle.demands.proofs.Kept.{line-kept}
+use Rattle.demands.specs.TakenExactly.{RefusalIs, RefusedWith, InfoBytes}
+use Rattle.demands.specs.Explained.{Figures, State, held, failed, not-reached, printedChecks, printOf, formatOf, TakenAs, RefusedAs, FailsAt, at-field, at-pair, FiguresAre, OneOf, Before, Told, ExplainedExactly}
 use Rattle.demands.proofs.Message.{Stands}
 use Rattle.demands.proofs.Message.Fields.{AllStand}
-use Rattle.demands.proofs.TakenExactly.{six, authenticate-refused}
-use Rattle.demands.proofs.TakenExactly.Negotiate.{two as nego-two, negotiate-refused}
+use Rattle.demands.proofs.TakenExactly.{six}
+use Rattle.demands.proofs.TakenExactly.Negotiate.{two as nego-two}
 use Rattle.demands.proofs.TakenExactly.Challenge.{two as chal-two}
 use Rattle.demands.proofs.Explained.Lines.{shown, stateBy, stateOf, lines-are}
-use Rattle.demands.proofs.Explained.Reasons.{Why, why, taken-holds, one-info, info-counts, up-to-9}
-
--- ---- the verdict that the print goes by is the reader's
-
--- a refusal without a pair has no place
-no-place : (e : Refusal) → numberOf e ≤ 9 → placeOf e ≡ 0
-no-place e h = placeless-number e (λ b. omega (arith, b .0))
-
-pub taken-clear : (k : Kind) (s : List ℕ) → TakenAs k s → readAs k s ≡ Clear
-taken-clear Negotiate s t = go (readNegotiate s) t where
-  go : (r : NegoReading) → IsTakenNegotiate r → negoVerdict r ≡ Clear
-  go (NegoTaken m) t = refl
-  go (NegoRefused e) t = absurd t
-taken-clear Challenge s t = go (readChallenge s .reading) t where
-  go : (r : ChalReading) → IsTakenChallenge r → chalVerdict r ≡ Clear
-  go (ChalTaken m) t = refl
-  go (ChalRefused e) t = absurd t
-taken-clear Authenticate s t = go (readAuthenticate s .reading) t where
-  go : (r : AuthReading) → IsTakenAuthenticate r → authVerdict r ≡ Clear
-  go (AuthTaken m) t = refl
-  go (AuthRefused e) t = absurd t
-
-pub refused-not : (k : Kind) (s : List ℕ) (n i p : ℕ) → RefusedAs k s n i p → (e : Refusal) × (readAs k s ≡ Not e) × RefusalIs e n i p
-refused-not Negotiate s n i p t = go (readNegotiate s) (t .0) where
-  small : n ≤ 9
-  small = up-to-9 negotiate s n i (negotiate-refused s n i .0 (t .0) .fails)
-
-  go : (r : NegoReading) → NegotiateRefusedWith r n i → (e : Refusal) × (negoVerdict r ≡ Not e) × RefusalIs e n i p
-  go (NegoTaken m) x = absurd x
-  go (NegoRefused e) x = (e, refl, (x .0, x .1, no-place e (omega (arith, small, x .0)) ∙ sym (t .1)))
-refused-not Challenge s n i p t = go (readChallenge s .reading) t where
-  go : (r : ChalReading) → ChallengeRefusedWith r n i p → (e : Refusal) × (chalVerdict r ≡ Not e) × RefusalIs e n i p
-  go (ChalTaken m) x = absurd x
-  go (ChalRefused e) x = (e, refl, x)
-refused-not Authenticate s n i p t = go (readAuthenticate s .reading) (t .0) where
-  small : n ≤ 9
-  small = up-to-9 authenticate s n i (authenticate-refused s n i .0 (t .0) .fails)
-
-  go : (r : AuthReading) → AuthenticateRefusedWith r n i → (e : Refusal) × (authVerdict r ≡ Not e) × RefusalIs e n i p
-  go (AuthTaken m) x = absurd x
-  go (AuthRefused e) x = (e, refl, (x .0, x .1, no-place e (omega (arith, small, x .0)) ∙ sym (t .1)))
-
--- and every message is taken or refused
-abbrev pub Either : Kind → List ℕ → Type 0
-Either k s = TakenAs k s ⊎ ((e : Refusal) × RefusedAs k s (numberOf e) (fieldOf e) (placeOf e))
-
-pub either : (k : Kind) (s : List ℕ) → Either k s
-either Negotiate s = go (readNegotiate s) refl where
-  go : (r : NegoReading) → readNegotiate s ≡ r → Either Negotiate s
-  go (NegoTaken m) h = inl (rw h tt)
-  go (NegoRefused e) h =
-      let x : NegotiateRefusedWith (readNegotiate s) (numberOf e) (fieldOf e) = rw h (refl, refl) in
-      inr (e, (x, no-place e (up-to-9 negotiate s (numberOf e) (fieldOf e) (negotiate-refused s (numberOf e) (fieldOf e) .0 x .fails))))
-either Challenge s = go (readChallenge s .reading) refl where
-  go : (r : ChalReading) → readChallenge s .reading ≡ r → Either Challenge s
-  go (ChalTaken m) h = inl (rw h tt)
-  go (ChalRefused e) h = inr (e, rw h (refl, refl, refl))
-either Authenticate s = go (readAuthenticate s .reading) refl where
-  go : (r : AuthReading) → readAuthenticate s .reading ≡ r → Either Authenticate s
-  go (AuthTaken m) h = inl (rw h tt)
-  go (AuthRefused e) h =
-      let x : AuthenticateRefusedWith (readAuthenticate s .reading) (numberOf e) (fieldOf e) = rw h (refl, refl) in
-      inr (e, (x, no-place e (up-to-9 authenticate s (numberOf e) (fieldOf e) (authenticate-refused s (numberOf e) (fieldOf e) .0 x .fails))))
-
-pub refused-is : (k : Kind) (s : List ℕ) (m j q n i p : ℕ) → m ≡ n → j ≡ i → q ≡ p → RefusedAs k s m j q → RefusedAs k s n i p
-refused-is k s m j q n i p a b c r =
-    subst (λ (x : ℕ). RefusedAs k s x i p) a (subst (λ (x : ℕ). RefusedAs k s m x p) b (subst (λ (x : ℕ). RefusedAs k s m j x) c r))
-
-not-clear : (e : Refusal) → Clear ≡ Not e → ⊥
-not-clear e h = let z : _≡_ {A = ℕ} 0 1 = cc in omega arith
-
-same-refusal : (e d : Refusal) → Not e ≡ Not d → d ≡ e
-same-refusal e d h = cc
-
-pub refused-as : (k : Kind) (s : List ℕ) (e : Refusal) → readAs k s ≡ Not e → RefusedAs k s (numberOf e) (fieldOf e) (placeOf e)
-refused-as k s e h = go (either k s) where
-  go : Either k s → RefusedAs k s (numberOf e) (fieldOf e) (placeOf e)
-  go (inl t) = absurd (not-clear e (sym (taken-clear k s t) ∙ h))
-  go (inr x) =
-      let r = refused-not k s _ _ _ (x .1) in
-      let same : r .0 ≡ e = same-refusal e (r .0) (sym h ∙ r .1) in
-      refused-is k s _ _ _ (numberOf e) (fieldOf e) (placeOf e)
-      (sym (r .2 .0) ∙ ap numberOf same) (sym (r .2 .1) ∙ ap fieldOf same) (sym (r .2 .2) ∙ ap placeOf same) (x .1)
+use Rattle.demands.proofs.Explained.Reasons.{Why, why, taken-holds, one-info, info-counts}
+use Rattle.demands.proofs.Judged.{fails-is, taken-clear, refused-not, Either, either}
+use Rattle.demands.proofs.Message.Chain.{up-to-9}
 
 -- ---- the fields by number are those of their heads
 
@@ -265,7 +173,7 @@ module _ (k : Kind) (s : List ℕ) where
 
   given-taken : TakenAs k s → given ≡ noFigures
   unfolding figuresAs
-  given-taken t = simp (taken-clear k s t)
+  given-taken t = simp (taken-clear (readAs k s) t)
 
   given-refused : (e : Refusal) → readAs k s ≡ Not e → given ≡ figuresOf s (numbered (fieldOf e) (fieldsOf k s)) e
   unfolding figuresAs
@@ -273,7 +181,7 @@ module _ (k : Kind) (s : List ℕ) where
 
   number-is : (n i p : ℕ) → RefusedAs k s n i p → given .number ≡ n
   unfolding figuresOf
-  number-is n i p r = let x = refused-not k s n i p r in ap (λ (g : Given). g .number) (given-refused (x .0) (x .1)) ∙ x .2 .0
+  number-is n i p r = let x = refused-not (readAs k s) n i p r in ap (λ (g : Given). g .number) (given-refused (x .0) (x .1)) ∙ x .2 .0
 
   -- no check has number 0
   none-is-0 : placeIn checks 0 ≡ length checks
@@ -290,36 +198,36 @@ module _ (k : Kind) (s : List ℕ) where
         all-held = λ t n l. state-before n (rw (given-taken t, none-is-0) l);
         only-taken = λ h. ⊎-elim (λ t. t)
             (λ x. let w = why k s _ _ _ (x .1) in
-            absurd (omega (arith, held-before (numberOf (x .0)) (h (numberOf (x .0)) (w .one)), ap (placeIn checks) (number-is _ _ _ (x .1))))) (either k s);
+            absurd (omega (arith, held-before (numberOf (x .0)) (h (numberOf (x .0)) (w .one)), ap (placeIn checks) (number-is _ _ _ (x .1))))) (either (readAs k s));
         named = λ n i p r.
             let w = why k s n i p r in
-            let x = refused-not k s n i p r in
+            let x = refused-not (readAs k s) n i p r in
             (w .one, (shown given, state-at n (sym (number-is n i p r)), rw (given-refused (x .0) (x .1)) (figures-are k s (x .0) n i p (x .2) w)));
         returned = returned;
         fails = λ n f l h. why k s n (f .field) (f .at) (returned n f l h) .fails;
         before = λ n i p r m b. state-before m (rw (number-is n i p r) b);
         holds = λ m l h. ⊎-elim (λ t. taken-holds k s t m)
-            (λ x. why k s _ _ _ (x .1) .holds m (rw (number-is _ _ _ (x .1)) at (held-before m h))) (either k s);
+            (λ x. why k s _ _ _ (x .1) .holds m (rw (number-is _ _ _ (x .1)) at (held-before m h))) (either (readAs k s));
         after = λ n i p r m b. state-beyond m (rw (number-is n i p r) b);
       }
     where
       returned : (n : ℕ) (f : Figures) → OneOf checks n → state n ≡ failed f → RefusedAs k s n (f .field) (f .at)
-      returned n f l h = go (either k s) where
+      returned n f l h = go (either (readAs k s)) where
         is : (n ≡ given .number) × (f ≡ shown given)
         is = failed-at n f h
 
-        go : Either k s → RefusedAs k s n (f .field) (f .at)
+        go : Either (readAs k s) → RefusedAs k s n (f .field) (f .at)
         go (inl t) =
             let zero : n ≡ 0 = is .0 ∙ ap (λ (g : Given). g .number) (given-taken t) in
             absurd (let z = ap (placeIn checks) zero in omega (arith, z, none-is-0))
         go (inr x) =
-            let r = refused-not k s _ _ _ (x .1) in
+            let r = refused-not (readAs k s) _ _ _ (x .1) in
             let g = given-refused (r .0) (r .1) in
-            refused-is k s _ _ _ n (f .field) (f .at)
-            (sym (is .0 ∙ number-is _ _ _ (x .1)))
-            (sym (ap (λ (y : Figures). y .field) (is .1) ∙ ap (λ (y : Given). y .field) g ∙ r .2 .1))
-            (sym (ap (λ (y : Figures). y .at) (is .1) ∙ ap (λ (y : Given). y .at) g ∙ r .2 .2))
-            (x .1)
+            fails-is (RefusedWith (readAs k s)) (
+              sym (is .0 ∙ number-is _ _ _ (x .1)),
+              sym (ap (λ (y : Figures). y .field) (is .1) ∙ ap (λ (y : Given). y .field) g ∙ r .2 .1),
+              sym (ap (λ (y : Figures). y .at) (is .1) ∙ ap (λ (y : Given). y .at) g ∙ r .2 .2),
+            ) (x .1)
 
 print-is : (k : Kind) (s : List ℕ) → explainedAs k s ≡ printOf (stateOf (figuresAs k s) (printedChecks k)) (printedChecks k)
 unfolding explainedAs checkLines
@@ -330,15 +238,3 @@ print-is Authenticate s = lines-are (figuresAs Authenticate s) (printedChecks Au
 pub explained-exactly : ExplainedExactly
 unfolding explanation
 explained-exactly s = (stateOf (figuresAs (kindOf s) s) (printedChecks (kindOf s)), print-is (kindOf s) s, told (kindOf s) s)
-
--- ---- the call
-
-pub explained-answered : ExplainedAnswered
-unfolding bytesAnswer
-explained-answered s out = (
-  λ h. simp (le-leb (length (explanation s)) (length out) h),
-  λ h. simp (lt-leb (length (explanation s)) (length out) h),
-)
-
-pub explained-kept : ExplainedKept
-explained-kept s out = line-kept (explanation s) out

@@ -49,12 +49,12 @@ use Rattle.demands.specs.Examples.{negotiateMessage}
 use Rattle.demands.specs.HeaderLine.{Bytes}
 use Rattle.demands.specs.PairList.{FirstFault}
 use Rattle.demands.specs.TakenExactly.{ChallengeFails, in-fields, in-list}
-use Rattle.demands.proofs.NlAuth.{nl-auth-refused}
+use Rattle.demands.proofs.NlAuth.{nl-auth-judged}
 use Rattle.demands.proofs.PairList.{first-number}
-use Rattle.demands.proofs.TakenExactly.{authenticate-refused}
-use Rattle.demands.proofs.TakenExactly.Challenge.{info-there, challenge-refused}
-use Rattle.demands.proofs.TakenExactly.Negotiate.{negotiate-refused}
-use Rattle.demands.specs.LineShows.{OneLine, EachOneLine, Form, nego, chal, auth, nl, refused, opening, Opens, OneForm, EachForm, RefusedBy, ReadFor, negotiates, challenges, authenticates, refuses, Alike, ReadAlike, LinesShow, NtlmLineShows, NlReadFor, takes, refuses-nl, NlAlike, NlReadAlike, NlLinesShow, NoRoomFor, NtlmPrintShows, NlPrintShows, NamesEscaped, otherVersion, ShowsExample}
+use Rattle.demands.proofs.TakenExactly.{authenticate-judged}
+use Rattle.demands.proofs.TakenExactly.Challenge.{info-there, challenge-judged}
+use Rattle.demands.proofs.TakenExactly.Negotiate.{negotiate-judged}
+use Rattle.demands.specs.LineShows.{OneLine, EachOneLine, Form, nego, chal, auth, nl, refused, opening, Opens, OneForm, EachForm, RefusedBy, ReadFor, negotiates, challenges, authenticates, refuses, Alike, ReadAlike, LinesShow, NlReadFor, takes, refuses-nl, NlAlike, NlReadAlike, NlLinesShow, NoRoomFor, NtlmPrintShows, NlPrintShows, NamesEscaped, otherVersion, ShowsExample}
 use Rattle.demands.proofs.LineShows.Words.{visible, spaced, IsLine, split, one-line}
 use Rattle.demands.proofs.LineShows.Lines.{refused-line, nego-line, auth-line, chal-line}
 use Rattle.demands.proofs.LineShows.TakenShown.{chal-words, refused-line-shows, negotiate-line-shows, authenticate-line-shows, challenge-line-shows}
@@ -228,10 +228,6 @@ module _ (k l : Kind) (s t : List ℕ) (b : Bytes s) (d : Bytes t) where
 pub lines-show : LinesShow
 lines-show k l s t b d = (read-alike k l s t b d, λ w. line-of k l s t b d (w .form) (w .first) (w .second) (w .alike))
 
-pub ntlm-line-shows : NtlmLineShows
-unfolding ntlmLine
-ntlm-line-shows s t b d = lines-show (kindOf s) (kindOf t) s t b d
-
 -- ---- NL_AUTH
 
 pub nl-refused : (s : List ℕ) (e : Refusal) → readNlAuth s ≡ NlRefused e → nlAuthLine s ≡ refusedLine e
@@ -281,15 +277,15 @@ no-fault-33 b q f = omega (arith, first-number b f)
 
 -- nothing is refused by 33 in reading
 never-33 : (k : Kind) (s : List ℕ) (e : Refusal) → RefusedBy k s e → numberOf e ≡ 33 → ⊥
-never-33 AsNegotiate s e p h = negotiate-refused s 33 (fieldOf e) .0 (rw p (h, refl)) .fails
-never-33 AsAuthenticate s e p h = authenticate-refused s 33 (fieldOf e) .0 (rw p (h, refl)) .fails
-never-33 AsChallenge s e p h = go (challenge-refused s (info-there s .0) (info-there s .1) 33 (fieldOf e) (placeOf e) .0 (rw p (h, refl, refl))) where
+never-33 AsNegotiate s e p h = negotiate-judged s .refused 33 (fieldOf e) (placeOf e) .0 (rw p (h, refl, refl)) .0 .fails
+never-33 AsAuthenticate s e p h = authenticate-judged s .refused 33 (fieldOf e) (placeOf e) .0 (rw p (h, refl, refl)) .0 .fails
+never-33 AsChallenge s e p h = go (challenge-judged s (info-there s .0) (info-there s .1) .refused 33 (fieldOf e) (placeOf e) .0 (rw p (h, refl, refl))) where
   go : ChallengeFails s (info-there s .0) 33 (fieldOf e) (placeOf e) → ⊥
   go (in-fields z f) = f .fails
   go (in-list {q = q} n f z) = no-fault-33 (info-there s .0) q (f .2)
 
 never-33-nl : (s : List ℕ) (e : Refusal) → readNlAuth s ≡ NlRefused e → numberOf e ≡ 33 → ⊥
-never-33-nl s e p h = nl-auth-refused s 33 (fieldOf e) .0 (rw p (h, refl)) .fails
+never-33-nl s e p h = nl-auth-judged s .refused 33 (fieldOf e) (placeOf e) .0 (rw p (h, refl, refl)) .0 .fails
 
 -- so no line of a message is that of 33
 no-33 : (k : Kind) (s : List ℕ) → lineAs k s ≡ refusedLine NoRoom → ⊥
@@ -318,8 +314,9 @@ print-shows a b out f g h = go (leb (length a) (length out)) (leb (length b) (le
   go false false p q e = inr (leb-false (length a) (length out) p, leb-false (length b) (length out) q)
 
 pub ntlm-print-shows : NtlmPrintShows
+unfolding ntlmLine
 ntlm-print-shows s t out b d h =
-    ⊎-elim (λ e. inl (ntlm-line-shows s t b d .0 e)) (λ n. inr n) (print-shows (ntlmLine s) (ntlmLine t) out (no-33-ntlm s) (no-33-ntlm t) h)
+    ⊎-elim (λ e. inl (lines-show (kindOf s) (kindOf t) s t b d .0 e)) (λ n. inr n) (print-shows (ntlmLine s) (ntlmLine t) out (no-33-ntlm s) (no-33-ntlm t) h)
 
 pub nl-print-shows : NlPrintShows
 nl-print-shows s t out b d h =

@@ -12,21 +12,21 @@ use Rattle.av_pairs.specs.AvPairs.{checkPairs, pairsOf, countPairs}
 use Rattle.target_info.specs.declared.Contents.{Contents}
 use Rattle.target_info.specs.declared.ListReading.the-variants.{Taken as ListTaken, Refused as ListRefused}
 use Rattle.target_info.specs.TargetInfo.{contentsOf, readList}
-use Rattle.read_challenge.specs.declared.Challenge.{Challenge}
 use Rattle.read_challenge.specs.declared.FullChallenge.{FullChallenge}
 use Rattle.read_challenge.specs.declared.FullReading.the-variants.{Taken as FullTaken, Refused as FullRefused}
 use Rattle.read_challenge.specs.declared.Reading.{Reading}
 use Rattle.read_challenge.specs.declared.Reading.the-variants.{Taken, Refused}
 use Rattle.read_challenge.specs.Challenge.{onTaken, infoOf, readingOf, readChallenge, fullReadingOf}
+use Rattle.verdict.specs.Verdict.{chalVerdict}
 use Rattle.demands.specs.PairList.{ListFails}
-use Rattle.demands.specs.SearchedExactly.{ListRefusedWith}
-use Rattle.demands.specs.TakenExactly.{ChallengeRefusedWith, ChallengeFails}
-use Rattle.demands.specs.ListRead.{ContentsAre, ListReadRefused, ContentsTaken, ContentsRefused, FullRefusedWith, FullIsTaken, FullIsRefused, contentsIn, ContentsIgnored}
+use Rattle.demands.specs.TakenExactly.{RefusedWith, ChallengeFails}
+use Rattle.demands.specs.ListRead.{ContentsAre, listVerdict, ContentsTaken, ContentsRefused, fullVerdict, FullIsTaken, FullIsRefused, contentsIn, ContentsIgnored}
+use Rattle.demands.proofs.Judged.{taken-clear}
 use Rattle.demands.proofs.PairList.{one-holds, pairs-taken}
-use Rattle.demands.proofs.TakenExactly.Challenge.{challenge-taken, challenge-refused}
+use Rattle.demands.proofs.TakenExactly.Challenge.{challenge-judged}
 use Rattle.demands.proofs.OwnBytes.ChallengeOwn.{info-of}
 use Rattle.demands.proofs.Answering.Deciding.{timestamp-is, one-timestamp}
-use Rattle.demands.proofs.SearchedExactly.{list-clear, list-refused}
+use Rattle.demands.proofs.SearchedExactly.{list-judged}
 use Rattle.demands.proofs.Ignored.ChallengeIgnored.{made-same}
 
 -- ---- a list
@@ -57,13 +57,13 @@ list-taken list c = go (checkPairs list) refl where
   )
   go (Not e) h = (
     λ p. absurd (let z : _≡_ {A = ℕ} 0 1 = cc in omega arith),
-    λ a. absurd (let q = sym h ∙ list-clear list .1 (c .pairs, a .pairs) in let z : _≡_ {A = ℕ} 0 1 = cc in omega arith),
+    λ a. absurd (let q = sym h ∙ taken-clear (checkPairs list) (list-judged list .taken .1 (c .pairs, a .pairs)) in let z : _≡_ {A = ℕ} 0 1 = cc in omega arith),
   )
 
 pub list-not-taken : ContentsRefused
 unfolding readList
-list-not-taken list n i p = go (checkPairs list) (list-refused list n i p) where
-  go : (v : Verdict) → ListRefusedWith v n i p ↔ ListFails list n i p → ListReadRefused (onClear ListRefused v (ListTaken (contentsOf list))) n i p ↔ ListFails list n i p
+list-not-taken list n i p = go (checkPairs list) (list-judged list .refused n i p) where
+  go : (v : Verdict) → RefusedWith v n i p ↔ ListFails list n i p → RefusedWith (listVerdict (onClear ListRefused v (ListTaken (contentsOf list)))) n i p ↔ ListFails list n i p
   go Clear j = j
   go (Not e) j = j
 
@@ -79,7 +79,7 @@ full-taken s b info f = go (readingOf s) refl where
   go : (r : Reading) → readingOf s ≡ r → Full r
   go (Taken c) e = rw (info-of s b c info e) (there, back) where
     contents : ContentsAre b (contentsOf b)
-    contents = held-contents b (list-clear b .1 (let h = challenge-taken s b info .0 (rw e tt) in (h .count, h .list)))
+    contents = held-contents b (taken-clear (checkPairs b) (list-judged b .taken .1 (let h = challenge-judged s b info .taken .0 (rw e tt) in (h .count, h .list))))
 
     same : FullTaken (record { challenge = c; contents = contentsOf b }) ≡ FullTaken f → record { challenge = c; contents = contentsOf b } ≡ f
     same p = cc
@@ -99,9 +99,9 @@ full-taken s b info f = go (readingOf s) refl where
 
 pub full-refused : FullIsRefused
 unfolding fullReadingOf readChallenge
-full-refused s b info n i p = go (readingOf s) (challenge-refused s b info n i p) where
-  go : (r : Reading) → ChallengeRefusedWith r n i p ↔ ChallengeFails s b n i p →
-      FullRefusedWith (onTaken FullRefused r (λ c. FullTaken (record { challenge = c; contents = contentsOf (infoOf s c) }))) n i p ↔ ChallengeFails s b n i p
+full-refused s b info n i p = go (readingOf s) (challenge-judged s b info .refused n i p) where
+  go : (r : Reading) → RefusedWith (chalVerdict r) n i p ↔ ChallengeFails s b n i p →
+      RefusedWith (fullVerdict (onTaken FullRefused r (λ c. FullTaken (record { challenge = c; contents = contentsOf (infoOf s c) })))) n i p ↔ ChallengeFails s b n i p
   go (Taken c) j = j
   go (Refused e) j = j
 

@@ -7,7 +7,7 @@ use mathlib.Core.Logic.{_⊎_, inl, inr, ⊎-elim, _↔_}
 use mathlib.Core.Bool.{Bool, true, false}
 use mathlib.Core.List.{List}
 use native.Mathlib.Omega.{arith}
-use borrow.Author.Tests.{eqb-true, eqb-false, ne-eqb, leb-true, leb-false, le-leb}
+use borrow.Author.Tests.{eqb-true, eqb-false, leb-true, leb-false, le-leb}
 use lib.Dec.{eqb, leb}
 use lib.ListN.{length, getD, take, drop, length-take, length-drop}
 use lib.Seq.{ext-getD, getD-take, getD-drop, take-all}
@@ -18,21 +18,14 @@ use Rattle.wire.specs.declared.refusal.Refusal.the-variants.{NoRoom, WrongSessi
 use Rattle.wire.specs.Check.{checked, after, onClear}
 use Rattle.wire.specs.Number.{standsAt}
 use Rattle.wire.specs.Refusal.{numberOf, fieldOf, placeOf}
-use Rattle.wire.proofs.Places.{placeless-number}
 use Rattle.head.proofs.Stands.{stands, stand}
-use Rattle.read_negotiate.specs.declared.Reading.{Reading as NegotiateReading}
-use Rattle.read_negotiate.specs.declared.Reading.the-variants.{Taken as NegotiateTaken, Refused as NegotiateRefused}
-use Rattle.read_negotiate.specs.Negotiate.{readNegotiate}
-use Rattle.read_challenge.specs.declared.Reading.{Reading as ChallengeReading}
-use Rattle.read_challenge.specs.declared.Reading.the-variants.{Taken as ChallengeTaken, Refused as ChallengeRefused}
-use Rattle.read_challenge.specs.Challenge.{readChallenge}
-use Rattle.read_authenticate.specs.declared.Authenticate.{Authenticate}
 use Rattle.read_authenticate.specs.declared.Reading.{Reading as AuthenticateReading}
 use Rattle.read_authenticate.specs.declared.Reading.the-variants.{Taken as AuthenticateTaken, Refused as AuthenticateRefused}
 use Rattle.read_authenticate.specs.Authenticate.{readAuthenticate}
 use Rattle.mic.specs.declared.Checking.the-variants.{Compared, Refused}
-use Rattle.verdict.specs.Verdict.{negoVerdict, chalVerdict}
-use Rattle.mic.specs.Mic.{zeroed, micOf, authenticateVerdict, checkMessages, whenClear, workOut, checkMic}
+use Rattle.head.specs.declared.Kind.the-variants.{Negotiate, Challenge}
+use Rattle.verdict.specs.Verdict.{authVerdict, readAs}
+use Rattle.mic.specs.Mic.{zeroed, micOf, keyHolds, authenticateVerdict, checkMessages, whenClear, workOut, checkMic}
 use Rattle.mic.proofs.Laws.{passed}
 use Rattle.place.specs.Written.{roomHolds}
 use Rattle.c_number.specs.Number.{refusalNumber, bit}
@@ -41,138 +34,99 @@ use Rattle.c_mic.specs.Numbers.{handedOut, micOutcome, checkingNumber}
 use Rattle.demands.specs.Answers.{isRefused, TellsLength, TellsRefusal, TellsOutcome, TellsVerdict}
 use Rattle.demands.specs.FromC.{work-out-mic}
 use Rattle.demands.specs.Kept.{Front}
-use Rattle.demands.specs.Message.{Format, negotiate, challenge, authenticate, Fails}
-use Rattle.demands.specs.Order.{First}
-use Rattle.demands.specs.TakenExactly.{IsTakenNegotiate, NegotiateRefusedWith, IsTakenChallenge, ChallengeRefusedWith, AuthenticateRefusedWith, InfoBytes, ChallengeHolds, in-fields, in-list}
-use Rattle.demands.specs.Mic.{MicHolds, MicFails, wrong-key, in-negotiate, in-challenge, in-authenticate, no-mic, VerdictAt, MicExactly, MicIs, micNumber, MicTells, TellsChecking, CheckMicTells, MicAgree, MicBlind, SameMicRefusals, MicSecret, MicUnwritten, MicKept}
+use Rattle.demands.specs.Message.{negotiate, challenge, authenticate, MicThere, Fails}
+use Rattle.demands.specs.TakenExactly.{RefusalIs, Judged, NoneFails, FirstFails, InfoBytes, ChallengeHolds, ChallengeFails, in-fields, in-list}
+use Rattle.demands.specs.Mic.{MicHolds, MicFails, wrong-key, in-negotiate, in-challenge, in-authenticate, no-mic, MicJudged, MicRefusedZeros, MicIs, micNumber, MicTells, TellsChecking, CheckMicTells, MicAgree, MicBlind, SameMicRefusals, MicSecret, MicUnwritten, MicKept}
 use Rattle.demands.proofs.Alike.{same-part}
 use Rattle.demands.proofs.Answers.{call-tells}
 use Rattle.demands.proofs.Answers.SmallFields.{SmallV, mic-small}
 use Rattle.demands.proofs.Answers.Told.{tells-length, tells-refusal}
 use Rattle.demands.proofs.First64.{authenticate-same}
+use Rattle.demands.proofs.Judged.{judged-same, check-judged, as-verdict, judged-then}
 use Rattle.demands.proofs.Kept.CallFront.{at-front, mic-length}
-use Rattle.demands.proofs.Order.{only-first}
+use Rattle.demands.proofs.Message.Chain.{up-to-9}
 use Rattle.demands.proofs.PairList.{first-number}
-use Rattle.demands.proofs.OwnBytes.{none-fails, authenticate-own}
-use Rattle.demands.proofs.TakenExactly.{authenticate-refused}
-use Rattle.demands.proofs.TakenExactly.Challenge.{info-there, holds-or-fails, one-reason, challenge-taken, challenge-refused}
-use Rattle.demands.proofs.TakenExactly.Negotiate.{negotiate-taken, negotiate-refused}
+use Rattle.demands.proofs.OwnBytes.{authenticate-own}
+use Rattle.demands.proofs.TakenExactly.{authenticate-judged}
+use Rattle.demands.proofs.TakenExactly.Challenge.{info-there, challenge-judged}
+use Rattle.demands.proofs.TakenExactly.Negotiate.{negotiate-judged}
 
 true-not-false : {A : Type 0} → true ≡ false → A
 true-not-false h = absurd (let z : _≡_ {A = ℕ} 0 1 = cc in omega arith)
 
 -- ---- exactly
 
--- checks 1 to 9 have no place
-no-fail : (k : Format) (s : List ℕ) (n i : ℕ) → 10 ≤ n → Fails k s n i → ⊥
-no-fail k s n i l f =
-    simp (ne-eqb n 1 (λ e. omega arith), ne-eqb n 2 (λ e. omega arith), ne-eqb n 3 (λ e. omega arith), ne-eqb n 4 (λ e. omega arith), ne-eqb n 5 (λ e. omega arith), ne-eqb n 6 (λ e. omega arith), ne-eqb n 7 (λ e. omega arith), ne-eqb n 8 (λ e. omega arith), ne-eqb n 9 (λ e. omega arith)) at f
-
-no-place : (k : Format) (s : List ℕ) (e : Refusal) → Fails k s (numberOf e) (fieldOf e) → placeOf e ≡ 0
-no-place k s e f = placeless-number e (λ l. no-fail k s (numberOf e) (fieldOf e) (l .0) f)
-
 module _ (size : ℕ) (nego chal info auth : List ℕ) (known : InfoBytes chal info) where
-  abbrev Judged : Verdict → Type 0
-  Judged Clear = MicHolds size nego chal info auth
-  Judged (Not e) = MicFails size nego chal info auth (numberOf e) (fieldOf e) (placeOf e)
+  abbrev NoKey : ℕ → ℕ → ℕ → Type 0
+  NoKey n i p = (size ≡ 16 → ⊥) × RefusalIs WrongSessionKey n i p
 
-  by-mic : size ≡ 16 → ((m j : ℕ) → Fails negotiate nego m j → ⊥) → ChallengeHolds chal info → (a : Authenticate) →
-      readAuthenticate auth .reading ≡ AuthenticateTaken a → (b : Bool) → a .«mic_present» ≡ b → Judged (after (checked b) (Not NoMic) Clear)
-  by-mic k none holds a e true p =
-      record {
-        key = k;
-        nego-taken = none;
-        chal-taken = holds;
-        auth-taken = none-fails auth a e;
-        mic = authenticate-own auth a e .mic-present .0 p;
-      }
-  by-mic k none holds a e false p =
-      no-mic k none holds (none-fails auth a e) (λ m. true-not-false (sym (authenticate-own auth a e .mic-present .1 m) ∙ p)) refl refl refl
+  -- the AUTHENTICATE and its MIC
+  abbrev AuthHolds : Type 0
+  AuthHolds = NoneFails (Fails authenticate auth) × MicThere authenticate auth
 
-  by-auth : size ≡ 16 → ((m j : ℕ) → Fails negotiate nego m j → ⊥) → ChallengeHolds chal info →
-      (r : AuthenticateReading) → readAuthenticate auth .reading ≡ r → Judged (authenticateVerdict r)
-  by-auth k none holds (AuthenticateTaken a) e = by-mic k none holds a e (a .«mic_present») refl
-  by-auth k none holds (AuthenticateRefused d) e =
-      let f : First (Fails authenticate auth) (numberOf d) (fieldOf d) =
-      authenticate-refused auth (numberOf d) (fieldOf d) .0 (subst (λ (r : AuthenticateReading). AuthenticateRefusedWith r (numberOf d) (fieldOf d)) (sym e) (refl, refl)) in
-      in-authenticate k none holds f (no-place authenticate auth d (f .fails))
+  abbrev AuthFails : ℕ → ℕ → ℕ → Type 0
+  AuthFails n i p =
+      FirstFails (Fails authenticate auth) n i p ⊎ (NoneFails (Fails authenticate auth) × ((MicThere authenticate auth → ⊥) × RefusalIs NoMic n i p))
 
-  judged : Judged (checkMessages size nego chal auth)
+  auth-judged : Judged (authenticateVerdict (readAuthenticate auth .reading)) AuthHolds AuthFails
+  auth-judged = go (readAuthenticate auth .reading) refl (authenticate-judged auth) where
+    go : (r : AuthenticateReading) → readAuthenticate auth .reading ≡ r →
+        Judged (authVerdict r) (NoneFails (Fails authenticate auth)) (FirstFails (Fails authenticate auth)) → Judged (authenticateVerdict r) AuthHolds AuthFails
+    go (AuthenticateTaken a) e j =
+        judged-then Clear (after (checked (a .«mic_present»)) (Not NoMic) Clear) j
+        (λ t. check-judged (MicThere authenticate auth) (a .«mic_present») NoMic (authenticate-own auth a e .mic-present .0)
+        (λ p m. true-not-false (sym (authenticate-own auth a e .mic-present .1 m) ∙ p)))
+    go (AuthenticateRefused d) e j = judged-then (Not d) Clear j (λ t. absurd t)
+
+  -- the key, and the messages in turn
+  abbrev AllHolds : Type 0
+  AllHolds = (size ≡ 16) × (NoneFails (Fails negotiate nego) × (ChallengeHolds chal info × AuthHolds))
+
+  abbrev FirstFailed : ℕ → ℕ → ℕ → Type 0
+  FirstFailed n i p =
+      NoKey n i p ⊎ ((size ≡ 16) × (
+      FirstFails (Fails negotiate nego) n i p ⊎ (NoneFails (Fails negotiate nego) × (
+      ChallengeFails chal info n i p ⊎ (ChallengeHolds chal info × AuthFails n i p)))))
+
+  in-turn : Judged (checkMessages size nego chal auth) AllHolds FirstFailed
   unfolding checkMessages
-  judged = by-key (eqb size 16) refl where
-    by-chal : size ≡ 16 → ((m j : ℕ) → Fails negotiate nego m j → ⊥) → (r : ChallengeReading) → readChallenge chal .reading ≡ r →
-        Judged (onClear Not (chalVerdict r) (authenticateVerdict (readAuthenticate auth .reading)))
-    by-chal k none (ChallengeTaken c) e =
-        by-auth k none (challenge-taken chal info known .0 (subst IsTakenChallenge (sym e) tt)) (readAuthenticate auth .reading) refl
-    by-chal k none (ChallengeRefused d) e =
-        in-challenge k none
-        (challenge-refused chal info known (numberOf d) (fieldOf d) (placeOf d) .0
-        (subst (λ (r : ChallengeReading). ChallengeRefusedWith r (numberOf d) (fieldOf d) (placeOf d)) (sym e) (refl, refl, refl)))
+  in-turn =
+      subst (λ (v : Verdict). Judged v AllHolds FirstFailed) (as-verdict (keyHolds size) WrongSessionKey _)
+      (judged-then (after (keyHolds size) (Not WrongSessionKey) Clear) _ (check-judged (size ≡ 16) (eqb size 16) WrongSessionKey (eqb-true size 16) (eqb-false size 16)) (λ k.
+      judged-then (readAs Negotiate nego) _ (negotiate-judged nego) (λ n.
+      judged-then (readAs Challenge chal) _ (challenge-judged chal info known) (λ c. auth-judged))))
 
-    by-nego : size ≡ 16 → (r : NegotiateReading) → readNegotiate nego ≡ r →
-        Judged (onClear Not (negoVerdict r) (onClear Not (chalVerdict (readChallenge chal .reading)) (authenticateVerdict (readAuthenticate auth .reading))))
-    by-nego k (NegotiateTaken m) e = by-chal k (negotiate-taken nego .0 (subst IsTakenNegotiate (sym e) tt)) (readChallenge chal .reading) refl
-    by-nego k (NegotiateRefused d) e =
-        let f : First (Fails negotiate nego) (numberOf d) (fieldOf d) =
-        negotiate-refused nego (numberOf d) (fieldOf d) .0 (subst (λ (r : NegotiateReading). NegotiateRefusedWith r (numberOf d) (fieldOf d)) (sym e) (refl, refl)) in
-        in-negotiate k f (no-place negotiate nego d (f .fails))
+  first-failed : (n i p : ℕ) → FirstFailed n i p → MicFails size nego chal info auth n i p
+  first-failed n i p =
+      ⊎-elim (λ f. wrong-key (f .0) (sym (f .1 .0)) (sym (f .1 .1)) (sym (f .1 .2))) (λ k.
+      ⊎-elim (λ f. in-negotiate (k .0) (f .0) (f .1)) (λ m.
+      ⊎-elim (λ f. in-challenge (k .0) (m .0) f) (λ c.
+      ⊎-elim (λ f. in-authenticate (k .0) (m .0) (c .0) (f .0) (f .1))
+      (λ a. no-mic (k .0) (m .0) (c .0) (a .0) (a .1 .0) (sym (a .1 .1 .0)) (sym (a .1 .1 .1)) (sym (a .1 .1 .2)))
+      (c .1)) (m .1)) (k .1))
 
-    by-key : (b : Bool) → eqb size 16 ≡ b →
-        Judged (after (checked b) (Not WrongSessionKey) (onClear Not (negoVerdict (readNegotiate nego)) (onClear Not (chalVerdict (readChallenge chal .reading)) (authenticateVerdict (readAuthenticate auth .reading)))))
-    by-key true e = by-nego (eqb-true size 16 e) (readNegotiate nego) refl
-    by-key false e = wrong-key (eqb-false size 16 e) refl refl refl
+  failed-first : (n i p : ℕ) → MicFails size nego chal info auth n i p → FirstFailed n i p
+  failed-first n i p (wrong-key k a b c) = inl (k, (sym a, sym b, sym c))
+  failed-first n i p (in-negotiate k f z) = inr (k, inl (f, z))
+  failed-first n i p (in-challenge k none f) = inr (k, inr (none, inl f))
+  failed-first n i p (in-authenticate k none c f z) = inr (k, inr (none, inr (c, inl (f, z))))
+  failed-first n i p (no-mic k none c f m a b z) = inr (k, inr (none, inr (c, inr (f, (m, (sym a, sym b, sym z))))))
 
-  not-both : (n i p : ℕ) → MicHolds size nego chal info auth → MicFails size nego chal info auth n i p → ⊥
-  not-both n i p h (wrong-key k a b c) = k (h .key)
-  not-both n i p h (in-negotiate k f z) = h .nego-taken n i (f .fails)
-  not-both n i p h (in-challenge k none f) = holds-or-fails chal info n i p (h .chal-taken) f
-  not-both n i p h (in-authenticate k none c f z) = h .auth-taken n i (f .fails)
-  not-both n i p h (no-mic k none c f m a b z) = m (h .mic)
+  all-judged : Judged (checkMessages size nego chal auth) (MicHolds size nego chal info auth) (MicFails size nego chal info auth)
+  all-judged = judged-same (checkMessages size nego chal auth) holds (λ n i p. (first-failed n i p, failed-first n i p)) in-turn where
+    holds : AllHolds ↔ MicHolds size nego chal info auth
+    holds = (
+      λ x. record { key = x .0; nego-taken = x .1 .0; chal-taken = x .1 .1 .0; auth-taken = x .1 .1 .1 .0; mic = x .1 .1 .1 .1 },
+      λ h. (h .key, (h .nego-taken, (h .chal-taken, (h .auth-taken, h .mic)))),
+    )
 
-  one : (m j o n i p : ℕ) → MicFails size nego chal info auth m j o → MicFails size nego chal info auth n i p → (m ≡ n) × (j ≡ i) × (o ≡ p)
-  one m j o n i p (wrong-key k a b c) (wrong-key l d e f) = (a ∙ sym d, b ∙ sym e, c ∙ sym f)
-  one m j o n i p (wrong-key k a b c) (in-negotiate l f z) = absurd (k l)
-  one m j o n i p (wrong-key k a b c) (in-challenge l none f) = absurd (k l)
-  one m j o n i p (wrong-key k a b c) (in-authenticate l none h f z) = absurd (k l)
-  one m j o n i p (wrong-key k a b c) (no-mic l none h f t d e z) = absurd (k l)
-  one m j o n i p (in-negotiate k f z) (wrong-key l d e g) = absurd (l k)
-  one m j o n i p (in-negotiate k f z) (in-negotiate l g y) = let u = only-first (Fails negotiate nego) m j n i f g in (u .0, u .1, z ∙ sym y)
-  one m j o n i p (in-negotiate k f z) (in-challenge l none g) = absurd (none m j (f .fails))
-  one m j o n i p (in-negotiate k f z) (in-authenticate l none h g y) = absurd (none m j (f .fails))
-  one m j o n i p (in-negotiate k f z) (no-mic l none h g t d e y) = absurd (none m j (f .fails))
-  one m j o n i p (in-challenge k none f) (wrong-key l d e g) = absurd (l k)
-  one m j o n i p (in-challenge k none f) (in-negotiate l g y) = absurd (none n i (g .fails))
-  one m j o n i p (in-challenge k none f) (in-challenge l free g) = one-reason chal info m j o n i p f g
-  one m j o n i p (in-challenge k none f) (in-authenticate l free h g y) = absurd (holds-or-fails chal info m j o h f)
-  one m j o n i p (in-challenge k none f) (no-mic l free h g t d e y) = absurd (holds-or-fails chal info m j o h f)
-  one m j o n i p (in-authenticate k none h f z) (wrong-key l d e g) = absurd (l k)
-  one m j o n i p (in-authenticate k none h f z) (in-negotiate l g y) = absurd (none n i (g .fails))
-  one m j o n i p (in-authenticate k none h f z) (in-challenge l free g) = absurd (holds-or-fails chal info n i p h g)
-  one m j o n i p (in-authenticate k none h f z) (in-authenticate l free c g y) = let u = only-first (Fails authenticate auth) m j n i f g in (u .0, u .1, z ∙ sym y)
-  one m j o n i p (in-authenticate k none h f z) (no-mic l free c g t d e y) = absurd (g m j (f .fails))
-  one m j o n i p (no-mic k none h f t a b z) (wrong-key l d e g) = absurd (l k)
-  one m j o n i p (no-mic k none h f t a b z) (in-negotiate l g y) = absurd (none n i (g .fails))
-  one m j o n i p (no-mic k none h f t a b z) (in-challenge l free g) = absurd (holds-or-fails chal info n i p h g)
-  one m j o n i p (no-mic k none h f t a b z) (in-authenticate l free c g y) = absurd (f n i (g .fails))
-  one m j o n i p (no-mic k none h f t a b z) (no-mic l free c g u d e y) = (a ∙ sym d, b ∙ sym e, z ∙ sym y)
-
-  same-fails : {m j o n i p : ℕ} → (m ≡ n) × (j ≡ i) × (o ≡ p) → MicFails size nego chal info auth m j o → MicFails size nego chal info auth n i p
-  same-fails {m} {j} {o} {n} {i} {p} e f =
-      subst (λ (x : ℕ). MicFails size nego chal info auth x i p) (e .0)
-      (subst (λ (x : ℕ). MicFails size nego chal info auth m x p) (e .1) (subst (λ (x : ℕ). MicFails size nego chal info auth m j x) (e .2) f))
-
-  exactly : (v : Verdict) → Judged v →
-      ((v ≡ Clear) ↔ MicHolds size nego chal info auth) × ((n i p : ℕ) → VerdictAt v n i p ↔ MicFails size nego chal info auth n i p)
-  exactly Clear h = ((λ e. h, λ x. refl), λ n i p. (λ x. absurd x, λ f. not-both n i p h f))
-  exactly (Not d) f = (
-    (λ e. absurd (let z : _≡_ {A = ℕ} 0 1 = cc in omega arith), λ h. absurd (not-both (numberOf d) (fieldOf d) (placeOf d) h f)),
-    λ n i p. (λ x. same-fails x f, λ g. one (numberOf d) (fieldOf d) (placeOf d) n i p f g),
-  )
-
-pub mic-exactly : MicExactly
+pub mic-judged : MicJudged
 unfolding workOut
-mic-exactly key nego chal info auth known =
-    exactly (length key) nego chal info auth known (checkMessages (length key) nego chal auth) (judged (length key) nego chal info auth known)
+mic-judged key nego chal info auth known = all-judged (length key) nego chal info auth known
+
+pub mic-refused-zeros : MicRefusedZeros
+unfolding workOut
+mic-refused-zeros key nego chal auth e h = simp h
 
 pub mic-is : MicIs
 unfolding workOut micOf zeroed
@@ -334,13 +288,13 @@ check-mic-tells key nego chal auth =
 not-33 : (n : ℕ) (nego chal auth : List ℕ) (e : Refusal) → checkMessages n nego chal auth ≡ Not e → numberOf e ≡ 33 → ⊥
 not-33 n nego chal auth e h = go (info-there chal) where
   go : (b : List ℕ) × InfoBytes chal b → numberOf e ≡ 33 → ⊥
-  go i = fails-otherwise (subst (Judged n nego chal (i .0) auth (i .1)) h (judged n nego chal (i .0) auth (i .1))) where
+  go i = fails-otherwise (all-judged n nego chal (i .0) auth (i .1) .refused (numberOf e) (fieldOf e) (placeOf e) .0 (rw h (refl, refl, refl))) where
     fails-otherwise : {m j p : ℕ} → MicFails n nego chal (i .0) auth m j p → m ≡ 33 → ⊥
     fails-otherwise (wrong-key k a b c) q = omega (arith, a)
-    fails-otherwise {m} {j} {p} (in-negotiate k f z) q = no-fail negotiate nego m j (omega arith) (f .fails)
-    fails-otherwise {m} {j} {p} (in-challenge k none (in-fields z f)) q = no-fail challenge chal m j (omega arith) (f .fails)
+    fails-otherwise {m} {j} {p} (in-negotiate k f z) q = omega (arith, up-to-9 negotiate nego m j (f .fails))
+    fails-otherwise {m} {j} {p} (in-challenge k none (in-fields z f)) q = omega (arith, up-to-9 challenge chal m j (f .fails))
     fails-otherwise {m} {j} {p} (in-challenge k none (in-list free f z)) q = omega (arith, first-number (i .0) (f .2) .1)
-    fails-otherwise {m} {j} {p} (in-authenticate k none c f z) q = no-fail authenticate auth m j (omega arith) (f .fails)
+    fails-otherwise {m} {j} {p} (in-authenticate k none c f z) q = omega (arith, up-to-9 authenticate auth m j (f .fails))
     fails-otherwise (no-mic k none c f t a b z) q = omega (arith, a)
 
 pub mic-kept : MicKept

@@ -24,7 +24,7 @@ use Rattle.mic.specs.Mic.{zeroed, micOf, checkMessages, workOut, checkMic}
 use Rattle.demands.specs.TakenExactly.{InfoBytes}
 use Rattle.demands.specs.Mic.{DifferInMic}
 use Rattle.demands.specs.MicExample.{key, nego, chal, info, auth, mic, otherChal, otherAuth, MicExample}
-use Rattle.demands.proofs.Mic.{mic-exactly, mic-agree}
+use Rattle.demands.proofs.Mic.{mic-judged, mic-agree}
 
 bytes-of-info : InfoBytes chal info
 bytes-of-info =
@@ -65,11 +65,11 @@ unfolding workOut checkMic checkMessages
 mic-example =
     record {
       info-bytes = bytes-of-info;
-      holds = mic-exactly key nego chal info auth bytes-of-info .0 .0 (clear .0);
+      holds = mic-judged key nego chal info auth bytes-of-info .taken .0 (rw (clear .0) tt);
       verdict = clear .0;
       worked = simp (clear .0, worked-out);
       yes = mic-agree key nego chal auth .yes .1 (clear .0, simp (clear .0, worked-out));
-      other-holds = mic-exactly key nego otherChal info auth bytes-of-other .0 .0 (clear .1);
+      other-holds = mic-judged key nego otherChal info auth bytes-of-other .taken .0 (rw (clear .1) tt);
       no = no .0;
       differ = differs;
       other-mic = no .1;

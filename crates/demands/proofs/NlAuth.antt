@@ -1,7 +1,7 @@
 -- NL_AUTH is taken exactly when every check holds, and its strings are its own.
 use Prim.Native.Nat.{ℕ, zero, suc, _+_, _-_, _/_, _%_, _≤_, _<_}
 use mathlib.Core.Path.{_≡_, refl, sym, ap, _∙_, subst}
-use mathlib.Core.Logic.{_⊎_, inl, inr, ⊎-elim, _↔_}
+use mathlib.Core.Logic.{_⊎_, inl, inr, ⊎-elim}
 use mathlib.Core.Bool.{Bool, true, false, _||_, _&&_, cond}
 use mathlib.Core.List.{List, [], _∷_, _++_}
 use native.Mathlib.Omega.{arith}
@@ -30,14 +30,16 @@ use Rattle.read_dns_name.specs.declared.Reading.the-variants.{Taken as Read, Re
 use Rattle.read_dns_name.specs.DnsName.{readName, numberOf as faultNumber}
 use Rattle.read_dns_name.proofs.Exact.{taken, refused}
 use Rattle.read_nl_auth.proofs.Names.{own-bytes}
+use Rattle.read_nl_auth.proofs.Places.{nl-auth-placeless}
 use Rattle.nl_auth_flags.specs.Flags.{nbDomain, nbComputer, dnsDomain, dnsHost, utf8Computer, stringsHold}
 use Rattle.read_nl_auth.specs.NlAuth.{noString, beforeZero, holdsZero, stringAt, stringUnder, onFound, refusalIn, nameString, onName, nameAt, nameUnder, onNamed, flagsAt, readUtf8, readRequest, readResponse, readNlAuth}
-use Rattle.demands.specs.Order.{row, check}
+use Rattle.demands.specs.Order.{check}
 use Rattle.demands.specs.NlAuth.{typeOf, numbered, maskOf, BitSet, ZeroAt, StandsAt, plain, name, FaultIn, no-zero, in-name, Strings, StartsAt, StringFails, NlFails, stepOf, NlFirst}
 use Rattle.demands.specs.OwnBytes.{OwnString, OwnName, OwnRequest, OwnResponse, NlAuthOwn}
-use Rattle.demands.specs.TakenExactly.{IsTakenNl, NlRefusedWith, NlAuthIsTaken, NlAuthIsRefused}
+use Rattle.demands.specs.TakenExactly.{NoneFails, nlVerdict, NlAuthJudged}
 use Rattle.demands.proofs.DnsName.{one-name, name-or-fault, one-name-fault, name-ends}
-use Rattle.demands.proofs.Order.{Free, next-field, next-check, skip}
+use Rattle.demands.proofs.Order.{Free, next-field, next-check, skip, at-row}
+use Rattle.demands.proofs.Judged.{By, judged-by}
 use Rattle.demands.proofs.Order.Rank.{either-way}
 use Rattle.demands.proofs.Bools.{both-ways, failed-false, or-left, or-right, or-either, bit1, bit2, bit4, bit8, bit16, chained}
 
@@ -180,30 +182,23 @@ module _ (s : List ℕ) where
       check 17 n ((i ≡ 0) × (typeOf s ≡ 1) × ((length s ≡ 9) × (getD s 8 0 ≡ 0) → ⊥))
       ⊥))))))
 
-  -- by the rows of a table
-  by-row : (k n : ℕ) (P rest G : Type 0) → (n ≡ k → P → G) → (rest → G) → check k n P rest → G
-  by-row k n P rest G f g h = go (eqb n k) refl h where
-    go : (t : Bool) → eqb n k ≡ t → row t P rest → G
-    go true e w = f (eqb-true n k e) w
-    go false e w = g w
-
   -- a failure that is one of a single number, or one of a string
   abbrev Sorted : ℕ → ℕ → Type 0
   Sorted n i = ((stepOf n ≡ n) × (n ≡ 15 → ⊥) × StepFails n i) ⊎ ((stepOf n ≡ 15) × StringFails s n i)
 
   sorted : (n i : ℕ) → NlFails s n i → Sorted n i
   sorted n i =
-      by-row 1 n _ _ (Sorted n i) (λ e w. subst (λ (x : ℕ). Sorted x i) (sym e) (inl (refl, (λ z. omega arith), w)))
-      (by-row 2 n _ _ (Sorted n i) (λ e w. subst (λ (x : ℕ). Sorted x i) (sym e) (inl (refl, (λ z. omega arith), w)))
-      (by-row 4 n _ _ (Sorted n i) (λ e w. subst (λ (x : ℕ). Sorted x i) (sym e) (inl (refl, (λ z. omega arith), w)))
-      (by-row 14 n _ _ (Sorted n i) (λ e w. subst (λ (x : ℕ). Sorted x i) (sym e) (inl (refl, (λ z. omega arith), w)))
-      (by-row 15 n _ _ (Sorted n i) (λ e w. subst (λ (x : ℕ). Sorted x i) (sym e) (inr (refl, w)))
-      (by-row 50 n _ _ (Sorted n i) (λ e w. subst (λ (x : ℕ). Sorted x i) (sym e) (inr (refl, w)))
-      (by-row 51 n _ _ (Sorted n i) (λ e w. subst (λ (x : ℕ). Sorted x i) (sym e) (inr (refl, w)))
-      (by-row 52 n _ _ (Sorted n i) (λ e w. subst (λ (x : ℕ). Sorted x i) (sym e) (inr (refl, w)))
-      (by-row 53 n _ _ (Sorted n i) (λ e w. subst (λ (x : ℕ). Sorted x i) (sym e) (inr (refl, w)))
-      (by-row 16 n _ _ (Sorted n i) (λ e w. subst (λ (x : ℕ). Sorted x i) (sym e) (inl (refl, (λ z. omega arith), w)))
-      (by-row 17 n _ _ (Sorted n i) (λ e w. subst (λ (x : ℕ). Sorted x i) (sym e) (inl (refl, (λ z. omega arith), w)))
+      at-row (λ x. Sorted x i) 1 n _ _ (λ w. inl (refl, (λ z. omega arith), w))
+      (at-row (λ x. Sorted x i) 2 n _ _ (λ w. inl (refl, (λ z. omega arith), w))
+      (at-row (λ x. Sorted x i) 4 n _ _ (λ w. inl (refl, (λ z. omega arith), w))
+      (at-row (λ x. Sorted x i) 14 n _ _ (λ w. inl (refl, (λ z. omega arith), w))
+      (at-row (λ x. Sorted x i) 15 n _ _ (λ w. inr (refl, w))
+      (at-row (λ x. Sorted x i) 50 n _ _ (λ w. inr (refl, w))
+      (at-row (λ x. Sorted x i) 51 n _ _ (λ w. inr (refl, w))
+      (at-row (λ x. Sorted x i) 52 n _ _ (λ w. inr (refl, w))
+      (at-row (λ x. Sorted x i) 53 n _ _ (λ w. inr (refl, w))
+      (at-row (λ x. Sorted x i) 16 n _ _ (λ w. inl (refl, (λ z. omega arith), w))
+      (at-row (λ x. Sorted x i) 17 n _ _ (λ w. inl (refl, (λ z. omega arith), w))
       (λ z. absurd z)))))))))))
 
   to-step : (n i : ℕ) → NlFails s n i → StepFails (stepOf n) i
@@ -517,20 +512,19 @@ module _ (s : List ℕ) where
       kind false p h long free =
           response-judged (⊎-elim (λ e. absurd (both-ways (eqb (typeOf s) 0) e p)) (λ e. eqb-true (typeOf s) 1 e) (or-either (eqb (typeOf s) 0) (eqb (typeOf s) 1) h)) free
 
-pub nl-auth-taken : NlAuthIsTaken
-nl-auth-taken s = go (readNlAuth s) (judged s) where
-  go : (r : Reading) → Judged s r → IsTakenNl r ↔ ((n i : ℕ) → NlFails s n i → ⊥)
-  go (Taken m) j = (λ t. j .0, λ h. tt)
-  go (Refused e) j = (λ t. absurd t, λ h. h (numberOf e) (fieldOf e) (j .fails))
+abbrev FirstAt : List ℕ → ℕ → ℕ → ℕ → Type 0
+FirstAt s n i p = NlFirst s n i × (p ≡ 0)
 
-pub nl-auth-refused : NlAuthIsRefused
-nl-auth-refused s n i = go (readNlAuth s) (judged s) where
-  go : (r : Reading) → Judged s r → NlRefusedWith r n i ↔ NlFirst s n i
-  go (Taken m) j = (λ t. absurd t, λ f. j .0 n i (f .fails))
-  go (Refused e) j = (
-    λ t. subst (λ (x : ℕ). NlFirst s n x) (t .1) (subst (λ (x : ℕ). NlFirst s x (fieldOf e)) (t .0) j),
-    λ f. only-one s (numberOf e) (fieldOf e) n i j f,
-  )
+pub nl-auth-judged : NlAuthJudged
+nl-auth-judged s =
+    judged-by (NoneFails (NlFails s)) (FirstAt s) (λ n i p h f. h n i (f .0 .fails)) one (nlVerdict (readNlAuth s)) (go (readNlAuth s) refl (judged s))
+  where
+    one : (m j o n i p : ℕ) → FirstAt s m j o → FirstAt s n i p → (m ≡ n) × (j ≡ i) × (o ≡ p)
+    one m j o n i p f g = let x = only-one s m j n i (f .0) (g .0) in (x .0, x .1, f .1 ∙ sym (g .1))
+
+    go : (r : Reading) → readNlAuth s ≡ r → Judged s r → By (NoneFails (NlFails s)) (FirstAt s) (nlVerdict r)
+    go (Taken m) e j = j .0
+    go (Refused d) e j = (j, nl-auth-placeless s (readNlAuth s) d refl e)
 
 pub nl-auth-own : NlAuthOwn
 nl-auth-own s m h = subst (Judged s) h (judged s) .1

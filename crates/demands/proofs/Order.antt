@@ -1,7 +1,7 @@
 -- The first failure of a table of checks that go by number, for any table.
 pub mod Rank
 use Prim.Native.Nat.{ℕ, _+_, _≤_, _<_}
-use mathlib.Core.Path.{_≡_, refl}
+use mathlib.Core.Path.{_≡_, refl, sym, subst}
 use mathlib.Core.Bool.{Bool, true, false}
 use lib.Dec.{eqb}
 use borrow.Author.Tests.{eqb-true}
@@ -33,3 +33,7 @@ on-row k n P rest Q f g h = go (eqb n k) refl h where
   go : (t : Bool) → eqb n k ≡ t → row t P rest → Q
   go true p x = f (eqb-true n k p) x
   go false p x = g x
+
+-- the same of what goes by the number
+pub at-row : (P : ℕ → Type 0) (k n : ℕ) (Q rest : Type 0) → (Q → P k) → (rest → P n) → check k n Q rest → P n
+at-row P k n Q rest f g = on-row k n Q rest (P n) (λ e x. subst P (sym e) (f x)) g

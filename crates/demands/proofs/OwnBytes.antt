@@ -7,22 +7,22 @@ use mathlib.Core.Bool.{Bool, true, false, cond}
 use mathlib.Core.List.{List, [], _∷_}
 use native.Mathlib.Omega.{arith}
 use lib.ListN.{length, take, drop, replicate}
-use borrow.Author.Tests.{eqb-true}
+use borrow.Author.Tests.{eqb-true, le-leb, lt-leb}
 use Rattle.field.specs.declared.Field.{Field}
 use Rattle.field.specs.Field.{isEmpty, fieldBytes}
 use Rattle.head.specs.Head.{flagsAt}
-use Rattle.field.proofs.Fields.{own-bytes}
+use Rattle.field.proofs.Fields.{own-bytes, no-bytes}
 use Rattle.read_authenticate.specs.declared.Authenticate.{Authenticate}
 use Rattle.read_authenticate.specs.declared.Reading.{Reading}
 use Rattle.read_authenticate.specs.declared.Reading.the-variants.{Taken}
 use Rattle.read_authenticate.specs.Authenticate.{fieldsAt, micPresent, micBytes, readAuthenticate}
+use Rattle.read_nl_auth.specs.NlAuth.{stringBytes}
 use Rattle.read_authenticate.proofs.Laws.{taken-by}
 use Rattle.demands.specs.Message.{Format, authenticate, lenOf, offsetOf, Nonempty, Fails}
-use Rattle.demands.specs.OwnBytes.{OwnField, AuthenticateOwn, AuthenticateRefusedMic}
-use Rattle.demands.specs.TakenExactly.{IsTakenAuthenticate}
+use Rattle.demands.specs.OwnBytes.{OwnField, AuthenticateOwn, AuthenticateRefusedMic, FieldRecordBytes, StringRecordBytes}
 use Rattle.demands.proofs.Message.Chain.{JudgedH, head-judged}
 use Rattle.demands.proofs.Message.{Stands, empty-bytes}
-use Rattle.demands.proofs.TakenExactly.{six, authenticate-taken}
+use Rattle.demands.proofs.TakenExactly.{six, authenticate-judged}
 use Rattle.demands.proofs.Message.Mic.{mic-there}
 
 module _ (k : Format) (s : List ℕ) (i : ℕ) (f : Field) (w : Stands k s i f) where
@@ -68,7 +68,7 @@ taken-answer s a h =
 
 -- a taken message fails no check
 pub none-fails : (s : List ℕ) (a : Authenticate) → readAuthenticate s .reading ≡ Taken a → (n i : ℕ) → Fails authenticate s n i → ⊥
-none-fails s a h = authenticate-taken s .0 (subst IsTakenAuthenticate (sym h) tt)
+none-fails s a h = authenticate-judged s .taken .0 (rw h tt)
 
 not-there : (s : List ℕ) → (micPresent (length s) (fieldsAt s (flagsAt s 60)) ≡ true → ⊥) → micPresent (length s) (fieldsAt s (flagsAt s 60)) ≡ false
 not-there s h = go (micPresent (length s) (fieldsAt s (flagsAt s 60))) refl where
@@ -115,3 +115,16 @@ own-same k M i g x o full l e = go (length x) refl where
     empty [] q = refl
     empty (y ∷ ys) q = absurd (omega arith)
   go (suc n) p = o .bytes (full (omega arith)) ∙ ap (λ (n : ℕ). take n (drop (offsetOf k M i) M)) l ∙ e
+
+-- ---- any record
+
+pub field-record-bytes : FieldRecordBytes
+field-record-bytes s f = record { within = own-bytes s f; outside = no-bytes s f }
+
+pub string-record-bytes : StringRecordBytes
+unfolding stringBytes
+string-record-bytes s x =
+    record {
+      within = λ h. simp (le-leb (x .offset + x .len) (length s) h);
+      outside = λ h. simp (lt-leb (x .offset + x .len) (length s) h);
+    }

@@ -21,7 +21,7 @@ use Rattle.av_pairs.specs.declared.Count.{Count}
 use Rattle.av_pairs.specs.declared.Count.the-variants.{Pairs, Refused as Uncounted}
 use Rattle.av_pairs.specs.AvPairs.{left, idAt, pairOf, stepAt, endOf, onStep, pairsFrom, stopFrom, pairsOf, checkPairs, countPairs}
 use Rattle.demands.specs.PairList.{idOf, sizeOf, nextOf, SizeAllowed, PairAt, EndAt, WellFormed, end, pair, Holds, empty, listed, Fails10, Fails11, Fails12, FaultAt, fault10, fault11, fault12, fault13, FirstFault, FirstWith, this, next, here, later, ListFails}
-use Rattle.demands.specs.TakenExactly.{CountRefused, PairsTaken, PairsRefused}
+use Rattle.demands.specs.TakenExactly.{RefusedWith, countVerdict, PairsTaken, PairsRefused}
 use Rattle.wire.proofs.Bools.{and-left, and-right, and-both}
 use Rattle.demands.proofs.Bools.{true-not-false, both-ways, failed-false, or-left, or-right, or-either, chained}
 
@@ -313,7 +313,7 @@ pairs-taken s n = (λ e. subst (JudgedC s) e (count-judged s), λ h. go (countPa
 
 pub pairs-refused : PairsRefused
 pairs-refused s n i p = go (countPairs s) (count-judged s) where
-  go : (c : Count) → JudgedC s c → CountRefused c n i p ↔ ListFails s n i p
+  go : (c : Count) → JudgedC s c → RefusedWith (countVerdict c) n i p ↔ ListFails s n i p
   go (Pairs m) j = (λ t. absurd t, λ f. holds-or-fault s m n p j (f .0) (f .2))
   go (Uncounted e) j = (
     λ t. (j .0, sym (t .1) ∙ j .1, fault-is s (t .0) (t .2) (j .2)),

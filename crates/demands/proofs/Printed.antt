@@ -14,7 +14,7 @@ use Rattle.line_words.specs.Digits.{hexDigit, decimalSize, decimal}
 use Rattle.line_words.specs.Words.{numberWord}
 use Rattle.line_refused.specs.Refused.{refusedEnd, refusedText, refusedLine}
 use Rattle.line.specs.Line.{shownLine}
-use Rattle.demands.specs.Printed.{Printed, PrintedExactly}
+use Rattle.demands.specs.Printed.{PrintedExactly}
 
 -- the line of 33, by computation
 refused-33 : refusedLine NoRoom ≡ ascii "refused 33 field=0 at=0" ++ (0x0A ∷ [])

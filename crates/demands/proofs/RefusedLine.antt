@@ -32,23 +32,25 @@ use Rattle.read_authenticate.specs.Authenticate.{fieldsAt, checkEnds, checkBegi
 use Rattle.read_nl_auth.specs.declared.Reading.{Reading as NlReading}
 use Rattle.read_nl_auth.specs.declared.Reading.the-variants.{Taken as NlTaken, Refused as NlRefused}
 use Rattle.read_nl_auth.specs.NlAuth.{readNlAuth, readRequest, stringUnder, stringAt}
-use Rattle.read_nl_auth.proofs.Places.{nl-auth-placeless}
 use Rattle.verdict.specs.Verdict.{negoVerdict, chalVerdict, authVerdict, readAs}
 use Rattle.line_refused.specs.Refused.{refusedEnd, refusedText, refusedLine}
 use Rattle.line.specs.Line.{challengeLine, authenticateLine, lineAs, ntlmLine, nlAuthLine, shownLine}
 use Rattle.demands.specs.Explained.{RefusedAs}
 use Rattle.demands.specs.LineShows.{RefusedBy, refused, Opens}
-use Rattle.demands.specs.TakenExactly.{RefusalIs, NlRefusedWith}
+use Rattle.demands.specs.TakenExactly.{RefusalIs, RefusedWith, nlVerdict}
 use Rattle.demands.specs.RefusedLine.{refusedBytes, NlRefusedAs, RefusedLineExactly, IsNoRoom, RefusedPrintExactly, RefusedLineExample}
 use Rattle.demands.proofs.Answers.SmallFields.{SmallC, negotiate-small, challenge-small, authenticate-small, nl-auth-small}
 use Rattle.demands.proofs.Answers.Told.{Small, number-small}
-use Rattle.demands.proofs.Explained.{refused-not, refused-as, refused-is}
+use Rattle.demands.proofs.Judged.{fails-is, refused-not, refused-as}
 use Rattle.demands.proofs.LineShows.{line-refused, opens-refusal, nl-refused, nl-opens-refusal}
 use Rattle.demands.proofs.LineShows.Lines.{refusedWords}
 use Rattle.demands.proofs.LineShows.Names.{decimal-visible, decimal-shows}
 use Rattle.demands.proofs.LineShows.TakenShown.{told}
 use Rattle.demands.proofs.LineShows.Words.{IsLine, words-of}
 use Rattle.demands.proofs.Printed.{printed-exactly}
+use Rattle.demands.proofs.NlAuth.{nl-auth-judged}
+use Rattle.demands.proofs.TakenExactly.{authenticate-judged}
+use Rattle.demands.proofs.TakenExactly.Negotiate.{negotiate-judged}
 use Rattle.demands.proofs.TakenExactly.Places.{place-in-message}
 
 -- ---- the bytes
@@ -105,15 +107,15 @@ by-verdict Authenticate s e h = ap authVerdict h
 
 line-said : (k : Kind) (s : List ℕ) (n i p : ℕ) → RefusedAs k s n i p → lineAs k s ≡ refusedBytes n i p
 line-said k s n i p r =
-    let x = refused-not k s n i p r in
+    let x = refused-not (readAs k s) n i p r in
     line-refused k s (x .0) (refused-by k s (x .0) (x .1)) ∙ line-bytes (x .0) n i p (x .2)
 
 read-so : (k : Kind) (s : List ℕ) (n i p : ℕ) → lineAs k s ≡ refusedBytes n i p → RefusedAs k s n i p
 read-so k s n i p h =
     let x = opens-refusal k s (subst (Opens refused) (sym h) (opens-bytes n i p)) in
-    let r = refused-as k s (x .0) (by-verdict k s (x .0) (x .1)) in
+    let r = refused-as (readAs k s) (x .0) (by-verdict k s (x .0) (x .1)) in
     let w = told-by _ _ _ n i p (sym (line-said k s _ _ _ r) ∙ h) in
-    refused-is k s _ _ _ n i p (w .0) (w .1) (w .2) r
+    fails-is (RefusedWith (readAs k s)) w r
 
 said : (k : Kind) (s : List ℕ) (n i p : ℕ) → RefusedAs k s n i p ↔ (lineAs k s ≡ refusedBytes n i p)
 said k s n i p = (line-said k s n i p, read-so k s n i p)
@@ -121,10 +123,10 @@ said k s n i p = (line-said k s n i p, read-so k s n i p)
 -- ---- NL_AUTH
 
 nl-refused-by : (s : List ℕ) (n i p : ℕ) → NlRefusedAs s n i p → (e : Refusal) × (readNlAuth s ≡ NlRefused e) × RefusalIs e n i p
-nl-refused-by s n i p t = go (readNlAuth s) refl (t .0) where
-  go : (r : NlReading) → readNlAuth s ≡ r → NlRefusedWith r n i → (e : Refusal) × (r ≡ NlRefused e) × RefusalIs e n i p
-  go (NlTaken m) h x = absurd x
-  go (NlRefused e) h x = (e, refl, (x .0, x .1, nl-auth-placeless s (readNlAuth s) e refl h ∙ sym (t .1)))
+nl-refused-by s n i p = go (readNlAuth s) where
+  go : (r : NlReading) → RefusedWith (nlVerdict r) n i p → (e : Refusal) × (r ≡ NlRefused e) × RefusalIs e n i p
+  go (NlTaken m) t = absurd t
+  go (NlRefused e) t = (e, refl, t)
 
 nl-line-said : (s : List ℕ) (n i p : ℕ) → NlRefusedAs s n i p → nlAuthLine s ≡ refusedBytes n i p
 nl-line-said s n i p r =
@@ -135,17 +137,13 @@ nl-read-so : (s : List ℕ) (n i p : ℕ) → nlAuthLine s ≡ refusedBytes n i 
 nl-read-so s n i p h =
     let x = nl-opens-refusal s (subst (Opens refused) (sym h) (opens-bytes n i p)) in
     let w = told-by _ _ _ n i p (sym (line-bytes (x .0) _ _ _ (refl, refl, refl)) ∙ sym (nl-refused s (x .0) (x .1)) ∙ h) in
-    (rw (x .1) (w .0, w .1), sym (w .2) ∙ nl-auth-placeless s (readNlAuth s) (x .0) refl (x .1))
+    rw (x .1) w
 
 pub refused-line-exactly : RefusedLineExactly
 unfolding ntlmLine
 refused-line-exactly s n i p =
     record {
-      nego = said Negotiate s n i p;
-      chal = said Challenge s n i p;
-      auth = said Authenticate s n i p;
       as-kind = λ k. said k s n i p;
-      ntlm = said (kindOf s) s n i p;
       nl-auth = (nl-line-said s n i p, nl-read-so s n i p);
     }
 
@@ -153,7 +151,7 @@ refused-line-exactly s n i p =
 
 as-short : (k : Kind) (s : List ℕ) (n i p : ℕ) → RefusedAs k s n i p → length (refusedBytes n i p) ≤ 28
 unfolding readChallenge
-as-short k s n i p r = let x = refused-not k s n i p r in go k r (x .0) (refused-by k s (x .0) (x .1)) (x .2) where
+as-short k s n i p r = let x = refused-not (readAs k s) n i p r in go k r (x .0) (refused-by k s (x .0) (x .1)) (x .2) where
   by : (e : Refusal) → RefusalIs e n i p → Small e → p ≤ 65535 → length (refusedBytes n i p) ≤ 28
   by e w small near = bytes-short n i p (omega (arith, number-small e, w .0)) (omega (arith, small, w .1)) near
 
@@ -161,14 +159,14 @@ as-short k s n i p r = let x = refused-not k s n i p r in go k r (x .0) (refused
   of-challenge r e h w = rw h at w
 
   go : (k : Kind) → RefusedAs k s n i p → (e : Refusal) → RefusedBy k s e → RefusalIs e n i p → length (refusedBytes n i p) ≤ 28
-  go Negotiate r e h w = by e w (negotiate-small s e h) (omega (arith, r .1))
+  go Negotiate r e h w = by e w (negotiate-small s e h) (omega (arith, negotiate-judged s .refused n i p .0 r .1))
   go Challenge r e h w = by e w (of-challenge (readChallenge s .reading) e h (challenge-small s)) (omega (arith, place-in-message s e h, w .2))
-  go Authenticate r e h w = by e w (authenticate-small s e h) (omega (arith, r .1))
+  go Authenticate r e h w = by e w (authenticate-small s e h) (omega (arith, authenticate-judged s .refused n i p .0 r .1))
 
 nl-as-short : (s : List ℕ) (n i p : ℕ) → NlRefusedAs s n i p → length (refusedBytes n i p) ≤ 28
 nl-as-short s n i p r =
     let x = nl-refused-by s n i p r in
-    bytes-short n i p (omega (arith, number-small (x .0), x .2 .0)) (omega (arith, nl-auth-small s (x .0) (x .1), x .2 .1)) (omega (arith, r .1))
+    bytes-short n i p (omega (arith, number-small (x .0), x .2 .0)) (omega (arith, nl-auth-small s (x .0) (x .1), x .2 .1)) (omega (arith, nl-auth-judged s .refused n i p .0 r .1))
 
 -- of any line that is said so
 module _ (Refuses : Type 0) (line out : List ℕ) (n i p : ℕ) (so : Refuses ↔ (line ≡ refusedBytes n i p)) (fits : Refuses → length (refusedBytes n i p) ≤ length out) where
@@ -192,7 +190,7 @@ refused-print-exactly s out n i p room =
     let ntlm-fits : RefusedAs (kindOf s) s n i p → length (refusedBytes n i p) ≤ length out = λ r. omega (arith, room, as-short (kindOf s) s n i p r) in
     let nl-fits : NlRefusedAs s n i p → length (refusedBytes n i p) ≤ length out = λ r. omega (arith, room, nl-as-short s n i p r) in
     record {
-      ntlm = (shown _ (ntlmLine s) out n i p (e .ntlm) ntlm-fits, shown-so _ (ntlmLine s) out n i p (e .ntlm) ntlm-fits);
+      ntlm = (shown _ (ntlmLine s) out n i p (said (kindOf s) s n i p) ntlm-fits, shown-so _ (ntlmLine s) out n i p (said (kindOf s) s n i p) ntlm-fits);
       nl-auth = (shown _ (nlAuthLine s) out n i p (e .nl-auth) nl-fits, shown-so _ (nlAuthLine s) out n i p (e .nl-auth) nl-fits);
     }
 

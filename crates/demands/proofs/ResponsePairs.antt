@@ -7,7 +7,6 @@ use mathlib.Core.Logic.{_⊎_, inl, inr, ⊎-elim, _↔_}
 use mathlib.Core.List.{List, [], _∷_}
 use native.Mathlib.Omega.{arith}
 use borrow.Author.Tests.{eqb-true, eqb-false, leb-true, eq-eqb, ne-eqb}
-use lib.Dec.{eqb, leb}
 use lib.ListN.{length, take, length-append}
 use lib.Seq.{take-append-seam}
 use Rattle.av_pairs.specs.AvPairs.{idAt, Valued, valuesOf}
@@ -39,7 +38,8 @@ use Rattle.demands.specs.WrittenExactly.{WrittenExactly}
 use Rattle.demands.specs.ResponsePairs.{TakenOut, ValueAt, LastTwo, with-flags, without-flags, GoesBack, taken-out, first-flags, same, at-end, ListBack, end-alone, from-start, PairsGoBack, CountBack, three-added, two-added, none-back, one-back, ResultHolds, OnlyPair, OneTenOneNine, EndPairAlone, KeptSize, no-more, passed-over, counted, ListSize, of-end, of-flags, of-two, SizeIsThere, ResponsePairsFail, ListRefusedAt, WrittenFrom, ResponsePairsAreWritten, ResponsePairsKept, ResponsePairsIgnored}
 use Rattle.demands.proofs.Bools.{both-ways, failed-false, chained, after-held}
 use Rattle.demands.proofs.TakenExactly.Challenge as reading
-use Rattle.demands.proofs.TakenExactly.Challenge.{holds-or-fails, one-reason, reason-is}
+use Rattle.demands.proofs.TakenExactly.Challenge.{holds-or-fails, one-reason}
+use Rattle.demands.proofs.Judged.{fails-is}
 use Rattle.demands.proofs.Ignored.ChallengeIgnored.{made-same}
 use Rattle.demands.proofs.OwnBytes.ChallengeOwn.{info-of}
 use Rattle.demands.proofs.OwnBytes.Found.{id-of}
@@ -399,7 +399,7 @@ response-pairs-written room s b name bind mark size sixteen info sized = go (rea
   go (Unread f) e j =
       record {
         refused = λ n i p. (
-          λ t. inl (reason-is s b t j),
+          λ t. inl (fails-is (ChallengeFails s b) t j),
           λ z. ⊎-elim (λ w. one-reason s b (numberOf f) (fieldOf f) (placeOf f) n i p j w) (λ w. absurd (holds-or-fails s b (numberOf f) (fieldOf f) (placeOf f) (w .0) j)) z,
         );
         written = λ n. (λ h. absurd (never f n h), λ h. absurd (holds-or-fails s b (numberOf f) (fieldOf f) (placeOf f) (h .0) j));

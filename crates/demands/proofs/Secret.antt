@@ -24,14 +24,12 @@ use Rattle.line_authenticate.specs.Auth.{authNames, authText}
 use Rattle.line.specs.Line.{authLine, authenticateLine}
 use Rattle.place.specs.declared.written.Written.the-variants.{Length}
 use Rattle.place.specs.Written.{bytesAnswer, bytesAfter}
-use Rattle.c_read.specs.Numbers.{authenticateOutcome}
 use Rattle.demands.specs.Bench.{p1, userOffset}
 use Rattle.demands.specs.Ignored.{SameBytes}
 use Rattle.demands.specs.Message.{authenticate, lenOf, offsetOf, Nonempty, Covers, Fails}
-use Rattle.demands.specs.Secret.{Secret, secret-field, mic, DifferInSecrets, WrittenAlike, SecretRead, SecretExample}
+use Rattle.demands.specs.Secret.{Secret, secret-field, mic, DifferInSecrets, LineWrittenAlike, SecretRead, SecretExample}
 use Rattle.demands.proofs.Alike.{same-part, same32}
 use Rattle.demands.proofs.First64.{auth-fields, authenticate-same}
-use Rattle.demands.proofs.Kept.{line-kept}
 use Rattle.demands.proofs.Message.{Stands, empty-bytes}
 use Rattle.demands.proofs.OwnBytes.{taken-answer, none-fails, authenticate-own, authenticate-refused-mic}
 use Rattle.demands.proofs.TakenExactly.{six}
@@ -98,15 +96,12 @@ stands x out n h =
     let fits : length out < length x → ⊥ = λ r. w .0 33 0 (refl, r) in
     subst (λ (k : ℕ). take k (bytesAfter x out) ≡ x) (sym (w .1)) (line-stands x out (omega (arith, fits)))
 
-pub written-alike : (x y out out′ : List ℕ) → x ≡ y → length out ≡ length out′ → WrittenAlike x out y out′
-written-alike x y out out′ e l =
-    subst (λ (z : List ℕ). WrittenAlike x out z out′) e
-    (record {
+pub line-written-alike : LineWrittenAlike
+line-written-alike x out out′ l =
+    record {
       answer = answer-same x out out′ l;
       bytes = λ n h. stands x out n h ∙ sym (stands x out′ n (sym (answer-same x out out′ l) ∙ h));
-      kept = line-kept x out;
-      kept′ = line-kept x out′;
-    })
+    }
 
 -- ---- the answer
 
@@ -121,7 +116,6 @@ pub secret-read : SecretRead
 secret-read s t d =
     record {
       reading = reading-same s t d;
-      from-c = ap authenticateOutcome (reading-same s t d);
       domain = λ a h. names-same s t d a h .0;
       user = λ a h. names-same s t d a h .1;
       workstation = λ a h. names-same s t d a h .2;
@@ -130,7 +124,6 @@ secret-read s t d =
           λ a h p. none (rw h tt) (authenticate-own s a h .mic-present .0 p) in
           (zeros s present, zeros t (λ a h p. present a (reading-same s t d ∙ h) p));
       line = line-same s t d;
-      line-call = λ out out′ l. written-alike (authenticateLine s) (authenticateLine t) out out′ (line-same s t d) l;
     }
 
 -- ---- examples
@@ -161,7 +154,7 @@ secret-example =
     record {
       taken = tt;
       of-taken = (refl, other-byte p1 96 0xFF (omega arith) (nt-byte p1 96 refl refl refl (omega arith) (omega arith)), λ e. two (ap (λ (l : List ℕ). getD l 96 0) e));
-      refused = (refl, refl);
+      refused = (refl, refl, refl);
       in-name = (
         record { first = omega arith; last = omega arith; counts = λ e. absurd (omega arith); some = omega arith },
         (omega arith, omega arith),

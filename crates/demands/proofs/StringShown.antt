@@ -23,7 +23,7 @@ use Rattle.line.specs.Line.{nlAuthLine}
 use Rattle.demands.specs.Ignored.{SameNlAuth}
 use Rattle.demands.specs.Kept.{Kept}
 use Rattle.demands.specs.NlAuth.{maskOf}
-use Rattle.demands.specs.TakenExactly.{NlRefusedWith}
+use Rattle.demands.specs.TakenExactly.{RefusedWith, nlVerdict}
 use Rattle.demands.specs.WrittenExactly.{WritingRefusedWith}
 use Rattle.demands.specs.StringShown.{wordOf, TextsAsInLine, StringShown, NoOtherText, NoTextWithoutBit, TextKept, TextIgnored, TextShort, TextTells}
 use Rattle.c_number.specs.Number.{writtenNumber}
@@ -33,7 +33,7 @@ use Rattle.demands.proofs.Answers.LineShort.{line-short}
 use Rattle.demands.proofs.Answers.SmallFields.{nl-auth-small}
 use Rattle.demands.proofs.Answers.Told.{tells-refusal}
 use Rattle.demands.proofs.Kept.{by-verdict, line-kept}
-use Rattle.demands.proofs.NlAuth.{five, nl-auth-refused}
+use Rattle.demands.proofs.NlAuth.{five, nl-auth-judged}
 use Rattle.demands.proofs.Ignored.NlIgnored.{nl-auth-ignored}
 
 -- ---- the line is made of these texts
@@ -69,7 +69,7 @@ pub string-shown : StringShown
 unfolding textAnswer textAfter bytesAnswer bytesAfter
 string-shown s which out =
     record {
-      refused = λ n i f. go (readNlAuth s) n i (nl-auth-refused s n i .1 f);
+      refused = λ n i f. go (readNlAuth s) n i (nl-auth-judged s .refused n i 0 .1 (f, refl));
       no-room = λ m e h. simp (e, lt-leb (length (stringText s m which)) (length out) h);
       text =
           λ m e h. (
@@ -78,10 +78,10 @@ string-shown s which out =
           );
     }
   where
-    go : (r : Reading) (n i : ℕ) → NlRefusedWith r n i →
+    go : (r : Reading) (n i : ℕ) → RefusedWith (nlVerdict r) n i 0 →
         WritingRefusedWith (onReading r (λ m. bytesAnswer (stringText s m which) out) (λ e. Refused e)) n i
     go (Taken m) n i w = absurd w
-    go (Not e) n i w = w
+    go (Not e) n i w = (w .0, w .1)
 
 pub text-kept : TextKept
 unfolding textAnswer textAfter

@@ -4,7 +4,7 @@ pub mod Negotiate
 pub mod Places
 use Prim.Native.Nat.{ℕ, _≤_}
 use mathlib.Core.Path.{_≡_, refl, sym, subst}
-use mathlib.Core.Logic.{inl, inr, ⊎-elim, _↔_}
+use mathlib.Core.Logic.{inl, inr, ⊎-elim}
 use mathlib.Core.Bool.{Bool, true, false, _||_, not}
 use mathlib.Core.List.{List}
 use native.Mathlib.Omega.{arith}
@@ -30,15 +30,17 @@ use Rattle.read_authenticate.specs.declared.Fields.{Fields}
 use Rattle.read_authenticate.specs.declared.Reading.{Reading}
 use Rattle.read_authenticate.specs.declared.Reading.the-variants.{Taken, Refused}
 use Rattle.read_authenticate.specs.Authenticate.{layout, fieldsAt, allFields, names, checkEnds, checkBegins, checkNames, checkShared, checkFields, apart, micPresent, readingOf, readAuthenticate}
+use Rattle.verdict.specs.Verdict.{authVerdict}
 use Rattle.demands.specs.Order.{First}
 use Rattle.demands.specs.Message.{authenticate, Nonempty, Covers, Fails}
-use Rattle.demands.specs.TakenExactly.{IsTakenAuthenticate, AuthenticateRefusedWith, AuthenticateIsTaken, AuthenticateIsRefused}
-use Rattle.demands.proofs.Order.{Free, only-first, skip}
+use Rattle.demands.specs.TakenExactly.{AuthenticateJudged}
+use Rattle.demands.proofs.Order.{Free, skip}
 use Rattle.demands.proofs.Message.{Stands, even-failed, even-held, share-true, share-false}
 use Rattle.demands.proofs.Message.Fields.{AllStand, Link, ends-judged, begins-judged}
 use Rattle.demands.proofs.Message as fields
-use Rattle.demands.proofs.Message.Chain.{JudgedV, JudgedH, Links, over-judged, head-judged, then, beyond}
+use Rattle.demands.proofs.Message.Chain.{JudgedV, JudgedH, Links, over-judged, head-judged, then, beyond, up-to-9}
 use Rattle.demands.proofs.Bools.{true-not-false, failed-false}
+use Rattle.demands.proofs.Judged.{FirstBy, judged-first}
 
 module _ (s : List ℕ) where
   -- each field of the reader is its head's
@@ -162,17 +164,10 @@ module _ (s : List ℕ) where
     go (Flags w) j = subst (λ (x : NegotiateFlags). Judged (rest x)) (sym (j .0)) (last (checkFields (length s) (unicode (flagsAt s 60)) (fieldsAt s (flagsAt s 60))) (answer (flagsAt s 60)) (fields-judged (j .1)))
     go (Stopped e) j = j
 
-pub authenticate-taken : AuthenticateIsTaken
-authenticate-taken s = go (readAuthenticate s .reading) (judged s) where
-  go : (r : Reading) → Judged s r → IsTakenAuthenticate r ↔ ((n i : ℕ) → Fails authenticate s n i → ⊥)
-  go (Taken a) j = (λ t. j, λ h. tt)
-  go (Refused e) j = (λ t. absurd t, λ h. h (numberOf e) (fieldOf e) (j .fails))
-
-pub authenticate-refused : AuthenticateIsRefused
-authenticate-refused s n i = go (readAuthenticate s .reading) (judged s) where
-  go : (r : Reading) → Judged s r → AuthenticateRefusedWith r n i ↔ First (Fails authenticate s) n i
-  go (Taken a) j = (λ t. absurd t, λ f. j n i (f .fails))
-  go (Refused e) j = (
-    λ t. subst (λ (x : ℕ). First (Fails authenticate s) n x) (t .1) (subst (λ (x : ℕ). First (Fails authenticate s) x (fieldOf e)) (t .0) j),
-    λ f. only-first (Fails authenticate s) (numberOf e) (fieldOf e) n i j f,
-  )
+pub authenticate-judged : AuthenticateJudged
+authenticate-judged s =
+    judged-first (Fails authenticate s) (up-to-9 authenticate s) (authVerdict (readAuthenticate s .reading)) (go (readAuthenticate s .reading) (judged s))
+  where
+    go : (r : Reading) → Judged s r → FirstBy (Fails authenticate s) (authVerdict r)
+    go (Taken a) j = j
+    go (Refused e) j = j

@@ -2,7 +2,7 @@
 pub mod NlWhole
 pub mod Fixed
 use Prim.Native.Nat.{ℕ, zero, suc, _/_, _%_, _≤_}
-use mathlib.Core.Path.{_≡_, refl, sym, ap, _∙_, subst}
+use mathlib.Core.Path.{_≡_, refl, sym, ap, _∙_}
 use mathlib.Core.Logic.{_⊎_, inl, inr}
 use mathlib.Core.Bool.{Bool, true, false, _&&_, not, cond}
 use mathlib.Core.List.{List, [], _∷_, _++_}
@@ -50,13 +50,14 @@ use Rattle.demands.specs.Answering.{TimestampIs}
 use Rattle.demands.specs.Message.{Format, negotiate, authenticate, challenge, Set, Counts, lenOf, MicThere}
 use Rattle.demands.specs.OwnBytes.{OwnField}
 use Rattle.demands.specs.PairList.{Holds}
-use Rattle.demands.specs.TakenExactly.{IsTakenNegotiate, IsTakenChallenge, IsTakenAuthenticate, InfoBytes}
+use Rattle.demands.specs.TakenExactly.{IsTaken, InfoBytes}
+use Rattle.verdict.specs.Verdict.{negoVerdict, chalVerdict, authVerdict}
 use Rattle.demands.specs.Units.{WholeUnits}
 use Rattle.demands.proofs.Bools.{true-not-false}
 use Rattle.demands.proofs.OwnBytes.{authenticate-own}
 use Rattle.demands.proofs.OwnBytes.ChallengeOwn.{challenge-own, info-of, time-judged, no-time-judged}
 use Rattle.demands.proofs.PairList.{pairs-taken}
-use Rattle.demands.proofs.TakenExactly.Challenge.{challenge-taken}
+use Rattle.demands.proofs.TakenExactly.Challenge.{challenge-judged}
 use Rattle.demands.proofs.TakenExactly.Negotiate.{negotiate-own}
 use Rattle.demands.proofs.Units.{authenticate-names-whole, target-name-whole}
 use Rattle.demands.proofs.LineShows.Words.{spaced}
@@ -251,7 +252,7 @@ nego-whole s m h =
 
 pub nego-line-whole : NegoLineWhole
 nego-line-whole s t = go (N.readNegotiate s) refl t where
-  go : (r : NegotiateReading) → N.readNegotiate s ≡ r → IsTakenNegotiate r → NegoLine s (negotiateLine s)
+  go : (r : NegotiateReading) → N.readNegotiate s ≡ r → IsTaken (negoVerdict r) → NegoLine s (negotiateLine s)
   go (NegotiateTaken m) h i = nego-whole s m h
   go (NegotiateRefused e) h i = absurd i
 
@@ -306,7 +307,7 @@ auth-whole s a h =
 
 pub auth-line-whole : AuthLineWhole
 auth-line-whole s t = go (A.readAuthenticate s .reading) refl t where
-  go : (r : Reading) → A.readAuthenticate s .reading ≡ r → IsTakenAuthenticate r → AuthLine s (authenticateLine s)
+  go : (r : Reading) → A.readAuthenticate s .reading ≡ r → IsTaken (authVerdict r) → AuthLine s (authenticateLine s)
   go (Taken a) h i = auth-whole s a h
   go (Refused e) h i = absurd i
 
@@ -339,7 +340,7 @@ chal-whole : (s b : List ℕ) (c : Challenge) → C.readChallenge s .reading ≡
 unfolding challengeLine C.readChallenge
 chal-whole s b c h info =
     let o = challenge-own s c h in
-    let held = challenge-taken s b info .0 (subst IsTakenChallenge (sym h) tt) in
+    let held = challenge-judged s b info .taken .0 (rw h tt) in
     let same : C.infoOf s c ≡ b = info-of s b c info h in
     record {
       set = setLetter (unicode (c .flags));
@@ -360,7 +361,7 @@ chal-whole s b c h info =
 
 pub chal-line-whole : ChalLineWhole
 chal-line-whole s b t info = go (C.readChallenge s .reading) refl t where
-  go : (r : ChallengeReading) → C.readChallenge s .reading ≡ r → IsTakenChallenge r → ChalLine s b (challengeLine s)
+  go : (r : ChallengeReading) → C.readChallenge s .reading ≡ r → IsTaken (chalVerdict r) → ChalLine s b (challengeLine s)
   go (ChallengeTaken c) h i = chal-whole s b c h info
   go (ChallengeRefused e) h i = absurd i
 

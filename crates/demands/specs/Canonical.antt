@@ -17,6 +17,8 @@ use Rattle.place.specs.declared.written.Written.the-variants.{Length, Refused}
 use Rattle.read_authenticate.specs.declared.Authenticate.{Authenticate}
 use Rattle.read_authenticate.specs.declared.Reading.the-variants.{Taken}
 use Rattle.read_authenticate.specs.Authenticate.{readAuthenticate}
+use Rattle.head.specs.declared.Kind.the-variants.{Authenticate as AsAuthenticate}
+use Rattle.verdict.specs.Verdict.{readAs}
 use Rattle.c_number.specs.Number.{writtenNumber}
 use Rattle.write_canonical.specs.Canonical.{Meaning, canonicalAnswer, canonicalOut}
 use Rattle.demands.specs.Answers.{TellsWritten}
@@ -26,7 +28,7 @@ use Rattle.demands.specs.Message.{authenticate, lenOf, Nonempty, Fails, 
 use Rattle.demands.specs.Order.{check}
 use Rattle.demands.specs.Kept.{Kept}
 use Rattle.demands.specs.Secret.{DifferInSecrets, AlikeOutside}
-use Rattle.demands.specs.TakenExactly.{IsTakenAuthenticate}
+use Rattle.demands.specs.TakenExactly.{IsTaken}
 use Rattle.demands.specs.WrittenExactly.{WritingRefusedWith, WrittenExactly, Fails30, Fails33}
 
 -- ---- meaning
@@ -46,7 +48,7 @@ pub record Means (s : List ℕ) (m : Meaning) : Type 0 where
 
 -- every taken message means something, and one thing only
 abbrev pub MeaningIsThere : Type 0
-MeaningIsThere = (s : List ℕ) → IsTakenAuthenticate (readAuthenticate s .reading) → (m : Meaning) × Means s m
+MeaningIsThere = (s : List ℕ) → IsTaken (readAs AsAuthenticate s) → (m : Meaning) × Means s m
 
 abbrev pub OneMeaning : Type 0
 OneMeaning = (s : List ℕ) (m n : Meaning) → Means s m → Means s n → m ≡ n
@@ -112,7 +114,7 @@ CanonicalIsWritten =
 -- a message that is taken is refused by no other check of the writer's: 5 and 31 can't come
 abbrev pub NoOtherRefusal : Type 0
 NoOtherRefusal =
-    (room : ℕ) (s : List ℕ) (n i : ℕ) → IsTakenAuthenticate (readAuthenticate s .reading) →
+    (room : ℕ) (s : List ℕ) (n i : ℕ) → IsTaken (readAs AsAuthenticate s) →
     WritingRefusedWith (canonicalAnswer room s) n i → (n ≡ 32) ⊎ ((n ≡ 30) ⊎ (n ≡ 33))
 
 -- ---- demands 1 to 3 for this call

@@ -11,28 +11,23 @@ use lib.Dec.{leb}
 use lib.ListN.{length, getD}
 use lib.Seq.{sets}
 use Rattle.wire.specs.Text.{ascii}
-use Rattle.wire.specs.declared.refusal.Refusal.the-variants.{NoRoom}
 use Rattle.line_words.specs.Digits.{decimal}
-use Rattle.place.specs.declared.written.Written.the-variants.{Length, Refused}
-use Rattle.place.specs.Written.{bytesAnswer, bytesAfter}
+use Rattle.place.specs.Written.{bytesAnswer}
 use Rattle.head.specs.declared.Kind.{Kind}
 use Rattle.head.specs.declared.Kind.the-variants.{Negotiate, Challenge, Authenticate}
 use Rattle.head.specs.Head.{kindOf}
-use Rattle.read_negotiate.specs.Negotiate.{readNegotiate}
-use Rattle.read_challenge.specs.Challenge.{readChallenge}
-use Rattle.read_authenticate.specs.Authenticate.{readAuthenticate}
+use Rattle.verdict.specs.Verdict.{readAs}
 use Rattle.c_number.specs.Number.{writtenNumber}
 use Rattle.explain.specs.Explain.{explanation}
 use Rattle.demands.specs.Answers.{TellsWritten}
 use Rattle.demands.specs.Bench.{p1}
 use Rattle.demands.specs.Examples.{negotiateMessage, challengeMessage}
 use Rattle.demands.specs.Ignored.{DifferAsRead}
-use Rattle.demands.specs.Kept.{Kept}
 use Rattle.demands.specs.Message.{Format, negotiate, authenticate, challenge, lenOf, offsetOf, Fails}
 use Rattle.demands.specs.Order.{placeIn, check}
 use Rattle.demands.specs.PairList.{idOf, sizeOf, nextOf, PairAt, Fails10, Fails11, Fails12, Fails13}
-use Rattle.demands.specs.Secret.{DifferInSecrets, WrittenAlike}
-use Rattle.demands.specs.TakenExactly.{IsTakenNegotiate, IsTakenChallenge, IsTakenAuthenticate, NegotiateRefusedWith, ChallengeRefusedWith, AuthenticateRefusedWith, InfoBytes}
+use Rattle.demands.specs.Secret.{DifferInSecrets}
+use Rattle.demands.specs.TakenExactly.{IsTaken, RefusedWith, InfoBytes}
 
 -- ---- what is printed
 
@@ -92,15 +87,11 @@ formatOf Challenge = challenge
 formatOf Authenticate = authenticate
 
 abbrev pub TakenAs : Kind → List ℕ → Type 0
-TakenAs Negotiate s = IsTakenNegotiate (readNegotiate s)
-TakenAs Challenge s = IsTakenChallenge (readChallenge s .reading)
-TakenAs Authenticate s = IsTakenAuthenticate (readAuthenticate s .reading)
+TakenAs k s = IsTaken (readAs k s)
 
 -- refused with number n, field i and place p
 abbrev pub RefusedAs : Kind → List ℕ → ℕ → ℕ → ℕ → Type 0
-RefusedAs Negotiate s n i p = NegotiateRefusedWith (readNegotiate s) n i × (p ≡ 0)
-RefusedAs Challenge s n i p = ChallengeRefusedWith (readChallenge s .reading) n i p
-RefusedAs Authenticate s n i p = AuthenticateRefusedWith (readAuthenticate s .reading) n i × (p ≡ 0)
+RefusedAs k s n i p = RefusedWith (readAs k s) n i p
 
 -- ---- when a check fails, and when it held
 
@@ -163,28 +154,16 @@ pub record Told (k : Kind) (s : List ℕ) (state : ℕ → State) : Type 0 where
 abbrev pub ExplainedExactly : Type 0
 ExplainedExactly = (s : List ℕ) → (state : ℕ → State) × (explanation s ≡ printOf state (printedChecks (kindOf s))) × Told (kindOf s) s state
 
--- ---- demands 1 to 3
-
--- only the room is refused
-abbrev pub ExplainedAnswered : Type 0
-ExplainedAnswered =
-    (s out : List ℕ) →
-    (length (explanation s) ≤ length out → bytesAnswer (explanation s) out ≡ Length (length (explanation s)))
-    × (length out < length (explanation s) → bytesAnswer (explanation s) out ≡ Refused NoRoom)
-
-abbrev pub ExplainedKept : Type 0
-ExplainedKept = (s out : List ℕ) → Kept (bytesAnswer (explanation s) out) out (bytesAfter (explanation s) out)
+-- ---- demands 1 to 3; what a call of it answers, changes and leaves is that of every line (`LineIsWritten`, `LineStands`, `LineKept`)
 
 -- MaxLen and ignored bytes change nothing in the print
 abbrev pub ExplainedIgnored : Type 0
 ExplainedIgnored = (s t : List ℕ) → DifferAsRead s t → explanation s ≡ explanation t
 
--- a message that is read as AUTHENTICATE tells no secret by it: the print is the same, and so is the call at every two outputs of one
--- length
+-- a message that is read as AUTHENTICATE tells no secret by it
 pub record SameExplained (s t : List ℕ) : Type 0 where
   pub kind : kindOf t ≡ Authenticate
   pub print : explanation s ≡ explanation t
-  pub call : (out out′ : List ℕ) → length out ≡ length out′ → WrittenAlike (explanation s) out (explanation t) out′
 
 abbrev pub SecretExplained : Type 0
 SecretExplained = (s t : List ℕ) → DifferInSecrets s t → kindOf s ≡ Authenticate → SameExplained s t

@@ -26,6 +26,7 @@ use Rattle.read_nl_auth.specs.declared.NlAuth.{NlAuth}
 use Rattle.read_nl_auth.specs.declared.Reading.the-variants.{Taken as NlTaken}
 use Rattle.read_nl_auth.specs.declared.string.NlString.{NlString}
 use Rattle.read_nl_auth.specs.NlAuth.{stringBytes, labelsOf, readNlAuth}
+use Rattle.verdict.specs.Verdict.{readAs}
 use Rattle.line.specs.Line.{negotiateLine, authenticateLine, challengeLine, ntlmLine, nlAuthLine}
 use Rattle.respond.specs.declared.decision.Settings.{Settings}
 use Rattle.respond.specs.Answer.{Supplied, respondTo}
@@ -34,7 +35,7 @@ use Rattle.respond.specs.Domain.{domainPart}
 use Rattle.demands.specs.MaxLen.{bareAuthenticate, bareChallenge, bareNegotiate, EndsInMax, AlikeButMax}
 use Rattle.demands.specs.Message.{negotiate, authenticate, challenge, DifferInIgnored, SameMaxLen}
 use Rattle.demands.specs.NlAuth.{typeOf}
-use Rattle.demands.specs.TakenExactly.{IsTakenNegotiate, IsTakenChallenge, IsTakenAuthenticate}
+use Rattle.demands.specs.TakenExactly.{IsTaken}
 use Rattle.demands.specs.ThinCalls.{ThinCall, goesBy}
 
 -- a field has the same bytes in both
@@ -110,27 +111,27 @@ NlAuthIgnored = (s t : List ℕ) → NlDifferInIgnored s t → SameNlAuth s t
 abbrev pub AuthenticateLineIgnored : Type 0
 AuthenticateLineIgnored =
     (s t : List ℕ) → DifferInIgnored authenticate s t →
-    AlikeButMax authenticate (IsTakenAuthenticate (readAuthenticate s .reading)) s t (authenticateLine s) (authenticateLine t)
+    AlikeButMax authenticate (readAs AsAuthenticate s) s t (authenticateLine s) (authenticateLine t)
     × (SameMaxLen authenticate s t → authenticateLine s ≡ authenticateLine t)
 
 abbrev pub NegotiateLineIgnored : Type 0
 NegotiateLineIgnored =
     (s t : List ℕ) → DifferInIgnored negotiate s t →
-    AlikeButMax negotiate (IsTakenNegotiate (readNegotiate s)) s t (negotiateLine s) (negotiateLine t)
+    AlikeButMax negotiate (readAs AsNegotiate s) s t (negotiateLine s) (negotiateLine t)
     × (SameMaxLen negotiate s t → negotiateLine s ≡ negotiateLine t)
 
 abbrev pub ChallengeLineIgnored : Type 0
 ChallengeLineIgnored =
     (s t : List ℕ) → DifferInIgnored challenge s t →
-    AlikeButMax challenge (IsTakenChallenge (readChallenge s .reading)) s t (challengeLine s) (challengeLine t)
+    AlikeButMax challenge (readAs AsChallenge s) s t (challengeLine s) (challengeLine t)
     × (SameMaxLen challenge s t → challengeLine s ≡ challengeLine t)
 
 -- the line of every taken message ends in the word that its heads say
 pub record MaxWordSaid : Type 0 where
-  pub auth : (s : List ℕ) → IsTakenAuthenticate (readAuthenticate s .reading) →
+  pub auth : (s : List ℕ) → IsTaken (readAs AsAuthenticate s) →
       (before : List ℕ) × EndsInMax authenticate s (authenticateLine s) before
-  pub nego : (s : List ℕ) → IsTakenNegotiate (readNegotiate s) → (before : List ℕ) × EndsInMax negotiate s (negotiateLine s) before
-  pub chal : (s : List ℕ) → IsTakenChallenge (readChallenge s .reading) →
+  pub nego : (s : List ℕ) → IsTaken (readAs AsNegotiate s) → (before : List ℕ) × EndsInMax negotiate s (negotiateLine s) before
+  pub chal : (s : List ℕ) → IsTaken (readAs AsChallenge s) →
       (before : List ℕ) × EndsInMax challenge s (challengeLine s) before
 
 -- the NTLM program's line, by the kind that it reads the message as
@@ -141,13 +142,13 @@ pub record DifferAsRead (s t : List ℕ) : Type 0 where
 
 pub record NtlmLineAlike (s t : List ℕ) : Type 0 where
   pub as-negotiate : kindOf s ≡ AsNegotiate →
-      AlikeButMax negotiate (IsTakenNegotiate (readNegotiate s)) s t (ntlmLine s) (ntlmLine t)
+      AlikeButMax negotiate (readAs AsNegotiate s) s t (ntlmLine s) (ntlmLine t)
       × (SameMaxLen negotiate s t → ntlmLine s ≡ ntlmLine t)
   pub as-challenge : kindOf s ≡ AsChallenge →
-      AlikeButMax challenge (IsTakenChallenge (readChallenge s .reading)) s t (ntlmLine s) (ntlmLine t)
+      AlikeButMax challenge (readAs AsChallenge s) s t (ntlmLine s) (ntlmLine t)
       × (SameMaxLen challenge s t → ntlmLine s ≡ ntlmLine t)
   pub as-authenticate : kindOf s ≡ AsAuthenticate →
-      AlikeButMax authenticate (IsTakenAuthenticate (readAuthenticate s .reading)) s t (ntlmLine s) (ntlmLine t)
+      AlikeButMax authenticate (readAs AsAuthenticate s) s t (ntlmLine s) (ntlmLine t)
       × (SameMaxLen authenticate s t → ntlmLine s ≡ ntlmLine t)
 
 abbrev pub NtlmLineIgnored : Type 0

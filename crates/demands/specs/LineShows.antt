@@ -226,12 +226,9 @@ pub record ReadAlike (k l : Kind) (s t : List ℕ) : Type 0 where
   pub second : ReadFor l t form
   pub alike : Alike k l s t form first second
 
--- each read as any kind, as the three calls of a line do, and as the NTLM program chooses
+-- each read as any kind, as the three calls of a line do, and so as the NTLM program chooses (`ntlmLine s` is `lineAs (kindOf s) s`)
 abbrev pub LinesShow : Type 0
 LinesShow = (k l : Kind) (s t : List ℕ) → Bytes s → Bytes t → (lineAs k s ≡ lineAs l t) ↔ ReadAlike k l s t
-
-abbrev pub NtlmLineShows : Type 0
-NtlmLineShows = (s t : List ℕ) → Bytes s → Bytes t → (ntlmLine s ≡ ntlmLine t) ↔ ReadAlike (kindOf s) (kindOf t) s t
 
 -- the same of NL_AUTH
 pub data NlReadFor (s : List ℕ) : Form → Type 0 where

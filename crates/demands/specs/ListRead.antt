@@ -5,6 +5,8 @@ use Prim.Native.Nat.{ℕ}
 use mathlib.Core.Path.{_≡_}
 use mathlib.Core.Logic.{_↔_}
 use mathlib.Core.List.{List}
+use Rattle.wire.specs.declared.check.Verdict.{Verdict}
+use Rattle.wire.specs.declared.check.Verdict.the-variants.{Clear, Refused}
 use Rattle.target_info.specs.declared.Contents.{Contents}
 use Rattle.target_info.specs.declared.ListReading.{ListReading}
 use Rattle.target_info.specs.declared.ListReading.the-variants.{Taken as ListTaken, Refused as ListRefused}
@@ -17,7 +19,7 @@ use Rattle.read_challenge.specs.Challenge.{readChallenge, fullReadingOf}
 use Rattle.demands.specs.Answering.{TimestampIs}
 use Rattle.demands.specs.Message.{challenge, DifferInIgnored}
 use Rattle.demands.specs.PairList.{Holds, ListFails}
-use Rattle.demands.specs.TakenExactly.{RefusalIs, InfoBytes, ChallengeFails}
+use Rattle.demands.specs.TakenExactly.{RefusedWith, InfoBytes, ChallengeFails}
 
 -- ---- a list
 
@@ -26,9 +28,9 @@ pub record ContentsAre (list : List ℕ) (c : Contents) : Type 0 where
   pub pairs : Holds list (c .pairs)
   pub time : TimestampIs list (c .timestamp)
 
-abbrev pub ListReadRefused : ListReading → ℕ → ℕ → ℕ → Type 0
-ListReadRefused (ListTaken c) n i p = ⊥
-ListReadRefused (ListRefused e) n i p = RefusalIs e n i p
+abbrev pub listVerdict : ListReading → Verdict
+listVerdict (ListTaken c) = Clear
+listVerdict (ListRefused e) = Refused e
 
 -- it is taken with these if and only if it is empty or well-formed and holds these
 abbrev pub ContentsTaken : Type 0
@@ -36,13 +38,13 @@ ContentsTaken = (list : List ℕ) (c : Contents) → (readList list ≡ ListTake
 
 -- and refused as checks 10 to 13 refuse it
 abbrev pub ContentsRefused : Type 0
-ContentsRefused = (list : List ℕ) (n i p : ℕ) → ListReadRefused (readList list) n i p ↔ ListFails list n i p
+ContentsRefused = (list : List ℕ) (n i p : ℕ) → RefusedWith (listVerdict (readList list)) n i p ↔ ListFails list n i p
 
 -- ---- a challenge, with the contents of its TargetInfo, whose bytes are b
 
-abbrev pub FullRefusedWith : FullReading → ℕ → ℕ → ℕ → Type 0
-FullRefusedWith (FullTaken f) n i p = ⊥
-FullRefusedWith (FullRefused e) n i p = RefusalIs e n i p
+abbrev pub fullVerdict : FullReading → Verdict
+fullVerdict (FullTaken f) = Clear
+fullVerdict (FullRefused e) = Refused e
 
 -- it is taken exactly where the challenge is, with what its list holds
 abbrev pub FullIsTaken : Type 0
@@ -52,7 +54,7 @@ FullIsTaken =
 
 -- and refused as it is
 abbrev pub FullIsRefused : Type 0
-FullIsRefused = (s b : List ℕ) → InfoBytes s b → (n i p : ℕ) → FullRefusedWith (fullReadingOf s) n i p ↔ ChallengeFails s b n i p
+FullIsRefused = (s b : List ℕ) → InfoBytes s b → (n i p : ℕ) → RefusedWith (fullVerdict (fullReadingOf s)) n i p ↔ ChallengeFails s b n i p
 
 -- demand 2: ignored bytes and MaxLen change nothing of what the list holds, nor the refusal
 abbrev pub contentsIn : FullReading → ListReading

@@ -5,6 +5,7 @@ use mathlib.Core.Path.{_≡_}
 use mathlib.Core.List.{List, [], _∷_, _++_}
 use lib.ListN.{length, getD}
 use Rattle.wire.specs.Text.{ascii}
+use Rattle.wire.specs.declared.check.Verdict.{Verdict}
 use Rattle.field.specs.declared.Field.{Field}
 use Rattle.read_authenticate.specs.declared.Reading.{Reading}
 use Rattle.read_authenticate.specs.declared.Reading.the-variants.{Taken, Refused}
@@ -13,6 +14,7 @@ use Rattle.read_challenge.specs.declared.Reading.the-variants.{Taken as Challen
 use Rattle.read_negotiate.specs.declared.Reading.{Reading as NegotiateReading}
 use Rattle.read_negotiate.specs.declared.Reading.the-variants.{Taken as NegotiateTaken, Refused as NegotiateRefused}
 use Rattle.demands.specs.Message.{Format, lenOf, maxLenOf, Counts}
+use Rattle.demands.specs.TakenExactly.{IsTaken}
 
 -- a field's record without its MaxLen
 abbrev pub bare : Field → Field
@@ -77,6 +79,6 @@ pub record AlikeToMax (k : Format) (s t line line′ : List ℕ) : Type 0 where
   pub same-length : length line ≡ length line′
 
 -- the lines of two messages: alike to the last word where the first is taken, and alike where it is refused
-pub record AlikeButMax (k : Format) (IsTaken : Type 0) (s t line line′ : List ℕ) : Type 0 where
-  pub taken : IsTaken → AlikeToMax k s t line line′
-  pub refused : (IsTaken → ⊥) → line ≡ line′
+pub record AlikeButMax (k : Format) (verdict : Verdict) (s t line line′ : List ℕ) : Type 0 where
+  pub taken : IsTaken verdict → AlikeToMax k s t line line′
+  pub refused : (IsTaken verdict → ⊥) → line ≡ line′

@@ -9,7 +9,6 @@ use mathlib.Core.Bool.{true, false}
 use mathlib.Core.List.{List, _++_}
 use lib.ListN.{length, getD, take, drop, replicate}
 use lib.Seq.{sets}
-use Rattle.wire.specs.declared.check.Verdict.{Verdict}
 use Rattle.wire.specs.declared.check.Verdict.the-variants.{Clear, Refused as Not}
 use Rattle.wire.specs.declared.refusal.Refusal.{Refusal}
 use Rattle.wire.specs.declared.refusal.Refusal.the-variants.{NoRoom}
@@ -23,7 +22,7 @@ use Rattle.demands.specs.Answers.{isRefused, numberIn, TellsLength, Tell
 use Rattle.demands.specs.Kept.{Front}
 use Rattle.demands.specs.Message.{negotiate, challenge, authenticate, Fails, MicThere, DifferInIgnored}
 use Rattle.demands.specs.Order.{First}
-use Rattle.demands.specs.TakenExactly.{RefusalIs, InfoBytes, ChallengeHolds, ChallengeFails}
+use Rattle.demands.specs.TakenExactly.{Judged, InfoBytes, ChallengeHolds, ChallengeFails}
 
 -- ---- when there is an answer, and what it is
 
@@ -46,16 +45,16 @@ pub data MicFails (size : ℕ) (nego chal info auth : List ℕ) (n i p : ℕ) : 
   no-mic : size ≡ 16 → ((m j : ℕ) → Fails negotiate nego m j → ⊥) → ChallengeHolds chal info → ((m j : ℕ) → Fails authenticate auth m j → ⊥) →
       (MicThere authenticate auth → ⊥) → n ≡ 56 → i ≡ 0 → p ≡ 0 → MicFails size nego chal info auth n i p
 
-abbrev pub VerdictAt : Verdict → ℕ → ℕ → ℕ → Type 0
-VerdictAt Clear n i p = ⊥
-VerdictAt (Not e) n i p = RefusalIs e n i p
-
 -- the MIC is worked out if and only if all that holds, and refused with n, i and p if and only if that is the first failure
-abbrev pub MicExactly : Type 0
-MicExactly =
+abbrev pub MicJudged : Type 0
+MicJudged =
     (key nego chal info auth : List ℕ) → InfoBytes chal info →
-    ((workOut key nego chal auth .verdict ≡ Clear) ↔ MicHolds (length key) nego chal info auth)
-    × ((n i p : ℕ) → VerdictAt (workOut key nego chal auth .verdict) n i p ↔ MicFails (length key) nego chal info auth n i p)
+    Judged (workOut key nego chal auth .verdict) (MicHolds (length key) nego chal info auth) (MicFails (length key) nego chal info auth)
+
+-- a refusal gives sixteen zeros
+abbrev pub MicRefusedZeros : Type 0
+MicRefusedZeros =
+    (key nego chal auth : List ℕ) (e : Refusal) → workOut key nego chal auth .verdict ≡ Not e → workOut key nego chal auth .mic ≡ replicate 16 0
 
 -- what it is: HMAC-MD5 over the three messages, "with the sixteen MIC bytes taken as zero"
 abbrev pub MicIs : Type 0
@@ -112,10 +111,8 @@ MicBlind = (key nego chal s t : List ℕ) → DifferInMic s t → workOut key ne
 -- ---- what is worked out, put at 72 of the AUTHENTICATE, makes the check say yes, and any other sixteen bytes make it say no
 
 pub record PutIn (key nego chal auth bytes : List ℕ) : Type 0 where
-  pub yes : bytes ≡ workOut key nego chal auth .mic →
-      (checkMic key nego chal (sets auth 72 bytes) ≡ Compared true) × (checkNumber key nego chal (sets auth 72 bytes) ≡ 1)
-  pub no : (bytes ≡ workOut key nego chal auth .mic → ⊥) →
-      (checkMic key nego chal (sets auth 72 bytes) ≡ Compared false) × (checkNumber key nego chal (sets auth 72 bytes) ≡ 0)
+  pub yes : bytes ≡ workOut key nego chal auth .mic → checkMic key nego chal (sets auth 72 bytes) ≡ Compared true
+  pub no : (bytes ≡ workOut key nego chal auth .mic → ⊥) → checkMic key nego chal (sets auth 72 bytes) ≡ Compared false
 
 abbrev pub MicPutIn : Type 0
 MicPutIn =

@@ -1,5 +1,5 @@
 -- Demand 2: "each field handed out is that field's own bytes".
-use Prim.Native.Nat.{ℕ, _+_, _-_, _%_, _≤_}
+use Prim.Native.Nat.{ℕ, _+_, _-_, _%_, _≤_, _<_}
 use mathlib.Core.Path.{_≡_}
 use mathlib.Core.Bool.{true}
 use mathlib.Core.Logic.{_⊎_, _↔_}
@@ -171,3 +171,14 @@ abbrev pub NlAuthOwn : Type 0
 NlAuthOwn =
     (s : List ℕ) (m : NlAuth) → readNlAuth s ≡ NlTaken m →
     ((typeOf s ≡ 0) × OwnRequest s m) ⊎ ((typeOf s ≡ 1) × OwnResponse s m)
+
+-- the bytes of any record of an offset and a length, whoever made it: those of the message, and none where it doesn't lie within
+pub record RecordBytes (s : List ℕ) (offset len : ℕ) (bytes : List ℕ) : Type 0 where
+  pub within : offset + len ≤ length s → bytes ≡ take len (drop offset s)
+  pub outside : length s < offset + len → bytes ≡ []
+
+abbrev pub FieldRecordBytes : Type 0
+FieldRecordBytes = (s : List ℕ) (f : Field) → RecordBytes s (f .offset) (f .len) (fieldBytes s f)
+
+abbrev pub StringRecordBytes : Type 0
+StringRecordBytes = (s : List ℕ) (x : NlString) → RecordBytes s (x .offset) (x .len) (stringBytes s x)

@@ -10,32 +10,27 @@ use lib.Seq.{sets}
 use Rattle.wire.specs.Text.{ascii}
 use Rattle.line_words.specs.Digits.{decimal}
 use Rattle.head.specs.declared.Kind.{Kind}
-use Rattle.head.specs.declared.Kind.the-variants.{Negotiate, Challenge, Authenticate}
 use Rattle.head.specs.Head.{kindOf}
 use Rattle.read_nl_auth.specs.NlAuth.{readNlAuth}
-use Rattle.line.specs.Line.{negotiateLine, challengeLine, authenticateLine, lineAs, ntlmLine, nlAuthLine, shownLine}
+use Rattle.line.specs.Line.{lineAs, ntlmLine, nlAuthLine, shownLine}
 use Rattle.demands.specs.Bench.{p1, p12}
 use Rattle.demands.specs.Examples.{challengeMessage}
 use Rattle.demands.specs.Explained.{RefusedAs, linesOf}
-use Rattle.demands.specs.TakenExactly.{NlRefusedWith}
+use Rattle.demands.specs.TakenExactly.{RefusedWith, nlVerdict}
 
 -- `refused n field=i at=p` and 0A; `decimal` gives D (`Digits.antt`)
 abbrev pub refusedBytes : ℕ → ℕ → ℕ → List ℕ
 refusedBytes n i p =
     ascii "refused " ++ (decimal n ++ (ascii " field=" ++ (decimal i ++ (ascii " at=" ++ (decimal p ++ (0x0A ∷ []))))))
 
--- NL_AUTH is refused with number n, field i and place p; it has no pairs, so the place is 0
+-- NL_AUTH is refused with number n, field i and place p
 abbrev pub NlRefusedAs : List ℕ → ℕ → ℕ → ℕ → Type 0
-NlRefusedAs s n i p = NlRefusedWith (readNlAuth s) n i × (p ≡ 0)
+NlRefusedAs s n i p = RefusedWith (nlVerdict (readNlAuth s)) n i p
 
--- ---- the lines: a message has this line if and only if it is refused so
+-- ---- the lines: a message has this line if and only if it is refused so, read as any kind, and so as the NTLM program chooses
 
 pub record RefusedSaid (s : List ℕ) (n i p : ℕ) : Type 0 where
-  pub nego : RefusedAs Negotiate s n i p ↔ (negotiateLine s ≡ refusedBytes n i p)
-  pub chal : RefusedAs Challenge s n i p ↔ (challengeLine s ≡ refusedBytes n i p)
-  pub auth : RefusedAs Authenticate s n i p ↔ (authenticateLine s ≡ refusedBytes n i p)
   pub as-kind : (k : Kind) → RefusedAs k s n i p ↔ (lineAs k s ≡ refusedBytes n i p)
-  pub ntlm : RefusedAs (kindOf s) s n i p ↔ (ntlmLine s ≡ refusedBytes n i p)
   pub nl-auth : NlRefusedAs s n i p ↔ (nlAuthLine s ≡ refusedBytes n i p)
 
 abbrev pub RefusedLineExactly : Type 0

@@ -11,6 +11,7 @@ use Rattle.read_authenticate.specs.declared.Reading.the-variants.{Taken}
 use Rattle.read_authenticate.specs.Authenticate.{readAuthenticate}
 use Rattle.head.specs.declared.Kind.the-variants.{Authenticate as AsAuthenticate}
 use Rattle.head.specs.Head.{kindOf}
+use Rattle.verdict.specs.Verdict.{readAs}
 use Rattle.line.specs.Line.{authenticateLine, ntlmLine, shownLine}
 use Rattle.place.specs.declared.written.Written.the-variants.{Length}
 use Rattle.place.specs.Written.{bytesAnswer, bytesAfter}
@@ -19,11 +20,9 @@ use Rattle.respond.specs.declared.answer.Answered.the-variants.{Sent}
 use Rattle.respond.specs.declared.decision.Settings.{Settings}
 use Rattle.respond.specs.Answer.{Supplied, Effect, respondTo}
 use Rattle.demands.specs.Bench.{p1, userOffset}
-use Rattle.demands.specs.FromC.{read-authenticate, twoArrayOutcome}
 use Rattle.demands.specs.Ignored.{SameBytes}
-use Rattle.demands.specs.Kept.{Kept}
 use Rattle.demands.specs.Message.{authenticate, Nonempty, Covers, MicThere}
-use Rattle.demands.specs.TakenExactly.{IsTakenAuthenticate, AuthenticateRefusedWith}
+use Rattle.demands.specs.TakenExactly.{IsTaken, RefusedWith}
 use Rattle.demands.specs.ThinCalls.{ThinCall, goesBy}
 
 -- the byte at p is a secret's or a MIC's: "a field's bytes go by its head, in a refused message too: those from its offset
@@ -39,40 +38,36 @@ pub record DifferInSecrets (s t : List ℕ) : Type 0 where
   pub first-64 : (p : ℕ) → p < 64 → getD s p 0 ≡ getD t p 0
   pub elsewhere : (p : ℕ) → (getD s p 0 ≡ getD t p 0) ⊎ Secret s p
 
--- a call that writes a line, made twice with outputs of one length: the same answer, and the same bytes where some are written; a
--- refusal leaves each output as it was, and a success leaves the bytes after what is written
-pub record WrittenAlike (x out y out′ : List ℕ) : Type 0 where
-  pub answer : bytesAnswer x out ≡ bytesAnswer y out′
-  pub bytes : (n : ℕ) → bytesAnswer x out ≡ Length n → take n (bytesAfter x out) ≡ take n (bytesAfter y out′)
-  pub kept : Kept (bytesAnswer x out) out (bytesAfter x out)
-  pub kept′ : Kept (bytesAnswer y out′) out′ (bytesAfter y out′)
+-- a call that writes a line, made twice with outputs of one length, gets the same answer, and the same bytes where some are written;
+-- what it leaves is in `LineKept`. So it is enough that two messages have the same line, below
+pub record WrittenAlike (line out out′ : List ℕ) : Type 0 where
+  pub answer : bytesAnswer line out ≡ bytesAnswer line out′
+  pub bytes : (n : ℕ) → bytesAnswer line out ≡ Length n → take n (bytesAfter line out) ≡ take n (bytesAfter line out′)
 
--- "all but the secrets' and the MIC's own bytes": the same flags, places, MIC presence or refusal, from C too, the same names, the
--- same line, and the same of the line's call
+abbrev pub LineWrittenAlike : Type 0
+LineWrittenAlike = (line out out′ : List ℕ) → length out ≡ length out′ → WrittenAlike line out out′
+
+-- "all but the secrets' and the MIC's own bytes": the same flags, places, MIC presence or refusal, of which C's numbers are made, the
+-- same names and the same line
 pub record SamePublic (s t : List ℕ) : Type 0 where
   pub reading : readAuthenticate s .reading ≡ readAuthenticate t .reading
-  pub from-c : twoArrayOutcome (read-authenticate s) ≡ twoArrayOutcome (read-authenticate t)
   pub domain : (a : Authenticate) → readAuthenticate s .reading ≡ Taken a → SameBytes s t (a .fields .domain)
   pub user : (a : Authenticate) → readAuthenticate s .reading ≡ Taken a → SameBytes s t (a .fields .user)
   pub workstation : (a : Authenticate) → readAuthenticate s .reading ≡ Taken a → SameBytes s t (a .fields .workstation)
   -- where no MIC is there, or the message is refused, the sixteen bytes are zeros in both
-  pub no-mic : (IsTakenAuthenticate (readAuthenticate s .reading) → MicThere authenticate s → ⊥) →
+  pub no-mic : (IsTaken (readAs AsAuthenticate s) → MicThere authenticate s → ⊥) →
       (readAuthenticate s .mic ≡ replicate 16 0) × (readAuthenticate t .mic ≡ replicate 16 0)
   pub line : authenticateLine s ≡ authenticateLine t
-  pub line-call : (out out′ : List ℕ) → length out ≡ length out′ → WrittenAlike (authenticateLine s) out (authenticateLine t) out′
 
 abbrev pub SecretRead : Type 0
 SecretRead = (s t : List ℕ) → DifferInSecrets s t → SamePublic s t
 
--- the NTLM program, where it reads the first as AUTHENTICATE: it reads the second so too, both have the same line, and the
--- line's call and what the program prints are the same at every two outputs of one length
+-- the NTLM program, where it reads the first as AUTHENTICATE: it reads the second so too, both have the same line, and what the
+-- program prints is the same at every two outputs of one length
 pub record SamePrinted (s t : List ℕ) : Type 0 where
   pub kind : kindOf t ≡ AsAuthenticate
   pub line : ntlmLine s ≡ ntlmLine t
-  pub line-call : (out out′ : List ℕ) → length out ≡ length out′ → WrittenAlike (ntlmLine s) out (ntlmLine t) out′
   pub printed : (out out′ : List ℕ) → length out ≡ length out′ → shownLine (ntlmLine s) out ≡ shownLine (ntlmLine t) out′
-  pub print-call : (out out′ : List ℕ) → length out ≡ length out′ →
-      WrittenAlike (shownLine (ntlmLine s) out) out (shownLine (ntlmLine t) out′) out′
 
 abbrev pub SecretPrinted : Type 0
 SecretPrinted = (s t : List ℕ) → DifferInSecrets s t → kindOf s ≡ AsAuthenticate → SamePrinted s t
@@ -84,10 +79,10 @@ OtherSecret s p = (kindOf s ≡ AsAuthenticate) × DifferInSecrets s (set s p 0x
 
 pub record SecretExample : Type 0 where
   -- P1, which is taken, and the first byte of its NT response
-  pub taken : IsTakenAuthenticate (readAuthenticate p1 .reading)
+  pub taken : IsTaken (readAs AsAuthenticate p1)
   pub of-taken : OtherSecret p1 96
   -- P2 at 112, which is refused: the first byte of the user's name is one of the NT response's
-  pub refused : AuthenticateRefusedWith (readAuthenticate (userOffset 112) .reading) 9 4
+  pub refused : RefusedWith (readAs AsAuthenticate (userOffset 112)) 9 4 0
   pub in-name : Nonempty authenticate (userOffset 112) 4 × Covers authenticate (userOffset 112) 4 112
   pub of-refused : OtherSecret (userOffset 112) 112
 

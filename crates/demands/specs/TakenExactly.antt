@@ -1,90 +1,84 @@
 -- Demand 2: "A message is taken exactly when every check there holds", and demand 1: "It answers, or refuses by a
--- number from document 01 in the order given there."
+-- number from document 01 in the order given there." One record says both of each reader, as `WrittenExactly` does of each
+-- writer. It goes by the reader's verdict: what was read is taken, or refused with a refusal.
 use Prim.Native.Nat.{ℕ, _+_, _≤_}
 use mathlib.Core.Path.{_≡_}
 use mathlib.Core.Logic.{_↔_}
 use mathlib.Core.List.{List, []}
 use lib.ListN.{take, drop}
+use Rattle.wire.specs.declared.check.Verdict.{Verdict}
+use Rattle.wire.specs.declared.check.Verdict.the-variants.{Clear, Refused}
 use Rattle.wire.specs.declared.refusal.Refusal.{Refusal}
 use Rattle.wire.specs.Refusal.{numberOf, fieldOf, placeOf}
-use Rattle.read_authenticate.specs.declared.Reading.{Reading}
-use Rattle.read_authenticate.specs.declared.Reading.the-variants.{Taken, Refused}
-use Rattle.read_authenticate.specs.Authenticate.{readAuthenticate}
 use Rattle.av_pairs.specs.declared.Count.{Count}
 use Rattle.av_pairs.specs.declared.Count.the-variants.{Pairs, Refused as Uncounted}
 use Rattle.av_pairs.specs.AvPairs.{countPairs}
-use Rattle.read_challenge.specs.declared.Reading.{Reading as ChallengeReading}
-use Rattle.read_challenge.specs.declared.Reading.the-variants.{Taken as ChallengeTaken, Refused as ChallengeRefused}
+use Rattle.head.specs.declared.Kind.the-variants.{Negotiate, Challenge, Authenticate}
+use Rattle.read_challenge.specs.declared.Reading.the-variants.{Refused as ChallengeRefused}
 use Rattle.read_challenge.specs.Challenge.{readChallenge}
-use Rattle.read_negotiate.specs.declared.Reading.{Reading as NegotiateReading}
-use Rattle.read_negotiate.specs.declared.Reading.the-variants.{Taken as NegotiateTaken, Refused as NegotiateRefused}
-use Rattle.read_negotiate.specs.Negotiate.{readNegotiate}
 use Rattle.read_nl_auth.specs.declared.Reading.{Reading as NlReading}
 use Rattle.read_nl_auth.specs.declared.Reading.the-variants.{Taken as NlTaken, Refused as NlRefused}
 use Rattle.read_nl_auth.specs.NlAuth.{readNlAuth}
+use Rattle.verdict.specs.Verdict.{readAs}
 use Rattle.demands.specs.NlAuth.{NlFails, NlFirst}
 use Rattle.demands.specs.Order.{First}
 use Rattle.demands.specs.Message.{Fails, negotiate, authenticate, challenge, Nonempty, lenOf, offsetOf}
 use Rattle.demands.specs.PairList.{Holds, ListFails}
 
-abbrev pub IsTakenAuthenticate : Reading → Type 0
-IsTakenAuthenticate (Taken a) = Unit
-IsTakenAuthenticate (Refused e) = ⊥
+-- ---- taken exactly, refused exactly
 
-abbrev pub AuthenticateRefusedWith : Reading → ℕ → ℕ → Type 0
-AuthenticateRefusedWith (Taken a) n i = ⊥
-AuthenticateRefusedWith (Refused e) n i = (numberOf e ≡ n) × (fieldOf e ≡ i)
-
--- AUTHENTICATE is taken if and only if no check fails at any field
-abbrev pub AuthenticateIsTaken : Type 0
-AuthenticateIsTaken = (s : List ℕ) → IsTakenAuthenticate (readAuthenticate s .reading) ↔ ((n i : ℕ) → Fails authenticate s n i → ⊥)
-
--- and refused with number n and field i if and only if that is the first failure, in document 01's order
-abbrev pub AuthenticateIsRefused : Type 0
-AuthenticateIsRefused = (s : List ℕ) (n i : ℕ) → AuthenticateRefusedWith (readAuthenticate s .reading) n i ↔ First (Fails authenticate s) n i
-
-abbrev pub IsTakenNegotiate : NegotiateReading → Type 0
-IsTakenNegotiate (NegotiateTaken m) = Unit
-IsTakenNegotiate (NegotiateRefused e) = ⊥
-
-abbrev pub NegotiateRefusedWith : NegotiateReading → ℕ → ℕ → Type 0
-NegotiateRefusedWith (NegotiateTaken m) n i = ⊥
-NegotiateRefusedWith (NegotiateRefused e) n i = (numberOf e ≡ n) × (fieldOf e ≡ i)
-
--- the same of NEGOTIATE
-abbrev pub NegotiateIsTaken : Type 0
-NegotiateIsTaken = (s : List ℕ) → IsTakenNegotiate (readNegotiate s) ↔ ((n i : ℕ) → Fails negotiate s n i → ⊥)
-
-abbrev pub NegotiateIsRefused : Type 0
-NegotiateIsRefused = (s : List ℕ) (n i : ℕ) → NegotiateRefusedWith (readNegotiate s) n i ↔ First (Fails negotiate s) n i
+abbrev pub IsTaken : Verdict → Type 0
+IsTaken Clear = Unit
+IsTaken (Refused e) = ⊥
 
 -- a refusal by all that it returns: number, field and place
 abbrev pub RefusalIs : Refusal → ℕ → ℕ → ℕ → Type 0
 RefusalIs e n i p = (numberOf e ≡ n) × (fieldOf e ≡ i) × (placeOf e ≡ p)
 
+abbrev pub RefusedWith : Verdict → ℕ → ℕ → ℕ → Type 0
+RefusedWith Clear n i p = ⊥
+RefusedWith (Refused e) n i p = RefusalIs e n i p
+
+pub record Judged (verdict : Verdict) (Holds : Type 0) (Fails : ℕ → ℕ → ℕ → Type 0) : Type 0 where
+  -- it is taken if and only if this holds
+  pub taken : IsTaken verdict ↔ Holds
+  -- and refused with number n, field i and place p if and only if that is what fails first
+  pub refused : (n i p : ℕ) → RefusedWith verdict n i p ↔ Fails n i p
+
+-- checks without a place, of which `F n i` says that check n fails at field i: none fails, and the first that does
+abbrev pub NoneFails : (ℕ → ℕ → Type 0) → Type 0
+NoneFails F = (n i : ℕ) → F n i → ⊥
+
+abbrev pub FirstFails : (ℕ → ℕ → Type 0) → ℕ → ℕ → ℕ → Type 0
+FirstFails F n i p = First F n i × (p ≡ 0)
+
+-- ---- AUTHENTICATE and NEGOTIATE: no check fails at any field, or the first failure in document 01's order
+
+abbrev pub AuthenticateJudged : Type 0
+AuthenticateJudged = (s : List ℕ) → Judged (readAs Authenticate s) (NoneFails (Fails authenticate s)) (FirstFails (Fails authenticate s))
+
+abbrev pub NegotiateJudged : Type 0
+NegotiateJudged = (s : List ℕ) → Judged (readAs Negotiate s) (NoneFails (Fails negotiate s)) (FirstFails (Fails negotiate s))
+
 -- document 02, 3/12: "with 0 for every other number" than 10 to 13
 abbrev pub PlaceOfPairsOnly : Type 0
 PlaceOfPairsOnly = (e : Refusal) → ((10 ≤ numberOf e) × (numberOf e ≤ 13) → ⊥) → placeOf e ≡ 0
 
-abbrev pub CountRefused : Count → ℕ → ℕ → ℕ → Type 0
-CountRefused (Pairs m) n i p = ⊥
-CountRefused (Uncounted e) n i p = RefusalIs e n i p
+-- ---- a pair list
 
--- a pair list is taken, with its count, if and only if it is empty or well-formed
+abbrev pub countVerdict : Count → Verdict
+countVerdict (Pairs n) = Clear
+countVerdict (Uncounted e) = Refused e
+
+-- it is taken, with its count, if and only if it is empty or well-formed
 abbrev pub PairsTaken : Type 0
 PairsTaken = (s : List ℕ) (n : ℕ) → (countPairs s ≡ Pairs n) ↔ Holds s n
 
 -- and refused with a number, field 2 and a place if and only if the earliest faulty pair has that fault and starts there
 abbrev pub PairsRefused : Type 0
-PairsRefused = (s : List ℕ) (n i p : ℕ) → CountRefused (countPairs s) n i p ↔ ListFails s n i p
+PairsRefused = (s : List ℕ) (n i p : ℕ) → RefusedWith (countVerdict (countPairs s)) n i p ↔ ListFails s n i p
 
-abbrev pub IsTakenChallenge : ChallengeReading → Type 0
-IsTakenChallenge (ChallengeTaken c) = Unit
-IsTakenChallenge (ChallengeRefused e) = ⊥
-
-abbrev pub ChallengeRefusedWith : ChallengeReading → ℕ → ℕ → ℕ → Type 0
-ChallengeRefusedWith (ChallengeTaken c) n i p = ⊥
-ChallengeRefusedWith (ChallengeRefused e) n i p = RefusalIs e n i p
+-- ---- CHALLENGE
 
 -- b are the bytes of TargetInfo, field 2
 pub record InfoBytes (s b : List ℕ) : Type 0 where
@@ -112,24 +106,14 @@ abbrev pub PlaceInMessage : Type 0
 PlaceInMessage = (s : List ℕ) (e : Refusal) → readChallenge s .reading ≡ ChallengeRefused e → placeOf e ≤ 65535
 
 -- CHALLENGE is taken, or refused with a number, a field and a place, if and only if so
-abbrev pub ChallengeIsTaken : Type 0
-ChallengeIsTaken = (s b : List ℕ) → InfoBytes s b → IsTakenChallenge (readChallenge s .reading) ↔ ChallengeHolds s b
+abbrev pub ChallengeJudged : Type 0
+ChallengeJudged = (s b : List ℕ) → InfoBytes s b → Judged (readAs Challenge s) (ChallengeHolds s b) (ChallengeFails s b)
 
-abbrev pub ChallengeIsRefused : Type 0
-ChallengeIsRefused =
-    (s b : List ℕ) → InfoBytes s b → (n i p : ℕ) → ChallengeRefusedWith (readChallenge s .reading) n i p ↔ ChallengeFails s b n i p
+-- ---- NL_AUTH: no check fails, or the first that does; it has no pairs, so the place is 0
 
-abbrev pub IsTakenNl : NlReading → Type 0
-IsTakenNl (NlTaken m) = Unit
-IsTakenNl (NlRefused e) = ⊥
+abbrev pub nlVerdict : NlReading → Verdict
+nlVerdict (NlTaken m) = Clear
+nlVerdict (NlRefused e) = Refused e
 
-abbrev pub NlRefusedWith : NlReading → ℕ → ℕ → Type 0
-NlRefusedWith (NlTaken m) n i = ⊥
-NlRefusedWith (NlRefused e) n i = (numberOf e ≡ n) × (fieldOf e ≡ i)
-
--- NL_AUTH is taken if and only if no check fails, and refused by the first that does
-abbrev pub NlAuthIsTaken : Type 0
-NlAuthIsTaken = (s : List ℕ) → IsTakenNl (readNlAuth s) ↔ ((n i : ℕ) → NlFails s n i → ⊥)
-
-abbrev pub NlAuthIsRefused : Type 0
-NlAuthIsRefused = (s : List ℕ) (n i : ℕ) → NlRefusedWith (readNlAuth s) n i ↔ NlFirst s n i
+abbrev pub NlAuthJudged : Type 0
+NlAuthJudged = (s : List ℕ) → Judged (nlVerdict (readNlAuth s)) (NoneFails (NlFails s)) (λ n i p. NlFirst s n i × (p ≡ 0))

@@ -13,9 +13,8 @@ use Rattle.wire.specs.Text.{ascii}
 use Rattle.wire.specs.Number.{u16At, u32At}
 use Rattle.line_words.specs.Digits.{hex, decimal}
 use Rattle.read_dns_name.specs.Rfc1035.{NameAt}
-use Rattle.read_negotiate.specs.Negotiate.{readNegotiate}
-use Rattle.read_challenge.specs.Challenge.{readChallenge}
-use Rattle.read_authenticate.specs.Authenticate.{readAuthenticate}
+use Rattle.head.specs.declared.Kind.the-variants.{Negotiate, Challenge, Authenticate}
+use Rattle.verdict.specs.Verdict.{readAs}
 use Rattle.target_info.specs.declared.Timestamp.{Timestamp}
 use Rattle.target_info.specs.declared.Timestamp.the-variants.{Time, Nothing}
 use Rattle.read_nl_auth.specs.NlAuth.{readNlAuth}
@@ -27,7 +26,7 @@ use Rattle.demands.specs.MaxLen.{MaxDigits}
 use Rattle.demands.specs.Message.{Format, negotiate, authenticate, challenge, FlagSet, Set, Counts, lenOf, offsetOf, Nonempty, MicThere}
 use Rattle.demands.specs.NlAuth.{typeOf, maskOf, ZeroAt, StartsAt}
 use Rattle.demands.specs.PairList.{Holds}
-use Rattle.demands.specs.TakenExactly.{IsTakenNegotiate, IsTakenChallenge, IsTakenAuthenticate, IsTakenNl, InfoBytes}
+use Rattle.demands.specs.TakenExactly.{IsTaken, nlVerdict, InfoBytes}
 
 -- these parts, one after the other
 abbrev pub together : List (List ℕ) → List ℕ
@@ -136,7 +135,7 @@ pub record NegoLine (s line : List ℕ) : Type 0 where
   pub digits-are : MaxDigits negotiate s digits
 
 abbrev pub NegoLineWhole : Type 0
-NegoLineWhole = (s : List ℕ) → IsTakenNegotiate (readNegotiate s) → NegoLine s (negotiateLine s)
+NegoLineWhole = (s : List ℕ) → IsTaken (readAs Negotiate s) → NegoLine s (negotiateLine s)
 
 pub record AuthLine (s line : List ℕ) : Type 0 where
   pub set : List ℕ
@@ -173,7 +172,7 @@ pub record AuthLine (s line : List ℕ) : Type 0 where
   pub digits-are : MaxDigits authenticate s digits
 
 abbrev pub AuthLineWhole : Type 0
-AuthLineWhole = (s : List ℕ) → IsTakenAuthenticate (readAuthenticate s .reading) → AuthLine s (authenticateLine s)
+AuthLineWhole = (s : List ℕ) → IsTaken (readAs Authenticate s) → AuthLine s (authenticateLine s)
 
 -- b is TargetInfo's bytes; "pairs leaves out the end pair"
 pub record ChalLine (s b line : List ℕ) : Type 0 where
@@ -196,7 +195,7 @@ pub record ChalLine (s b line : List ℕ) : Type 0 where
   pub digits-are : MaxDigits challenge s digits
 
 abbrev pub ChalLineWhole : Type 0
-ChalLineWhole = (s b : List ℕ) → IsTakenChallenge (readChallenge s .reading) → InfoBytes s b → ChalLine s b (challengeLine s)
+ChalLineWhole = (s b : List ℕ) → IsTaken (readAs Challenge s) → InfoBytes s b → ChalLine s b (challengeLine s)
 
 -- ---- NL_AUTH, whose strings A to E are 1 to 5
 
@@ -241,7 +240,7 @@ pub record NlLine (s line : List ℕ) : Type 0 where
   pub e-is : WordShown flags 5 (ascii " e=") (DnsShown s 5) e
 
 abbrev pub NlLineWhole : Type 0
-NlLineWhole = (s : List ℕ) → IsTakenNl (readNlAuth s) → NlLine s (nlAuthLine s)
+NlLineWhole = (s : List ℕ) → IsTaken (nlVerdict (readNlAuth s)) → NlLine s (nlAuthLine s)
 
 -- ---- each of these fixes the line: no other is so made of the message's bytes
 

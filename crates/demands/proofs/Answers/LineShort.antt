@@ -1,6 +1,6 @@
 -- A line has under 2^20 bytes.
 use Prim.Native.Nat.{ℕ, _+_, _/_, _%_, _^_, _≤_, _<_}
-use mathlib.Core.Path.{_≡_, refl, sym, ap, subst}
+use mathlib.Core.Path.{_≡_, refl, ap}
 use mathlib.Core.Logic.{⊎-elim}
 use mathlib.Core.Bool.{Bool, true, false}
 use mathlib.Core.List.{List}
@@ -57,11 +57,10 @@ use Rattle.demands.specs.Answers.{negotiate-line, authenticate-line, cha
 use Rattle.demands.specs.Message.{Format, negotiate, authenticate, challenge}
 use Rattle.demands.specs.NlAuth.{maskOf}
 use Rattle.demands.specs.OwnBytes.{OwnField, OwnString}
-use Rattle.demands.specs.TakenExactly.{IsTakenNegotiate, IsTakenNl}
 use Rattle.demands.proofs.OwnBytes.ChallengeOwn.{taken-as, challenge-own}
 use Rattle.demands.proofs.Answers.LineBounds.{chal-bound}
-use Rattle.demands.proofs.TakenExactly.Negotiate.{negotiate-taken, negotiate-own}
-use Rattle.demands.proofs.NlAuth.{nl-auth-taken, nl-auth-own}
+use Rattle.demands.proofs.TakenExactly.Negotiate.{negotiate-judged, negotiate-own}
+use Rattle.demands.proofs.NlAuth.{nl-auth-judged, nl-auth-own}
 use Rattle.demands.proofs.OwnBytes.{none-fails, authenticate-own}
 use Rattle.demands.proofs.Answers.SmallFields.{authenticate-small, negotiate-small, nl-auth-small, challenge-small, SmallC}
 use Rattle.demands.proofs.Answers.Told.{Small, number-small}
@@ -118,7 +117,7 @@ authenticate-short s = go (readAuthenticate s .reading) refl where
 
 nego-short : (s : List ℕ) (m : Negotiate) → readNegotiate s ≡ NegotiateTaken m → length (negoLine s (NegotiateTaken m)) < 0x100000
 nego-short s m h =
-    let n = not-long (length s) (λ l. negotiate-taken s .0 (subst IsTakenNegotiate (sym h) tt) 1 0 (refl, l)) in
+    let n = not-long (length s) (λ l. negotiate-judged s .taken .0 (rw h tt) 1 0 (refl, l)) in
     let o = negotiate-own s m h in
     let domain = own-len negotiate s 1 (m .fields .domain) (o .domain) in
     let workstation = own-len negotiate s 2 (m .fields .workstation) (o .workstation) in
@@ -166,7 +165,7 @@ own-short s i x o = go (eqb (u32At s 4 / maskOf i % 2) 1) refl where
 
 nl-short : (s : List ℕ) (m : NlAuth) → readNlAuth s ≡ NlTaken m → length (nlLine s (NlTaken m)) < 0x100000
 nl-short s m h =
-    let n = not-long (length s) (λ l. nl-auth-taken s .0 (subst IsTakenNl (sym h) tt) 1 0 (refl, l)) in
+    let n = not-long (length s) (λ l. nl-auth-judged s .taken .0 (rw h tt) 1 0 (refl, l)) in
     ⊎-elim
     (λ w. by n (omega (arith, w .1 .message-type)) (own-short s 1 (m .strings .«nb_domain») (w .1 .a)) (own-short s 2 (m .strings .«nb_computer») (w .1 .b)))
     (λ w. by n (omega (arith, w .1 .message-type)) (none (m .strings .«nb_domain») (w .1 .a)) (none (m .strings .«nb_computer») (w .1 .b)))

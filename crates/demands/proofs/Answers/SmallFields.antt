@@ -1,6 +1,6 @@
 -- Every refusal that a call gives has a field of at most 6.
 use Prim.Native.Nat.{ℕ, _+_, _≤_}
-use mathlib.Core.Path.{_≡_, refl, sym, subst}
+use mathlib.Core.Path.{_≡_, refl}
 use mathlib.Core.Bool.{Bool, true, false, cond}
 use mathlib.Core.List.{List}
 use native.Mathlib.Omega.{arith}
@@ -15,7 +15,7 @@ use Rattle.wire.specs.Check.{checked, after, onClear}
 use Rattle.wire.specs.Number.{u16At}
 use Rattle.wire.proofs.Places.{moved-number, of-after}
 use Rattle.read_challenge.specs.declared.Challenge.{Challenge}
-use Rattle.wire.specs.Refusal.{numberOf, fieldOf}
+use Rattle.wire.specs.Refusal.{numberOf, fieldOf, placeOf}
 use Rattle.place.specs.declared.written.Written.{Written}
 use Rattle.place.specs.declared.written.Written.the-variants.{Length, Refused as Unwritten}
 use Rattle.place.specs.Written.{sizeHolds as sizeToHold, roomHolds, answered, bytesHold, bytesAnswer}
@@ -65,13 +65,12 @@ use Rattle.demands.specs.Answers.{Writing, write-negotiate, write-authen
 use Rattle.demands.specs.FromC.{Call, read-negotiate, read-timestamp, read-server-names, read-nl-auth, count-pairs, find-pair, next-pair, decide, work-out-mic, outcome, TwoArrayCall, read-authenticate, read-challenge, twoArrayOutcome}
 use Rattle.demands.specs.Message.{Format, negotiate, authenticate, challenge, Fails}
 use Rattle.demands.specs.NlAuth.{NlFails}
-use Rattle.demands.specs.TakenExactly.{AuthenticateRefusedWith, NegotiateRefusedWith, NlRefusedWith}
 use Rattle.demands.proofs.Order.{on-row}
 use Rattle.demands.proofs.Message.Chain.{by-row}
 use Rattle.demands.proofs.TakenExactly.Challenge.{JudgedF, fields-of-judged, JudgedP, pairs-judged}
-use Rattle.demands.proofs.TakenExactly.Negotiate.{negotiate-refused}
-use Rattle.demands.proofs.NlAuth.{nl-auth-refused}
-use Rattle.demands.proofs.TakenExactly.{authenticate-refused}
+use Rattle.demands.proofs.TakenExactly.Negotiate.{negotiate-judged}
+use Rattle.demands.proofs.NlAuth.{nl-auth-judged}
+use Rattle.demands.proofs.TakenExactly.{authenticate-judged}
 use Rattle.demands.proofs.Answers.Told.{Small}
 
 -- ---- reading: by the tables of checks
@@ -87,14 +86,14 @@ fails-field k s n i w = go (leb i (k .last)) refl where
 pub authenticate-small : (s : List ℕ) (e : Refusal) → readAuthenticate s .reading ≡ Refused e → Small e
 authenticate-small s e h =
     fails-field authenticate s (numberOf e) (fieldOf e)
-    (authenticate-refused s (numberOf e) (fieldOf e) .0 (subst (λ (r : Reading). AuthenticateRefusedWith r (numberOf e) (fieldOf e)) (sym h) (refl, refl)) .fails)
+    (authenticate-judged s .refused (numberOf e) (fieldOf e) (placeOf e) .0 (rw h (refl, refl, refl)) .0 .fails)
 
 pub negotiate-small : (s : List ℕ) (e : Refusal) → readNegotiate s ≡ NegotiateRefused e → Small e
 negotiate-small s e h =
     omega (
       arith,
       fails-field negotiate s (numberOf e) (fieldOf e)
-          (negotiate-refused s (numberOf e) (fieldOf e) .0 (subst (λ (r : NegotiateReading). NegotiateRefusedWith r (numberOf e) (fieldOf e)) (sym h) (refl, refl)) .fails),
+          (negotiate-judged s .refused (numberOf e) (fieldOf e) (placeOf e) .0 (rw h (refl, refl, refl)) .0 .fails),
     )
 
 nl-fails-field : (s : List ℕ) (n i : ℕ) → NlFails s n i → i ≤ 5
@@ -116,7 +115,7 @@ nl-auth-small s e h =
     omega (
       arith,
       nl-fails-field s (numberOf e) (fieldOf e)
-          (nl-auth-refused s (numberOf e) (fieldOf e) .0 (subst (λ (r : NlReading). NlRefusedWith r (numberOf e) (fieldOf e)) (sym h) (refl, refl)) .fails),
+          (nl-auth-judged s .refused (numberOf e) (fieldOf e) (placeOf e) .0 (rw h (refl, refl, refl)) .0 .fails),
     )
 
 -- ---- pair lists

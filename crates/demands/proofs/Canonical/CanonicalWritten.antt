@@ -6,12 +6,11 @@ use mathlib.Core.Bool.{Bool, true, false, cond}
 use mathlib.Core.List.{List}
 use native.Mathlib.Omega.{arith}
 use lib.Dec.{eqb, ltb}
-use lib.ListN.{length, take, drop, replicate, length-take, length-drop, length-replicate}
+use lib.ListN.{length, replicate, length-take, length-drop, length-replicate}
 use borrow.Author.Tests.{eqb-true, eqb-false, eq-eqb, ne-eqb, ltb-true, ltb-false}
 use Rattle.wire.specs.declared.check.Verdict.the-variants.{Refused as Not}
-use Rattle.wire.specs.declared.refusal.Refusal.{Refusal}
 use Rattle.wire.specs.Number.{u32At}
-use Rattle.wire.specs.Refusal.{numberOf, fieldOf}
+use Rattle.wire.specs.Refusal.{numberOf, fieldOf, placeOf}
 use Rattle.field.specs.declared.Field.{Field}
 use Rattle.field.specs.Field.{fieldBytes}
 use Rattle.place.specs.declared.written.Written.{Written}
@@ -29,7 +28,7 @@ use Rattle.demands.proofs.Canonical.{each-means, answer-of, mic-long, a
 use Rattle.demands.proofs.Order.{on-row}
 use Rattle.demands.proofs.OwnBytes.{authenticate-own, none-fails}
 use Rattle.demands.proofs.ReadBack.WriteBack.{three}
-use Rattle.demands.proofs.TakenExactly.{authenticate-taken, authenticate-refused}
+use Rattle.demands.proofs.TakenExactly.{authenticate-judged}
 use Rattle.demands.proofs.WrittenExactly.{Rows, rows, by-verdict}
 use Rattle.demands.proofs.WrittenExactly.MessagesWritten.{authenticate-written}
 
@@ -286,13 +285,13 @@ canonical-written room s = go (readAuthenticate s .reading) refl where
       rw (answer-refused s e p room)
       (by-verdict canonicalOrder (CanonicalFails room s) (canonical-rows room s) 0 refl (Not e) (replicate (canonicalSize s) 0) (canonicalSize s)
       (length-replicate (canonicalSize s) 0)
-      (first-of-reading room s (numberOf e) (fieldOf e) (authenticate-refused s (numberOf e) (fieldOf e) .0 (rw p (refl, refl)))))
+      (first-of-reading room s (numberOf e) (fieldOf e) (authenticate-judged s .refused (numberOf e) (fieldOf e) (placeOf e) .0 (rw p (refl, refl, refl)) .0)))
 
 pub no-other-refusal : NoOtherRefusal
 no-other-refusal room s n i taken t =
     on-row 32 n _ _ Q (λ e x. inl e) (
     on-row 30 n _ _ Q (λ e x. inr (inl e)) (
-    on-row 33 n _ _ Q (λ e x. inr (inr e)) (λ x. absurd (authenticate-taken s .0 taken n i x)))) (canonical-written room s .refused n i .0 t .fails)
+    on-row 33 n _ _ Q (λ e x. inr (inr e)) (λ x. absurd (authenticate-judged s .taken .0 taken n i x)))) (canonical-written room s .refused n i .0 t .fails)
   where
     Q : Type 0
     Q = (n ≡ 32) ⊎ ((n ≡ 30) ⊎ (n ≡ 33))

@@ -1,29 +1,21 @@
 -- Checks 10 to 13 at the places to which pairs without fault lead.
 use Prim.Native.Nat.{ℕ, _<_}
-use mathlib.Core.Path.{_≡_, refl, sym, subst}
+use mathlib.Core.Path.{sym, subst}
 use mathlib.Core.Logic.{⊎-elim}
-use mathlib.Core.Bool.{Bool, true, false}
 use mathlib.Core.List.{List}
 use native.Mathlib.Omega.{arith}
-use lib.Dec.{eqb}
 use lib.ListN.{length}
-use borrow.Author.Tests.{eqb-true}
 use Rattle.head.specs.declared.Kind.the-variants.{Challenge}
 use Rattle.demands.specs.Order.{placeIn}
 use Rattle.demands.specs.PairList.{idOf, sizeOf, SizeAllowed, PairAt, EndAt, WellFormed, end, pair, Holds, empty, listed, Fails10, Fails11, Fails12, Fails13, FaultAt, fault10, fault11, fault12, fault13, FirstFault, here, later}
 use Rattle.demands.specs.Explained.{printedChecks, PairFails, Leads, there, past, Before}
+use Rattle.demands.proofs.Order.{at-row}
 use Rattle.demands.proofs.PairList.{pair-or-end, pair-or-fault}
 
 -- a table's row by its number
 pub of-row : (P : ℕ → Type 0) (b : List ℕ) (at m : ℕ) → (Fails10 b at → P 10) → (Fails11 b at → P 11) → (Fails12 b at → P 12) → (Fails13 b at → P 13) →
     PairFails b at m → P m
-of-row P b at m f10 f11 f12 f13 w = go (eqb m 10) (eqb m 11) (eqb m 12) (eqb m 13) refl refl refl refl where
-  go : (x y z v : Bool) → eqb m 10 ≡ x → eqb m 11 ≡ y → eqb m 12 ≡ z → eqb m 13 ≡ v → P m
-  go true y z v p q r t = subst P (sym (eqb-true m 10 p)) (f10 (subst (λ (n : ℕ). PairFails b at n) (eqb-true m 10 p) w))
-  go false true z v p q r t = subst P (sym (eqb-true m 11 q)) (f11 (subst (λ (n : ℕ). PairFails b at n) (eqb-true m 11 q) w))
-  go false false true v p q r t = subst P (sym (eqb-true m 12 r)) (f12 (subst (λ (n : ℕ). PairFails b at n) (eqb-true m 12 r) w))
-  go false false false true p q r t = subst P (sym (eqb-true m 13 t)) (f13 (subst (λ (n : ℕ). PairFails b at n) (eqb-true m 13 t) w))
-  go false false false false p q r t = absurd (simp (p, q, r, t) at w)
+of-row P b at m f10 f11 f12 f13 = at-row P 10 m _ _ f10 (at-row P 11 m _ _ f11 (at-row P 12 m _ _ f12 (at-row P 13 m _ _ f13 (λ x. absurd x))))
 
 module _ (b : List ℕ) where
   -- none fails at a pair without fault, nor at the end pair

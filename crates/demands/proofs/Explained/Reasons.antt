@@ -1,6 +1,6 @@
 -- Why a message is refused: the check fails where the reader says, and those before it in its kind's list hold up to there.
-use Prim.Native.Nat.{ℕ, suc, _+_, _≤_, _<_}
-use mathlib.Core.Path.{_≡_, refl, sym, ap, _∙_, subst}
+use Prim.Native.Nat.{ℕ, suc, _+_, _<_}
+use mathlib.Core.Path.{_≡_, refl, sym, ap, _∙_}
 use mathlib.Core.Logic.{inl}
 use mathlib.Core.Bool.{Bool, true, false, cond}
 use mathlib.Core.List.{List, [], _∷_, _++_}
@@ -19,42 +19,17 @@ use Rattle.demands.specs.Message.{Format, negotiate, authenticate, chall
 use Rattle.demands.specs.TakenExactly.{InfoBytes, ChallengeFails, in-fields, in-list}
 use Rattle.demands.specs.Explained.{printedChecks, formatOf, TakenAs, RefusedAs, FailsAt, at-field, at-pair, HoldsUpTo, OneOf, Before}
 use Rattle.demands.proofs.Message.{Stands}
-use Rattle.demands.proofs.TakenExactly.{authenticate-taken, authenticate-refused}
-use Rattle.demands.proofs.TakenExactly.Negotiate.{negotiate-taken, negotiate-refused}
-use Rattle.demands.proofs.TakenExactly.Challenge.{two, info-there, challenge-taken, challenge-refused}
+use Rattle.demands.proofs.Message.Chain.{of-check, up-to-9}
+use Rattle.demands.proofs.TakenExactly.{authenticate-judged}
+use Rattle.demands.proofs.TakenExactly.Negotiate.{negotiate-judged}
+use Rattle.demands.proofs.TakenExactly.Challenge.{two, info-there, challenge-judged}
 use Rattle.demands.proofs.Explained.Pairs.{of-row, list-holds, first-holds, first-fails, first-leads, first-listed}
-
--- ---- a row of document 01's table, by its number
-
-pub of-check : (k : Format) (s : List ℕ) (n i : ℕ) (P : ℕ → Type 0) → (Fails k s 1 i → P 1) → (Fails k s 2 i → P 2) → (Fails k s 3 i → P 3) →
-    (Fails k s 4 i → P 4) → (Fails k s 5 i → P 5) → (Fails k s 6 i → P 6) → (Fails k s 7 i → P 7) → (Fails k s 8 i → P 8) → (Fails k s 9 i → P 9) →
-    Fails k s n i → P n
-of-check k s n i P a b c d e f g h m w = go (eqb n 1) (eqb n 2) (eqb n 3) (eqb n 4) (eqb n 5) (eqb n 6) (eqb n 7) (eqb n 8) (eqb n 9) refl refl refl refl refl refl refl refl refl where
-  at : (j : ℕ) → eqb n j ≡ true → (Fails k s j i → P j) → P n
-  at j p x = subst P (sym (eqb-true n j p)) (x (subst (λ (z : ℕ). Fails k s z i) (eqb-true n j p) w))
-
-  go : (x1 x2 x3 x4 x5 x6 x7 x8 x9 : Bool) → eqb n 1 ≡ x1 → eqb n 2 ≡ x2 → eqb n 3 ≡ x3 → eqb n 4 ≡ x4 → eqb n 5 ≡ x5 → eqb n 6 ≡ x6 → eqb n 7 ≡ x7 → eqb n 8 ≡ x8 → eqb n 9 ≡ x9 → P n
-  go true x2 x3 x4 x5 x6 x7 x8 x9 p1 p2 p3 p4 p5 p6 p7 p8 p9 = at 1 p1 a
-  go false true x3 x4 x5 x6 x7 x8 x9 p1 p2 p3 p4 p5 p6 p7 p8 p9 = at 2 p2 b
-  go false false true x4 x5 x6 x7 x8 x9 p1 p2 p3 p4 p5 p6 p7 p8 p9 = at 3 p3 c
-  go false false false true x5 x6 x7 x8 x9 p1 p2 p3 p4 p5 p6 p7 p8 p9 = at 4 p4 d
-  go false false false false true x6 x7 x8 x9 p1 p2 p3 p4 p5 p6 p7 p8 p9 = at 5 p5 e
-  go false false false false false true x7 x8 x9 p1 p2 p3 p4 p5 p6 p7 p8 p9 = at 6 p6 f
-  go false false false false false false true x8 x9 p1 p2 p3 p4 p5 p6 p7 p8 p9 = at 7 p7 g
-  go false false false false false false false true x9 p1 p2 p3 p4 p5 p6 p7 p8 p9 = at 8 p8 h
-  go false false false false false false false false true p1 p2 p3 p4 p5 p6 p7 p8 p9 = at 9 p9 m
-  go false false false false false false false false false p1 p2 p3 p4 p5 p6 p7 p8 p9 = absurd (simp (p1, p2, p3, p4, p5, p6, p7, p8, p9) at w)
 
 -- a check that fails at a field fails at one that counts and isn't empty
 has-field : (k : Format) (s : List ℕ) (n i : ℕ) → Fails k s n i → 0 < i → Nonempty k s i
 has-field k s n i w l =
     of-check k s n i (λ x. Nonempty k s i) (λ h. absurd (omega (arith, h .0))) (λ h. absurd (omega (arith, h .0))) (λ h. absurd (omega (arith, h .0)))
     (λ h. absurd (omega (arith, h .0))) (λ h. absurd (omega (arith, h .0))) (λ h. h .0) (λ h. h .0) (λ h. h .0) (λ h. h .0) w
-
-pub up-to-9 : (k : Format) (s : List ℕ) (n i : ℕ) → Fails k s n i → n ≤ 9
-up-to-9 k s n i =
-    of-check k s n i (λ x. x ≤ 9) (λ h. omega arith) (λ h. omega arith) (λ h. omega arith) (λ h. omega arith) (λ h. omega arith) (λ h. omega arith)
-    (λ h. omega arith) (λ h. omega arith) (λ h. omega arith)
 
 -- ---- checks that stand in the order of their numbers, before others
 
@@ -185,17 +160,17 @@ challenge-why s b n i p x (in-list {q = q} none f z) =
     }
 
 pub why : (k : Kind) (s : List ℕ) (n i p : ℕ) → RefusedAs k s n i p → Why k s n i p
-why Negotiate s n i p r = rw (r .1) (negotiate-why s n i (negotiate-refused s n i .0 (r .0)))
-why Authenticate s n i p r = rw (r .1) (authenticate-why s n i (authenticate-refused s n i .0 (r .0)))
-why Challenge s n i p r = let x = info-there s in challenge-why s (x .0) n i p (x .1) (challenge-refused s (x .0) (x .1) n i p .0 r)
+why Negotiate s n i p r = let f = negotiate-judged s .refused n i p .0 r in rw (f .1) (negotiate-why s n i (f .0))
+why Authenticate s n i p r = let f = authenticate-judged s .refused n i p .0 r in rw (f .1) (authenticate-why s n i (f .0))
+why Challenge s n i p r = let x = info-there s in challenge-why s (x .0) n i p (x .1) (challenge-judged s (x .0) (x .1) .refused n i p .0 r)
 
 -- in an accepted message every check holds
 pub taken-holds : (k : Kind) (s : List ℕ) → TakenAs k s → (m : ℕ) → HoldsUpTo k s m
-taken-holds Negotiate s t m = record { fields = negotiate-taken s .0 t m; pairs = λ e. absurd (not-negotiate e) }
-taken-holds Authenticate s t m = record { fields = authenticate-taken s .0 t m; pairs = λ e. absurd (not-authenticate e) }
+taken-holds Negotiate s t m = record { fields = negotiate-judged s .taken .0 t m; pairs = λ e. absurd (not-negotiate e) }
+taken-holds Authenticate s t m = record { fields = authenticate-judged s .taken .0 t m; pairs = λ e. absurd (not-authenticate e) }
 taken-holds Challenge s t m =
     let x = info-there s in
     record {
-      fields = challenge-taken s (x .0) (x .1) .0 t .fields m;
-      pairs = λ e b y l q w f. let h = challenge-taken s b y .0 t in list-holds b (h .count) q m (h .list) l w f;
+      fields = challenge-judged s (x .0) (x .1) .taken .0 t .fields m;
+      pairs = λ e b y l q w f. let h = challenge-judged s b y .taken .0 t in list-holds b (h .count) q m (h .list) l w f;
     }

@@ -46,11 +46,13 @@ use Rattle.demands.proofs.Message.Unchanged.{looked, flags-same}
 use Rattle.demands.proofs.TakenExactly.Negotiate.{negotiate-ignored, negotiate-seen, fields-same as nego-fields}
 use Rattle.demands.proofs.Ignored.ChallengeIgnored.{challenge-ignored, seen as challenge-seen, fields-same as chal-fields}
 use Rattle.demands.proofs.Ignored.{authenticate-ignored, seen as authenticate-seen, fields-same as auth-fields}
-use Rattle.demands.proofs.Secret.{written-alike, secret-read, fields-same as secret-fields, flags-same as secret-flags}
+use Rattle.demands.proofs.Secret.{secret-read, fields-same as secret-fields, flags-same as secret-flags}
 use Rattle.demands.proofs.Secret.SecretPrinted.{secret-printed}
 use Rattle.demands.proofs.Ignored.LineIgnored.{kind-same}
-use Rattle.demands.proofs.Explained.{refused-as, OfPair, by-pair, pair-inside}
-use Rattle.demands.proofs.Explained.Reasons.{Why, why, up-to-9, info-counts, not-negotiate, not-authenticate}
+use Rattle.demands.proofs.Explained.{OfPair, by-pair, pair-inside}
+use Rattle.demands.proofs.Judged.{refused-as}
+use Rattle.demands.proofs.Message.Chain.{up-to-9}
+use Rattle.demands.proofs.Explained.Reasons.{Why, why, info-counts, not-negotiate, not-authenticate}
 
 -- a print without the MaxLen of the head that it tells
 abbrev bareFigures : Given → Given
@@ -110,7 +112,7 @@ pair-number n h = go (eqb n 10) (eqb n 12) refl refl where
 
 -- only a challenge has one
 no-pair : (k : Kind) (s : List ℕ) → (k ≡ Challenge → ⊥) → (e : Refusal) → readAs k s ≡ Not e → hasPair (numberOf e) ≡ true → ⊥
-no-pair k s other e h p = go (why k s _ _ _ (refused-as k s e h) .fails) where
+no-pair k s other e h p = go (why k s _ _ _ (refused-as (readAs k s) e h) .fails) where
   go : FailsAt k s (numberOf e) (fieldOf e) (placeOf e) → ⊥
   go (at-field f z) = omega (arith, up-to-9 _ s (numberOf e) (fieldOf e) f, by-pair (numberOf e) (λ m. 10 ≤ m) (pair-number (numberOf e) p) (omega arith) (omega arith) (omega arith))
   go (at-pair b q c i x l t f z) = other c
@@ -118,7 +120,7 @@ no-pair k s other e h p = go (why k s _ _ _ (refused-as k s e h) .fails) where
 -- and its numbers are no ignored bytes
 module _ (s t : List ℕ) (d : DifferInIgnored challenge s t) (e : Refusal) (h : readAs Challenge s ≡ Not e) (p : hasPair (numberOf e) ≡ true) where
   reason : Why Challenge s (numberOf e) (fieldOf e) (placeOf e)
-  reason = why Challenge s _ _ _ (refused-as Challenge s e h)
+  reason = why Challenge s _ _ _ (refused-as (readAs Challenge s) e h)
 
   of-pair : OfPair (numberOf e)
   of-pair = pair-number (numberOf e) p
@@ -169,7 +171,6 @@ secret-explained s t d e =
     record {
       kind = kind;
       print = same;
-      call = λ out out′ l. written-alike (explanation s) (explanation t) out out′ same l;
     }
 
 -- a reading's verdict doesn't go by MaxLen

@@ -1,17 +1,16 @@
 -- How long the print is at most.
-use Prim.Native.Nat.{ℕ, suc, _+_, _≤_, _<_}
+use Prim.Native.Nat.{ℕ, _+_, _≤_, _<_}
 use mathlib.Core.Path.{_≡_, refl}
 use mathlib.Core.Bool.{Bool, true, false, _&&_, not, cond}
 use mathlib.Core.List.{List, [], _∷_, _++_}
 use native.Mathlib.Omega.{arith}
-use lib.Dec.{leb, ltb, eqb}
+use lib.Dec.{ltb, eqb}
 use lib.ListN.{length, getD, length-append}
-use borrow.Author.Tests.{leb-true, leb-false, ltb-true, ltb-false}
+use borrow.Author.Tests.{ltb-true, ltb-false}
 use Rattle.wire.specs.Text.{ascii}
 use Rattle.wire.specs.declared.check.Verdict.{Verdict}
 use Rattle.wire.specs.declared.check.Verdict.the-variants.{Clear, Refused as Not}
 use Rattle.wire.specs.declared.refusal.Refusal.{Refusal}
-use Rattle.wire.specs.declared.refusal.Refusal.the-variants.{NoRoom}
 use Rattle.wire.specs.Number.{u16At, u32At}
 use Rattle.wire.specs.Refusal.{numberOf, fieldOf, placeOf}
 use Rattle.line_words.specs.Digits.{decimalSize, decimal}
@@ -23,20 +22,21 @@ use Rattle.head.specs.Head.{kindOf}
 use Rattle.read_challenge.specs.declared.Reading.{Reading}
 use Rattle.read_challenge.specs.declared.Reading.the-variants.{Taken, Refused}
 use Rattle.read_challenge.specs.Challenge.{readChallenge}
-use Rattle.place.specs.Written.{bytesAnswer}
-use Rattle.c_number.specs.Number.{writtenNumber}
 use Rattle.line_checks.specs.declared.Figures.{Figures as Given}
 use Rattle.line_checks.specs.Checks.{aboutPair, plainWords, pairText, pairWords, messageWords, figureWords, failedWords, wordsOf, lineOf, linesFrom, checkLines}
 use Rattle.verdict.specs.Verdict.{chalVerdict, readAs, hasPair}
 use Rattle.explain.specs.Explain.{checksOf, fieldsOf, numbered, ofPair, figuresOf, figuresOn, figuresAs, explainedAs, explanation}
 use Rattle.explain.proofs.Laws.{no-head}
-use Rattle.demands.specs.Answers.{TellsWritten}
 use Rattle.demands.specs.Message.{Nonempty}
 use Rattle.demands.specs.Explained.{formatOf, ExplainedShort, ExplainedTells}
+use Rattle.demands.proofs.TakenExactly.{authenticate-judged}
+use Rattle.demands.proofs.TakenExactly.Negotiate.{negotiate-judged}
 use Rattle.demands.proofs.TakenExactly.Places.{place-in-message}
-use Rattle.demands.proofs.Answers.Told.{number-small, tells-refusal, tells-length}
+use Rattle.demands.proofs.Answers.Told.{number-small}
 use Rattle.demands.proofs.Digits.{decimal-has-value}
-use Rattle.demands.proofs.Explained.{refused-as, head-is, explained-answered}
+use Rattle.demands.proofs.Explained.{head-is}
+use Rattle.demands.proofs.Answers.{short-tells}
+use Rattle.demands.proofs.Judged.{refused-as}
 use Rattle.demands.proofs.Explained.Reasons.{why}
 
 -- ---- a line
@@ -134,9 +134,9 @@ module _ (s : List ℕ) (bytes : (i : ℕ) → getD s i 0 < 256) where
   chal-is (Refused d) e h = cc
 
   place-small : (k : Kind) (e : Refusal) → readAs k s ≡ Not e → placeOf e ≤ 65535
-  place-small Negotiate e h = omega (arith, refused-as Negotiate s e h .1)
+  place-small Negotiate e h = omega (arith, negotiate-judged s .refused (numberOf e) (fieldOf e) (placeOf e) .0 (refused-as (readAs Negotiate s) e h) .1)
   place-small Challenge e h = place-in-message s e (chal-is (readChallenge s .reading) e h)
-  place-small Authenticate e h = omega (arith, refused-as Authenticate s e h .1)
+  place-small Authenticate e h = omega (arith, authenticate-judged s .refused (numberOf e) (fieldOf e) (placeOf e) .0 (refused-as (readAs Authenticate s) e h) .1)
 
   given-small : (k : Kind) → Small (figuresAs k s)
   unfolding figuresAs figuresOf
@@ -154,7 +154,7 @@ module _ (s : List ℕ) (bytes : (i : ℕ) → getD s i 0 < 256) where
           size = omega arith;
         }
     go (Not e) h =
-        let x = head-small k (fieldOf e) (why k s _ _ _ (refused-as k s e h) .head) in
+        let x = head-small k (fieldOf e) (why k s _ _ _ (refused-as (readAs k s) e h) .head) in
         record {
           number = omega (arith, number-small e);
           field = x .0;
@@ -181,7 +181,4 @@ explained-short s bytes =
     omega (arith, lines-bound (figuresAs k s) (checksOf k) (given-small s bytes k), none-reached k (figuresAs k s))
 
 pub explained-tells : ExplainedTells
-explained-tells s out bytes = go (leb (length (explanation s)) (length out)) refl where
-  go : (t : Bool) → leb (length (explanation s)) (length out) ≡ t → TellsWritten (writtenNumber (bytesAnswer (explanation s) out)) (bytesAnswer (explanation s) out)
-  go true p = rw (explained-answered s out .0 (leb-true (length (explanation s)) (length out) p)) (tells-length (length (explanation s)) (omega (arith, explained-short s bytes)))
-  go false p = rw (explained-answered s out .1 (leb-false (length (explanation s)) (length out) p)) (tells-refusal NoRoom (omega arith))
+explained-tells s out bytes = short-tells (explanation s) out (omega (arith, explained-short s bytes))

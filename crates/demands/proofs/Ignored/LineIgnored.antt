@@ -42,7 +42,8 @@ use Rattle.line_nl_string.specs.StringText.{oemText, utf8Text}
 use Rattle.demands.specs.Ignored.{SameBytes, SameFields, SameAnswer, SameNegotiate, SameChallenge, SameNlAuth, AuthenticateLineIgnored, NegotiateLineIgnored, ChallengeLineIgnored, MaxWordSaid, NtlmLineIgnored, NlAuthLineIgnored}
 use Rattle.demands.specs.Message.{Format, negotiate, authenticate, challenge, DifferInIgnored}
 use Rattle.demands.specs.MaxLen.{bareAuthenticate, bareChallenge, bareNegotiate, EndsInMax, AlikeToMax}
-use Rattle.demands.specs.TakenExactly.{IsTakenNegotiate, IsTakenChallenge, IsTakenAuthenticate}
+use Rattle.demands.specs.TakenExactly.{IsTaken}
+use Rattle.verdict.specs.Verdict.{negoVerdict, chalVerdict, authVerdict}
 use Rattle.demands.proofs.Alike.{same32}
 use Rattle.demands.proofs.MaxLen.MaxDigits.{digits-said}
 use Rattle.demands.proofs.OwnBytes.{taken-answer}
@@ -111,14 +112,14 @@ authenticate-line-ignored s t d = (
     w = authenticate-ignored s t d
 
     taken : (r q : Reading) → readAuthenticate s .reading ≡ r → readAuthenticate t .reading ≡ q → bareAuthenticate r ≡ bareAuthenticate q →
-        IsTakenAuthenticate r → AlikeToMax authenticate s t (authLine s r) (authLine t q)
+        IsTaken (authVerdict r) → AlikeToMax authenticate s t (authLine s r) (authLine t q)
     taken (Taken a) (Taken b) p q e i =
         alike-to authenticate s t _ _ (authBefore s a) (auth-ends s a p)
         (subst (EndsInMax authenticate t (authText t b)) (auth-before-same s t a b (w .bytes a p) e) (auth-ends t b q))
     taken (Taken a) (Refused x) p q e i = absurd (let z : _≡_ {A = ℕ} 0 1 = cc in omega arith)
     taken (Refused x) q p r e i = absurd i
 
-    refused : (r q : Reading) → bareAuthenticate r ≡ bareAuthenticate q → (IsTakenAuthenticate r → ⊥) → authLine s r ≡ authLine t q
+    refused : (r q : Reading) → bareAuthenticate r ≡ bareAuthenticate q → (IsTaken (authVerdict r) → ⊥) → authLine s r ≡ authLine t q
     refused (Taken a) q e i = absurd (i tt)
     refused (Refused x) (Taken b) e i = absurd (let z : _≡_ {A = ℕ} 0 1 = cc in omega arith)
     refused (Refused x) (Refused y) e i = ap refusedLine (let same : x ≡ y = cc in same)
@@ -180,14 +181,14 @@ challenge-line-ignored s t d = (
     w = challenge-ignored s t d
 
     taken : (r q : ChallengeReading) → readChallenge s .reading ≡ r → readChallenge t .reading ≡ q → bareChallenge r ≡ bareChallenge q →
-        IsTakenChallenge r → AlikeToMax challenge s t (chalLine s r) (chalLine t q)
+        IsTaken (chalVerdict r) → AlikeToMax challenge s t (chalLine s r) (chalLine t q)
     taken (ChallengeTaken c) (ChallengeTaken e) p q same i =
         alike-to challenge s t _ _ (chalBefore s c) (chal-ends s c p)
         (subst (EndsInMax challenge t (chalText t e)) (chal-before-same s t c e (w .target-name c p) (w .target-info c p) same) (chal-ends t e q))
     taken (ChallengeTaken c) (ChallengeRefused x) p q same i = absurd (let z : _≡_ {A = ℕ} 0 1 = cc in omega arith)
     taken (ChallengeRefused x) q p r same i = absurd i
 
-    refused : (r q : ChallengeReading) → bareChallenge r ≡ bareChallenge q → (IsTakenChallenge r → ⊥) → chalLine s r ≡ chalLine t q
+    refused : (r q : ChallengeReading) → bareChallenge r ≡ bareChallenge q → (IsTaken (chalVerdict r) → ⊥) → chalLine s r ≡ chalLine t q
     refused (ChallengeTaken c) q same i = absurd (i tt)
     refused (ChallengeRefused x) (ChallengeTaken e) same i = absurd (let z : _≡_ {A = ℕ} 0 1 = cc in omega arith)
     refused (ChallengeRefused x) (ChallengeRefused y) same i = ap refusedLine (let e : x ≡ y = cc in e)
@@ -233,14 +234,14 @@ negotiate-line-ignored s t d = (
     w = negotiate-ignored s t d
 
     taken : (r q : NegotiateReading) → readNegotiate s ≡ r → readNegotiate t ≡ q → bareNegotiate r ≡ bareNegotiate q →
-        IsTakenNegotiate r → AlikeToMax negotiate s t (negoLine s r) (negoLine t q)
+        IsTaken (negoVerdict r) → AlikeToMax negotiate s t (negoLine s r) (negoLine t q)
     taken (NegotiateTaken m) (NegotiateTaken o) p q e i =
         alike-to negotiate s t _ _ (negoBefore s m) (nego-ends s m p)
         (subst (EndsInMax negotiate t (negoText t o)) (nego-before-same s t m o (w .domain m p) (w .workstation m p) e) (nego-ends t o q))
     taken (NegotiateTaken m) (NegotiateRefused x) p q e i = absurd (let z : _≡_ {A = ℕ} 0 1 = cc in omega arith)
     taken (NegotiateRefused x) q p r e i = absurd i
 
-    refused : (r q : NegotiateReading) → bareNegotiate r ≡ bareNegotiate q → (IsTakenNegotiate r → ⊥) → negoLine s r ≡ negoLine t q
+    refused : (r q : NegotiateReading) → bareNegotiate r ≡ bareNegotiate q → (IsTaken (negoVerdict r) → ⊥) → negoLine s r ≡ negoLine t q
     refused (NegotiateTaken m) q e i = absurd (i tt)
     refused (NegotiateRefused x) (NegotiateTaken o) e i = absurd (let z : _≡_ {A = ℕ} 0 1 = cc in omega arith)
     refused (NegotiateRefused x) (NegotiateRefused y) e i = ap refusedLine (let same : x ≡ y = cc in same)
@@ -259,15 +260,15 @@ max-word-said =
       chal = λ s i. chal s (readChallenge s .reading) refl i;
     }
   where
-    auth : (s : List ℕ) (r : Reading) → readAuthenticate s .reading ≡ r → IsTakenAuthenticate r → (before : List ℕ) × EndsInMax authenticate s (authLine s r) before
+    auth : (s : List ℕ) (r : Reading) → readAuthenticate s .reading ≡ r → IsTaken (authVerdict r) → (before : List ℕ) × EndsInMax authenticate s (authLine s r) before
     auth s (Taken a) p i = (authBefore s a, auth-ends s a p)
     auth s (Refused e) p i = absurd i
 
-    nego : (s : List ℕ) (r : NegotiateReading) → readNegotiate s ≡ r → IsTakenNegotiate r → (before : List ℕ) × EndsInMax negotiate s (negoLine s r) before
+    nego : (s : List ℕ) (r : NegotiateReading) → readNegotiate s ≡ r → IsTaken (negoVerdict r) → (before : List ℕ) × EndsInMax negotiate s (negoLine s r) before
     nego s (NegotiateTaken m) p i = (negoBefore s m, nego-ends s m p)
     nego s (NegotiateRefused e) p i = absurd i
 
-    chal : (s : List ℕ) (r : ChallengeReading) → readChallenge s .reading ≡ r → IsTakenChallenge r → (before : List ℕ) × EndsInMax challenge s (chalLine s r) before
+    chal : (s : List ℕ) (r : ChallengeReading) → readChallenge s .reading ≡ r → IsTaken (chalVerdict r) → (before : List ℕ) × EndsInMax challenge s (chalLine s r) before
     chal s (ChallengeTaken c) p i = (chalBefore s c, chal-ends s c p)
     chal s (ChallengeRefused e) p i = absurd i
 

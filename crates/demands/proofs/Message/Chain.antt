@@ -6,7 +6,7 @@ use mathlib.Core.Bool.{Bool, true, false, _||_}
 use mathlib.Core.List.{List}
 use native.Mathlib.Nat.{zero-add}
 use native.Mathlib.Omega.{arith}
-use lib.Dec.{ltb, eqb}
+use lib.Dec.{ltb}
 use lib.ListN.{length, take, getD, length-take}
 use lib.Seq.{ext-getD, getD-take}
 use borrow.Author.Tests.{leb-true, leb-false, eqb-true, eqb-false, ne-eqb, ltb-true, ltb-false}
@@ -28,7 +28,7 @@ use Rattle.wire.specs.Refusal.{numberOf, fieldOf}
 use Rattle.head.proofs.Stands.{stands, stand}
 use Rattle.demands.specs.Order.{First}
 use Rattle.demands.specs.Message.{Format, Fails}
-use Rattle.demands.proofs.Order.{Free, first, next-check}
+use Rattle.demands.proofs.Order.{Free, first, next-check, at-row}
 use Rattle.demands.proofs.Bools.{true-not-false, both-ways, failed-false, chained}
 use Rattle.demands.proofs.Order.Rank.{JudgedBy, then-by, LinksBy, over-judged-by}
 
@@ -129,16 +129,17 @@ module _ (k : Format) (s : List ℕ) where
         simp (ne-eqb n 1 (λ e. omega arith), ne-eqb n 2 (λ e. omega arith), ne-eqb n 3 (λ e. omega arith), ne-eqb n 4 (λ e. omega arith), ne-eqb n 5 (λ e. omega arith), ne-eqb n 6 (λ e. omega arith), ne-eqb n 7 (λ e. omega arith), ne-eqb n 8 (λ e. omega arith), ne-eqb n 9 (λ e. omega arith)) at h
 
   -- a table's row by its number
-  pub by-row : (n i : ℕ) → (Fails k s 1 i → ⊥) → (Fails k s 2 i → ⊥) → (Fails k s 3 i → ⊥) → (Fails k s 4 i → ⊥) → (Fails k s 5 i → ⊥) → (Fails k s 6 i → ⊥) → (Fails k s 7 i → ⊥) → (Fails k s 8 i → ⊥) → (Fails k s 9 i → ⊥) → Fails k s n i → ⊥
-  by-row n i a b c d e f g h m w = go (eqb n 1) (eqb n 2) (eqb n 3) (eqb n 4) (eqb n 5) (eqb n 6) (eqb n 7) (eqb n 8) (eqb n 9) refl refl refl refl refl refl refl refl refl where
-    go : (x1 x2 x3 x4 x5 x6 x7 x8 x9 : Bool) → eqb n 1 ≡ x1 → eqb n 2 ≡ x2 → eqb n 3 ≡ x3 → eqb n 4 ≡ x4 → eqb n 5 ≡ x5 → eqb n 6 ≡ x6 → eqb n 7 ≡ x7 → eqb n 8 ≡ x8 → eqb n 9 ≡ x9 → ⊥
-    go true x2 x3 x4 x5 x6 x7 x8 x9 p1 p2 p3 p4 p5 p6 p7 p8 p9 = a (subst (λ (z : ℕ). Fails k s z i) (eqb-true n 1 p1) w)
-    go false true x3 x4 x5 x6 x7 x8 x9 p1 p2 p3 p4 p5 p6 p7 p8 p9 = b (subst (λ (z : ℕ). Fails k s z i) (eqb-true n 2 p2) w)
-    go false false true x4 x5 x6 x7 x8 x9 p1 p2 p3 p4 p5 p6 p7 p8 p9 = c (subst (λ (z : ℕ). Fails k s z i) (eqb-true n 3 p3) w)
-    go false false false true x5 x6 x7 x8 x9 p1 p2 p3 p4 p5 p6 p7 p8 p9 = d (subst (λ (z : ℕ). Fails k s z i) (eqb-true n 4 p4) w)
-    go false false false false true x6 x7 x8 x9 p1 p2 p3 p4 p5 p6 p7 p8 p9 = e (subst (λ (z : ℕ). Fails k s z i) (eqb-true n 5 p5) w)
-    go false false false false false true x7 x8 x9 p1 p2 p3 p4 p5 p6 p7 p8 p9 = f (subst (λ (z : ℕ). Fails k s z i) (eqb-true n 6 p6) w)
-    go false false false false false false true x8 x9 p1 p2 p3 p4 p5 p6 p7 p8 p9 = g (subst (λ (z : ℕ). Fails k s z i) (eqb-true n 7 p7) w)
-    go false false false false false false false true x9 p1 p2 p3 p4 p5 p6 p7 p8 p9 = h (subst (λ (z : ℕ). Fails k s z i) (eqb-true n 8 p8) w)
-    go false false false false false false false false true p1 p2 p3 p4 p5 p6 p7 p8 p9 = m (subst (λ (z : ℕ). Fails k s z i) (eqb-true n 9 p9) w)
-    go false false false false false false false false false p1 p2 p3 p4 p5 p6 p7 p8 p9 = simp (p1, p2, p3, p4, p5, p6, p7, p8, p9) at w
+  pub of-check : (n i : ℕ) (P : ℕ → Type 0) → (Fails k s 1 i → P 1) → (Fails k s 2 i → P 2) → (Fails k s 3 i → P 3) → (Fails k s 4 i → P 4) →
+      (Fails k s 5 i → P 5) → (Fails k s 6 i → P 6) → (Fails k s 7 i → P 7) → (Fails k s 8 i → P 8) → (Fails k s 9 i → P 9) → Fails k s n i → P n
+  of-check n i P a b c d e f g h m =
+      at-row P 1 n _ _ a (at-row P 2 n _ _ b (at-row P 3 n _ _ c (at-row P 4 n _ _ d (at-row P 5 n _ _ e (
+      at-row P 6 n _ _ f (at-row P 7 n _ _ g (at-row P 8 n _ _ h (at-row P 9 n _ _ m (λ x. absurd x)))))))))
+
+  pub by-row : (n i : ℕ) → (Fails k s 1 i → ⊥) → (Fails k s 2 i → ⊥) → (Fails k s 3 i → ⊥) → (Fails k s 4 i → ⊥) → (Fails k s 5 i → ⊥) →
+      (Fails k s 6 i → ⊥) → (Fails k s 7 i → ⊥) → (Fails k s 8 i → ⊥) → (Fails k s 9 i → ⊥) → Fails k s n i → ⊥
+  by-row n i = of-check n i (λ x. ⊥)
+
+  pub up-to-9 : (n i : ℕ) → Fails k s n i → n ≤ 9
+  up-to-9 n i =
+      of-check n i (λ x. x ≤ 9) (λ h. omega arith) (λ h. omega arith) (λ h. omega arith) (λ h. omega arith) (λ h. omega arith)
+      (λ h. omega arith) (λ h. omega arith) (λ h. omega arith) (λ h. omega arith)

@@ -15,7 +15,6 @@ use Rattle.mic.specs.declared.Checking.the-variants.{Compared, Refused}
 use Rattle.mic.specs.declared.Worked.{Worked}
 use Rattle.mic.specs.Mic.{workOut, checkMic}
 use Rattle.mic.proofs.Laws.{passed}
-use Rattle.c_mic.specs.Numbers.{checkingNumber}
 use Rattle.demands.specs.Mic.{Agree, DifferInMic, PutIn, MicPutIn}
 use Rattle.demands.proofs.Mic.{mic-agree, mic-blind}
 
@@ -72,8 +71,8 @@ module _ (key nego chal auth bytes : List ℕ) (clear : workOut key nego chal au
   unfolding t
   put-in =
       record {
-        yes = λ e. let y = agree .yes .1 (clear-too, there ∙ e ∙ sym mic-same) in (y, ap checkingNumber y);
-        no = λ n. let y = otherwise n (checkMic key nego chal t) refl in (y, ap checkingNumber y);
+        yes = λ e. agree .yes .1 (clear-too, there ∙ e ∙ sym mic-same);
+        no = λ n. otherwise n (checkMic key nego chal t) refl;
       }
 
 pub mic-put-in : MicPutIn

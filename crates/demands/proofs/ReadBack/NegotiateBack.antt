@@ -31,7 +31,8 @@ use Rattle.read_negotiate.specs.Negotiate.{readNegotiate}
 use Rattle.write_negotiate.specs.Writing.{nonempty, flagsToWrite, fieldsTo, afterType, fixedBytes, negotiateBytes, sizeToWrite, checkToWrite, writeAnswer, writeOut}
 use Rattle.write_negotiate.proofs.Sent.{length-message}
 use Rattle.demands.specs.Message.{negotiate, lenOf, offsetOf, Set, Nonempty, Fails}
-use Rattle.demands.specs.TakenExactly.{IsTakenNegotiate}
+use Rattle.demands.specs.TakenExactly.{IsTaken}
+use Rattle.verdict.specs.Verdict.{negoVerdict}
 use Rattle.demands.specs.ReadBack.{BitsByNames, NegotiateBack, NegotiateReadsBack}
 use Rattle.demands.specs.Kept.{NegotiateKept}
 use Rattle.demands.proofs.Bools.{or-either, after-held}
@@ -40,7 +41,7 @@ use Rattle.demands.proofs.Kept.{by-verdict}
 use Rattle.demands.proofs.OwnBytes.{own-same}
 use Rattle.demands.proofs.ReadBack.{written-is}
 use Rattle.demands.proofs.ReadBack.Sent.{Before, headsThen, HeadsBack, PartsStand, past, heads-back, parts-stand}
-use Rattle.demands.proofs.TakenExactly.Negotiate.{negotiate-taken, negotiate-own}
+use Rattle.demands.proofs.TakenExactly.Negotiate.{negotiate-judged, negotiate-own}
 
 -- ---- the two bits
 
@@ -209,8 +210,8 @@ module _ (w : NegotiateFlags) (v dom wks : List ℕ) (v8 : length v ≡ 8) where
   at-offset i n o y e h = ap (λ (k : ℕ). take n (drop k M)) e ∙ h
 
   back : charsetHolds w ≡ Held → length M ≤ 65535 → NegotiateBack M w dom wks
-  back charset size = go (readNegotiate M) refl (negotiate-taken M .1 (none-fails charset size)) where
-    go : (r : Reading) → readNegotiate M ≡ r → IsTakenNegotiate r → NegotiateBack M w dom wks
+  back charset size = go (readNegotiate M) refl (negotiate-judged M .taken .1 (none-fails charset size)) where
+    go : (r : Reading) → readNegotiate M ≡ r → IsTaken (negoVerdict r) → NegotiateBack M w dom wks
     go (Taken m) e t =
         let o = negotiate-own M m e in
         let same : m .flags .bits ≡ x .bits = o .flags ∙ flags-back in

@@ -31,12 +31,13 @@ use Rattle.demands.proofs.Kept.{clear-both}
 use Rattle.demands.proofs.NlAuth.{above, five}
 use Rattle.demands.specs.Secret.{Secret, secret-field, mic as mic-byte, AsLong, AlikeOutside}
 use Rattle.demands.specs.ReadBack.{AuthenticateBack, AuthenticateReadsBack}
-use Rattle.demands.specs.TakenExactly.{IsTakenAuthenticate}
+use Rattle.demands.specs.TakenExactly.{IsTaken}
+use Rattle.verdict.specs.Verdict.{authVerdict}
 use Rattle.demands.proofs.Message.Chain.{by-row}
 use Rattle.demands.proofs.OwnBytes.{authenticate-own, own-same}
 use Rattle.demands.proofs.ReadBack.Sent.{Before, headsThen, HeadsBack, PartsStand, past as go-past, heads-back, parts-stand, in-payload}
 use Rattle.demands.proofs.ReadBack.{written-is}
-use Rattle.demands.proofs.TakenExactly.{authenticate-taken}
+use Rattle.demands.proofs.TakenExactly.{authenticate-judged}
 use Rattle.demands.specs.Message.{authenticate, lenOf, offsetOf, Nonempty, Set, MicThere, Fails}
 use Rattle.write_field.specs.Writing.{versionBytes}
 use Rattle.write_field.proofs.Laws.{length-head, length-version}
@@ -268,8 +269,8 @@ module _ (w : NegotiateFlags) (v mic lm nt dom usr wks key : List ℕ) (v8 : len
       go false p q = and-right (eqb (length key) 16) (keyExch w) q
 
     back : keyHolds w key ≡ Held → AuthenticateBack M w mic lm nt dom usr wks key
-    back held = go (readAuthenticate M .reading) refl (authenticate-taken M .1 none-fails) where
-      go : (r : Reading) → readAuthenticate M .reading ≡ r → IsTakenAuthenticate r → AuthenticateBack M w mic lm nt dom usr wks key
+    back held = go (readAuthenticate M .reading) refl (authenticate-judged M .taken .1 none-fails) where
+      go : (r : Reading) → readAuthenticate M .reading ≡ r → IsTaken (authVerdict r) → AuthenticateBack M w mic lm nt dom usr wks key
       go (Taken a) e t =
           let o = authenticate-own M a e in
           record {

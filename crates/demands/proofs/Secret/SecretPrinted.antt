@@ -9,7 +9,7 @@ use Rattle.head.specs.Head.{kindOf}
 use Rattle.line.specs.Line.{ntlmLine, shownLine}
 use Rattle.demands.specs.Secret.{DifferInSecrets, SecretPrinted}
 use Rattle.demands.proofs.Alike.{same32}
-use Rattle.demands.proofs.Secret.{written-alike, secret-read}
+use Rattle.demands.proofs.Secret.{secret-read}
 
 -- the type stands in the first 64 bytes
 kind-same : (s t : List ℕ) → DifferInSecrets s t → kindOf s ≡ kindOf t
@@ -30,7 +30,5 @@ secret-printed s t d e =
     record {
       kind = sym (kind-same s t d) ∙ e;
       line = same;
-      line-call = λ out out′ l. written-alike (ntlmLine s) (ntlmLine t) out out′ same l;
       printed = λ out out′ l. shown-same (ntlmLine s) (ntlmLine t) out out′ same l;
-      print-call = λ out out′ l. written-alike _ _ out out′ (shown-same (ntlmLine s) (ntlmLine t) out out′ same l) l;
     }

@@ -1,7 +1,6 @@
 -- CHALLENGE is taken exactly when every check holds, and refused by the first that fails.
 use Prim.Native.Nat.{ℕ, _+_, _<_}
 use mathlib.Core.Path.{_≡_, refl, sym, ap, _∙_, subst}
-use mathlib.Core.Logic.{_↔_}
 use mathlib.Core.Bool.{Bool, true, false}
 use mathlib.Core.List.{List, []}
 use native.Mathlib.Omega.{arith}
@@ -27,15 +26,17 @@ use Rattle.read_challenge.specs.declared.Challenge.{Challenge}
 use Rattle.read_challenge.specs.declared.Reading.{Reading}
 use Rattle.read_challenge.specs.declared.Reading.the-variants.{Taken, Refused}
 use Rattle.read_challenge.specs.Challenge.{layout, fieldsAt, allFields, names, checkEnds, checkBegins, checkNames, checkFields, fieldsOf, onTaken, infoOf, inMessage, checkInfo, readingOf, readChallenge}
+use Rattle.verdict.specs.Verdict.{chalVerdict}
 use Rattle.demands.specs.Order.{First}
 use Rattle.demands.specs.Message.{challenge, Fails, lenOf, offsetOf}
 use Rattle.demands.specs.PairList.{Holds, ListFails}
-use Rattle.demands.specs.TakenExactly.{IsTakenChallenge, ChallengeRefusedWith, InfoBytes, InfoIsThere, ChallengeHolds, ChallengeFails, in-fields, in-list, ChallengeIsTaken, ChallengeIsRefused}
+use Rattle.demands.specs.TakenExactly.{InfoBytes, InfoIsThere, ChallengeHolds, ChallengeFails, in-fields, in-list, ChallengeJudged}
 use Rattle.demands.proofs.Order.{Free, only-first, next-check, skip}
 use Rattle.demands.proofs.Message.{Stands, even-failed, even-held}
 use Rattle.demands.proofs.Message.Fields.{AllStand, Link, ends-judged, begins-judged}
 use Rattle.demands.proofs.Message as fields
 use Rattle.demands.proofs.Message.Chain.{JudgedV, JudgedH, over-judged, head-judged, then, beyond}
+use Rattle.demands.proofs.Judged.{By, judged-by}
 use Rattle.demands.proofs.OwnBytes.{own-field}
 use Rattle.demands.proofs.PairList.{JudgedC, count-judged, holds-or-fault, one-first, first-number}
 
@@ -173,22 +174,11 @@ one-reason s b m j o n i p (in-list u f x) (in-list v g y) =
     let one = one-first b (f .2) (g .2) in
     (one .0, f .1 ∙ sym (g .1), x ∙ ap (λ (z : ℕ). offsetOf challenge s 2 + z) (one .1) ∙ sym y)
 
--- a reason that is known to be another
-pub reason-is : (s b : List ℕ) {m j o n i p : ℕ} → (m ≡ n) × (j ≡ i) × (o ≡ p) → ChallengeFails s b m j o → ChallengeFails s b n i p
-reason-is s b {m} {j} {o} {n} {i} {p} e f =
-    subst (λ (x : ℕ). ChallengeFails s b x i p) (e .0) (subst (λ (x : ℕ). ChallengeFails s b m x p) (e .1) (subst (λ (x : ℕ). ChallengeFails s b m j x) (e .2) f))
-
-pub challenge-taken : ChallengeIsTaken
-challenge-taken s b info = go (readChallenge s .reading) (judged s b info) where
-  go : (r : Reading) → Judged s b info r → IsTakenChallenge r ↔ ChallengeHolds s b
-  go (Taken c) j = (λ t. j, λ h. tt)
-  go (Refused e) j = (λ t. absurd t, λ h. holds-or-fails s b (numberOf e) (fieldOf e) (placeOf e) h j)
-
-pub challenge-refused : ChallengeIsRefused
-challenge-refused s b info n i p = go (readChallenge s .reading) (judged s b info) where
-  go : (r : Reading) → Judged s b info r → ChallengeRefusedWith r n i p ↔ ChallengeFails s b n i p
-  go (Taken c) j = (λ t. absurd t, λ w. holds-or-fails s b n i p j w)
-  go (Refused e) j = (
-    λ t. reason-is s b t j,
-    λ w. one-reason s b (numberOf e) (fieldOf e) (placeOf e) n i p j w,
-  )
+pub challenge-judged : ChallengeJudged
+challenge-judged s b info =
+    judged-by (ChallengeHolds s b) (ChallengeFails s b) (holds-or-fails s b) (one-reason s b)
+    (chalVerdict (readChallenge s .reading)) (go (readChallenge s .reading) (judged s b info))
+  where
+    go : (r : Reading) → Judged s b info r → By (ChallengeHolds s b) (ChallengeFails s b) (chalVerdict r)
+    go (Taken c) j = j
+    go (Refused e) j = j

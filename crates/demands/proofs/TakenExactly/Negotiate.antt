@@ -2,7 +2,7 @@
 -- ignored bytes change nothing but a record's MaxLen.
 use Prim.Native.Nat.{ℕ}
 use mathlib.Core.Path.{_≡_, refl, sym, ap, _∙_, subst}
-use mathlib.Core.Logic.{inl, _↔_}
+use mathlib.Core.Logic.{inl}
 use mathlib.Core.Bool.{Bool, true, false}
 use mathlib.Core.List.{List}
 use native.Mathlib.Omega.{arith}
@@ -24,17 +24,19 @@ use Rattle.read_negotiate.specs.declared.Fields.{Fields}
 use Rattle.read_negotiate.specs.declared.Reading.{Reading}
 use Rattle.read_negotiate.specs.declared.Reading.the-variants.{Taken, Refused}
 use Rattle.read_negotiate.specs.Negotiate.{layout, fieldsAt, allFields, checkEnds, checkBegins, checkFields, readNegotiate}
+use Rattle.verdict.specs.Verdict.{negoVerdict}
 use Rattle.demands.specs.Order.{First}
 use Rattle.demands.specs.Message.{negotiate, Fails, DifferInIgnored, SameMaxLen}
-use Rattle.demands.specs.TakenExactly.{IsTakenNegotiate, NegotiateRefusedWith, NegotiateIsTaken, NegotiateIsRefused}
+use Rattle.demands.specs.TakenExactly.{NegotiateJudged}
 use Rattle.demands.specs.OwnBytes.{OwnField, NegotiateOwn}
 use Rattle.demands.specs.Ignored.{SameBytes, NegotiateIgnored}
 use Rattle.demands.proofs.MaxLen.{bare-only, kept, keptNegotiateFields, keptNegotiate, negotiate-as-it-is, negotiate-bare-is}
-use Rattle.demands.proofs.Order.{Free, only-first, next-check}
+use Rattle.demands.proofs.Order.{Free, next-check}
 use Rattle.demands.proofs.Message.{Stands}
 use Rattle.demands.proofs.Message as fields
 use Rattle.demands.proofs.Message.Fields.{AllStand, ends-judged, begins-judged}
-use Rattle.demands.proofs.Message.Chain.{JudgedV, JudgedH, head-judged, then, beyond}
+use Rattle.demands.proofs.Message.Chain.{JudgedV, JudgedH, head-judged, then, beyond, up-to-9}
+use Rattle.demands.proofs.Judged.{FirstBy, judged-first}
 use Rattle.demands.proofs.OwnBytes.{own-field}
 use Rattle.demands.proofs.Message.Apart.{Apart, spaced, seen}
 use Rattle.demands.proofs.Message.Unchanged as same
@@ -93,20 +95,11 @@ module _ (s : List ℕ) where
     go (Flags w) j = subst (λ (x : NegotiateFlags). Judged (rest x)) (sym (j .0)) (last (checkFields (length s) (fieldsAt s (flagsAt s 12))) (fields-judged (j .1)))
     go (Stopped e) j = j
 
-pub negotiate-taken : NegotiateIsTaken
-negotiate-taken s = go (readNegotiate s) (judged s) where
-  go : (r : Reading) → Judged s r → IsTakenNegotiate r ↔ ((n i : ℕ) → Fails negotiate s n i → ⊥)
-  go (Taken m) j = (λ t. j .0, λ h. tt)
-  go (Refused e) j = (λ t. absurd t, λ h. h (numberOf e) (fieldOf e) (j .fails))
-
-pub negotiate-refused : NegotiateIsRefused
-negotiate-refused s n i = go (readNegotiate s) (judged s) where
-  go : (r : Reading) → Judged s r → NegotiateRefusedWith r n i ↔ First (Fails negotiate s) n i
-  go (Taken m) j = (λ t. absurd t, λ f. j .0 n i (f .fails))
-  go (Refused e) j = (
-    λ t. subst (λ (x : ℕ). First (Fails negotiate s) n x) (t .1) (subst (λ (x : ℕ). First (Fails negotiate s) x (fieldOf e)) (t .0) j),
-    λ f. only-first (Fails negotiate s) (numberOf e) (fieldOf e) n i j f,
-  )
+pub negotiate-judged : NegotiateJudged
+negotiate-judged s = judged-first (Fails negotiate s) (up-to-9 negotiate s) (negoVerdict (readNegotiate s)) (go (readNegotiate s) (judged s)) where
+  go : (r : Reading) → Judged s r → FirstBy (Fails negotiate s) (negoVerdict r)
+  go (Taken m) j = j .0
+  go (Refused e) j = j
 
 -- what a taken message is answered with
 pub taken-as : (s : List ℕ) (m : Negotiate) → readNegotiate s ≡ Taken m → Judged s (Taken m)

@@ -25,7 +25,7 @@ use Rattle.line.specs.Line.{nlAuthLine}
 use Rattle.demands.specs.Message.{FlagSet}
 use Rattle.demands.specs.NlAuth.{typeOf, maskOf, BitSet}
 use Rattle.demands.specs.OwnBytes.{OwnString, OwnName, OwnRequest, OwnResponse}
-use Rattle.demands.specs.TakenExactly.{IsTakenNl}
+use Rattle.demands.specs.TakenExactly.{IsTaken, nlVerdict}
 use Rattle.demands.proofs.Bools.{true-not-false, bit1, bit2, bit4, bit8, bit16}
 use Rattle.demands.proofs.NlAuth.{nl-auth-own}
 use Rattle.demands.proofs.LineShows.LabelsShown.{alone, byte-is, alone-plain, alone-no-stop}
@@ -146,6 +146,6 @@ module _ (s : List ℕ) (m : NlAuth) (h : readNlAuth s ≡ NlTaken m) where
 
 pub nl-line-whole : NlLineWhole
 nl-line-whole s t = go (readNlAuth s) refl t where
-  go : (r : NlReading) → readNlAuth s ≡ r → IsTakenNl r → NlLine s (nlAuthLine s)
+  go : (r : NlReading) → readNlAuth s ≡ r → IsTaken (nlVerdict r) → NlLine s (nlAuthLine s)
   go (NlTaken m) h i = nl-whole s m h
   go (NlRefused e) h i = absurd i
