@@ -1,9 +1,9 @@
 # make help lists the targets.
-.PHONY: help run example explain night canonical lib lib-small lib-thumb install dist test test-firmware compare wide bench
+.PHONY: help run example explain night canonical capture lib lib-small lib-thumb install dist test test-firmware compare wide bench
 
 MESSAGES ?= messages
 PREFIX ?= /usr/local
-export MESSAGES FILE OUT REFUSED DESTDIR PREFIX TARGET
+export MESSAGES FILE OUT DECODE_AS REFUSED DESTDIR PREFIX TARGET
 
 help:
 	@echo 'make run            the depot bench: every message in messages/ through the proved program and the second one;'
@@ -16,6 +16,8 @@ help:
 	@echo '                    its index beside it (messages/README.md)'
 	@echo 'make canonical      one AUTHENTICATE tidied, for comparing it with another: FILE=message, raw, in hex or in base64, to'
 	@echo '                    OUT=file, which only you may read, since it holds secrets'
+	@echo 'make capture        the messages of a capture, for make run MESSAGES=folder: FILE=x.pcapng, to the new folder OUT=folder, which'
+	@echo '                    only you may read; needs tshark. A server on a port that is not its own: DECODE_AS=tcp.port==8080,http'
 	@echo 'make lib            the library for C and Rust: target/staticlib/libdialtable.a, whose header is include/dialtable.h'
 	@echo 'make lib-small      the same with less code: target/small/libdialtable.a'
 	@echo 'make lib-thumb      the same for a small box: target/TARGET/libdialtable.a; TARGET=thumbv7m-none-eabi is understood,'
@@ -47,6 +49,9 @@ night:
 
 canonical:
 	@tools/depot canonical "$$FILE" "$$OUT"
+
+capture:
+	@tools/depot capture "$$FILE" "$$OUT"
 
 lib:
 	@tools/build-lib

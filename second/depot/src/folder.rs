@@ -35,8 +35,8 @@ pub enum Content {
     /// A message, and the form that it has in the file.
     Message(Form, Vec<u8>),
     /// The texts of header lines, each of which is to carry a message, each behind
-    /// the number that its line has in the file.
-    HeaderTexts(Vec<(usize, Vec<u8>)>),
+    /// the number that its line has in the file; and how many other lines it has.
+    HeaderTexts(Vec<(usize, Vec<u8>)>, usize),
 }
 
 /// Why a folder gives no messages. Each says what to do.
@@ -123,16 +123,17 @@ impl MessageFile {
     pub fn read(&self) -> Result<(Form, Vec<u8>), NotRead> {
         match self.read_all()? {
             Content::Message(form, message) => Ok((form, message)),
-            Content::HeaderTexts(_) => Err(NotRead::HeaderLines),
+            Content::HeaderTexts(..) => Err(NotRead::HeaderLines),
         }
     }
 
     /// What the file holds.
     pub fn read_all(&self) -> Result<Content, NotRead> {
         let content = self.content()?;
-        if let Some(texts) = form::header_texts(&content) {
-            let texts = texts.into_iter().map(|(line, text)| (line, text.to_vec()));
-            return Ok(Content::HeaderTexts(texts.collect()));
+        if let Some(lines) = form::header_lines(&content) {
+            let texts = lines.texts.into_iter();
+            let texts = texts.map(|(line, text)| (line, text.to_vec())).collect();
+            return Ok(Content::HeaderTexts(texts, lines.others));
         }
         let (form, message) = form::read(content).map_err(NotRead::NoMessage)?;
         Ok(Content::Message(form, message))

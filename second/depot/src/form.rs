@@ -1,10 +1,13 @@
-//! What a file holds: a message as it is, in hex or in base64; or HTTP header lines.
+//! What a file holds: a message as it is, in hex, in base64 or in a dump; or HTTP
+//! header lines.
 //!
 //! A raw message is never taken for text. One that begins with the signature or
 //! with an NL_AUTH type has a zero byte among its first eight, and text has
 //! none.
 
 use std::fmt;
+
+use crate::dump::{self, NoDump};
 
 /// `NTLMSSP\0`, the first eight bytes of an NTLM message.
 const SIGNATURE: &[u8; 8] = b"NTLMSSP\0";
@@ -21,6 +24,7 @@ pub enum Form {
     Raw,
     Hex,
     Base64,
+    Dump,
 }
 
 impl fmt::Display for Form {
@@ -29,28 +33,104 @@ impl fmt::Display for Form {
             Self::Raw => "raw",
             Self::Hex => "hex text",
             Self::Base64 => "base64 text",
+            Self::Dump => "dump",
         })
     }
 }
 
-/// Why a file holds no message.
+/// A place in a text, the first line and the first column being 1.
+#[derive(Clone, Copy, Debug, PartialEq, Eq)]
+pub struct Place {
+    pub line: usize,
+    pub column: usize,
+}
+
+impl Place {
+    fn of(text: &[u8], at: usize) -> Self {
+        let before = &text[..at.min(text.len())];
+        let line_start = before.iter().rposition(|&byte| byte == b'\n');
+        Self {
+            line: 1 + before.iter().filter(|&&byte| byte == b'\n').count(),
+            column: 1 + before.len() - line_start.map_or(0, |end| end + 1),
+        }
+    }
+}
+
+impl fmt::Display for Place {
+    fn fmt(&self, f: &mut fmt::Formatter<'_>) -> fmt::Result {
+        write!(f, "line {}, column {}", self.line, self.column)
+    }
+}
+
+/// Why a file holds no message. Each says what to do.
 #[derive(Clone, Copy, Debug, PartialEq, Eq)]
 pub enum NoMessage {
-    /// Text, but neither hex nor the base64 of a message.
-    OtherText,
+    /// Text in none of the forms, and where each of them stops. Base64 that doesn't stop
+    /// begins no message.
+    OtherText {
+        hex: Place,
+        dump: Place,
+        base64: Option<Place>,
+    },
     /// Text that begins with a byte order mark.
     ByteOrderMark,
+    /// The base64 of a message, but for so many characters of padding.
+    NoPadding(usize),
+    /// The base64 of a message in the alphabet for URLs, but for so many characters of
+    /// padding.
+    Base64Url(usize),
+    /// A dump of words in the order of the machine that printed it.
+    Words,
+    /// A dump in which a `*` stands for lines, nobody knows how many.
+    Starred,
+    /// A capture of packets.
+    Capture,
 }
 
 impl fmt::Display for NoMessage {
     fn fmt(&self, f: &mut fmt::Formatter<'_>) -> fmt::Result {
-        f.write_str(match self {
-            Self::OtherText => {
-                "it is text, but neither pairs of hex digits, the base64 of a message nor header lines: \
-                 correct it or take it out of the folder"
+        match self {
+            Self::OtherText { hex, dump, base64 } => {
+                write!(
+                    f,
+                    "it is text in no form that is read: hex stops at {hex}, a dump at {dump}, "
+                )?;
+                match base64 {
+                    Some(base64) => write!(f, "base64 at {base64}")?,
+                    None => f.write_str("base64 begins no message")?,
+                }
+                f.write_str(
+                    ", and no line is a header line: correct it or take it out of the folder",
+                )
             }
-            Self::ByteOrderMark => "it begins with a byte order mark: save it as plain ASCII text",
-        })
+            Self::ByteOrderMark => {
+                f.write_str("it begins with a byte order mark: save it as plain ASCII text")
+            }
+            Self::NoPadding(missing) => write!(
+                f,
+                "it is base64 without its padding: put {} at its end",
+                "=".repeat(*missing)
+            ),
+            Self::Base64Url(0) => {
+                f.write_str("it is base64url: write + for each - in it and / for each _")
+            }
+            Self::Base64Url(missing) => write!(
+                f,
+                "it is base64url: write + for each - in it and / for each _, and put {} at its end",
+                "=".repeat(*missing)
+            ),
+            Self::Words => f.write_str(
+                "it is a dump of words, whose bytes are in the order of the machine that printed it: \
+                 dump bytes, as hexdump -C, od -t x1 or xxd do",
+            ),
+            Self::Starred => f.write_str(
+                "a line * in it stands for lines that were left out, and how many can't be told: \
+                 dump it again with -v",
+            ),
+            Self::Capture => f.write_str(
+                "it is a capture: make messages of it, as make capture FILE=capture OUT=folder, and run that folder",
+            ),
+        }
     }
 }
 
@@ -67,21 +147,128 @@ pub fn read(content: Vec<u8>) -> Result<(Form, Vec<u8>), NoMessage> {
     {
         return Err(NoMessage::ByteOrderMark);
     }
+    if is_capture(&content) {
+        return Err(NoMessage::Capture);
+    }
     if !content.iter().all(|&byte| is_text(byte)) {
         return Ok((Form::Raw, content));
     }
-    let hex = decode_hex(&content);
+    let dump = match dump::read(&content) {
+        Ok(dump) if dump.words && dump.sure => return Err(NoMessage::Words),
+        Ok(dump) if dump.sure => return Ok((Form::Dump, dump.bytes)),
+        other => other,
+    };
+    let hex = match decode_hex(&content) {
+        Ok(_) if dump::has_addresses(&content) => Err(0),
+        other => other,
+    };
     // Letters may be base64 by chance, so the base64 of anything but a
-    // message's beginning doesn't count. With it, hex digits that are base64
-    // too are told apart: no text begins a message both ways.
-    let base64 = decode_base64(&content)
-        .ok()
-        .filter(|message| begins_a_message(message));
-    match (hex, base64) {
-        (_, Some(message)) => Ok((Form::Base64, message)),
-        (Some(message), None) => Ok((Form::Hex, message)),
-        (None, None) => Err(NoMessage::OtherText),
+    // message's beginning doesn't count, or of something that a message is
+    // inside of. With it, hex digits that are base64 too are told apart: no
+    // text begins a message both ways.
+    let base64 = decode_base64(&content);
+    match (hex, base64, dump) {
+        (_, Ok(message), _) if counts(&message) => Ok((Form::Base64, message)),
+        (Ok(message), _, _) => Ok((Form::Hex, message)),
+        (_, _, Ok(dump)) if dump.words => Err(NoMessage::Words),
+        (_, _, Ok(dump)) => Ok((Form::Dump, dump.bytes)),
+        (Err(hex), base64, Err(dump)) => Err(told(&content, hex, base64.err(), dump)),
     }
+}
+
+/// Why a text that stops at these places in hex, in base64 and as a dump is no message.
+fn told(text: &[u8], hex: usize, base64: Option<usize>, dump: NoDump) -> NoMessage {
+    let starred = |line: &[u8]| line.trim_ascii() == b"*";
+    let stop = match dump {
+        NoDump::Starred => return NoMessage::Starred,
+        NoDump::Stops(stop) => stop,
+    };
+    if let Some(other) = other_base64(text) {
+        return other;
+    }
+    // The bytes of od -An, which has no addresses.
+    if text.split(|&byte| byte == b'\n').any(starred) && text.get(hex) == Some(&b'*') {
+        return NoMessage::Starred;
+    }
+    let place = |at| Place::of(text, at);
+    NoMessage::OtherText {
+        hex: place(hex),
+        dump: place(stop),
+        base64: base64.map(place),
+    }
+}
+
+/// A text that would be the base64 of a message with its padding, or in the other
+/// alphabet.
+fn other_base64(text: &[u8]) -> Option<NoMessage> {
+    let text = text.trim_ascii_end();
+    let padded = |mut text: Vec<u8>| {
+        let digits = text
+            .iter()
+            .filter(|byte| !byte.is_ascii_whitespace())
+            .count();
+        let missing = (4 - digits % 4) % 4;
+        text.extend(&b"=="[..missing.min(2)]);
+        (missing, decode_base64(&text).ok())
+    };
+    let plain = |byte: &u8| match byte {
+        b'-' => b'+',
+        b'_' => b'/',
+        byte => *byte,
+    };
+    let sound = |(missing, message): (usize, Option<Vec<u8>>)| {
+        message.filter(|message| counts(message)).map(|_| missing)
+    };
+    let missing = sound(padded(text.to_vec())).filter(|&missing| missing > 0);
+    let other = text.iter().any(|byte| b"-_".contains(byte));
+    let for_urls = || sound(padded(text.iter().map(plain).collect())).filter(|_| other);
+    missing
+        .map(NoMessage::NoPadding)
+        .or_else(|| for_urls().map(NoMessage::Base64Url))
+}
+
+/// Whether the bytes of a text count as a message: they begin one, or one is inside.
+fn counts(message: &[u8]) -> bool {
+    begins_a_message(message) || !signatures(message).is_empty()
+}
+
+/// The places at which the signature of an NTLM message stands.
+pub fn signatures(bytes: &[u8]) -> Vec<usize> {
+    let places = bytes.windows(SIGNATURE.len()).enumerate();
+    places
+        .filter(|(_, eight)| eight == SIGNATURE)
+        .map(|(at, _)| at)
+        .collect()
+}
+
+/// What is told of bytes that don't begin as an NTLM message, but have one inside.
+pub fn inside(bytes: &[u8]) -> Option<String> {
+    let places = signatures(bytes);
+    let at = *places.first().filter(|&&at| at > 0)?;
+    let more = match places.len() - 1 {
+        0 => String::new(),
+        more => format!(" ({more} more after it)"),
+    };
+    Some(format!(
+        "NTLMSSP stands at byte {at}{more}: a message inside something else, as SPNEGO or a packet; \
+         cut off what stands before it"
+    ))
+}
+
+/// Whether a file is a capture: one of pcap by its magic number and version, one of
+/// pcapng by its first block.
+fn is_capture(content: &[u8]) -> bool {
+    let little = [[0xD4, 0xC3, 0xB2, 0xA1], [0x4D, 0x3C, 0xB2, 0xA1]];
+    let big = [[0xA1, 0xB2, 0xC3, 0xD4], [0xA1, 0xB2, 0x3C, 0x4D]];
+    let Some((start, rest)) = content.split_first_chunk::<4>() else {
+        return false;
+    };
+    let order = rest.get(4..8);
+    little.contains(start) && rest.starts_with(&[2, 0, 4, 0])
+        || big.contains(start) && rest.starts_with(&[0, 2, 0, 4])
+        || *start == [0x0A, 0x0D, 0x0D, 0x0A]
+            && (order == Some(&[0x4D, 0x3C, 0x2B, 0x1A])
+                || order == Some(&[0x1A, 0x2B, 0x3C, 0x4D]))
 }
 
 /// The names of the header fields that carry messages.
@@ -92,23 +279,47 @@ const HEADERS: [&[u8]; 4] = [
     b"Proxy-Authenticate",
 ];
 
-/// The texts that the header lines of a file carry, as they are copied from a trace,
-/// one to a line, each behind its line's number; none where any line is something
-/// else. An empty line carries nothing, but counts. No file of another form is one of
-/// header lines.
-pub fn header_texts(content: &[u8]) -> Option<Vec<(usize, &[u8])>> {
+/// The header lines of a file.
+#[derive(Clone, Debug, PartialEq, Eq)]
+pub struct HeaderLines<'a> {
+    /// The text that each carries, behind its line's number.
+    pub texts: Vec<(usize, &'a [u8])>,
+    /// How many other lines there are, but for empty ones.
+    pub others: usize,
+}
+
+/// The header lines of a file, as they are copied from a trace, one to a line. Other
+/// lines are passed over where a line has one of the names; without a name every line
+/// must be a text by itself. None where there is no header line. No file of another form
+/// has one.
+pub fn header_lines(content: &[u8]) -> Option<HeaderLines<'_>> {
+    let is_plain = |c: char| !c.is_control() || "\t\r\n".contains(c);
+    std::str::from_utf8(content)
+        .ok()
+        .filter(|text| text.chars().all(is_plain))?;
+    let mut found = HeaderLines {
+        texts: Vec::new(),
+        others: 0,
+    };
+    let mut named = false;
     let lines = content.split(|&byte| byte == b'\n').map(<[u8]>::trim_ascii);
-    let texts: Option<Vec<(usize, &[u8])>> = (1..)
-        .zip(lines)
-        .filter(|(_, line)| !line.is_empty())
-        .map(|(number, line)| Some((number, header_text(line)?)))
-        .collect();
-    texts.filter(|texts| !texts.is_empty() && content.iter().all(|&byte| is_text(byte)))
+    for (number, line) in (1..).zip(lines).filter(|(_, line)| !line.is_empty()) {
+        match header_text(line).filter(|(text, _)| text.is_ascii()) {
+            Some((text, by_name)) => {
+                named |= by_name;
+                found.texts.push((number, text));
+            }
+            None => found.others += 1,
+        }
+    }
+    let sound = !found.texts.is_empty() && (named || found.others == 0);
+    sound.then_some(found)
 }
 
 /// What stands behind the name of one of the header fields, without the blanks
-/// around it; or a text by itself. curl puts a mark for the direction first.
-fn header_text(line: &[u8]) -> Option<&[u8]> {
+/// around it, and true; or a text by itself, and false. curl puts a mark for the
+/// direction first.
+fn header_text(line: &[u8]) -> Option<(&[u8], bool)> {
     let marks = [&b"> "[..], b"< "];
     let mark = marks.into_iter().find_map(|mark| line.strip_prefix(mark));
     let line = mark.unwrap_or(line);
@@ -120,8 +331,11 @@ fn header_text(line: &[u8]) -> Option<&[u8]> {
             .any(|header| name.eq_ignore_ascii_case(header))
     };
     match named {
-        Some((name, text)) if is_header(name) => Some(text.trim_ascii()),
-        _ => (line.len() > 4 && line[..5].eq_ignore_ascii_case(b"NTLM ")).then_some(line),
+        Some((name, text)) if is_header(name) => Some((text.trim_ascii(), true)),
+        _ => {
+            let scheme = line.len() > 4 && line[..5].eq_ignore_ascii_case(b"NTLM ");
+            scheme.then_some((line, false))
+        }
     }
 }
 
@@ -157,20 +371,32 @@ impl Kind {
     }
 }
 
-/// Pairs of hex digits of either case, with blanks or line ends between pairs
-/// and nothing else. At least one pair.
-fn decode_hex(text: &[u8]) -> Option<Vec<u8>> {
+/// Pairs of hex digits of either case. Between pairs may stand blanks, line ends,
+/// commas, colons and hyphens, before one `0x` (but inside no run of digits) or `\x`. At
+/// least one pair. Otherwise the place in the text where it stops.
+fn decode_hex(text: &[u8]) -> Result<Vec<u8>, usize> {
     let mut message = Vec::with_capacity(text.len() / 2);
-    for word in text.split(u8::is_ascii_whitespace) {
-        let (pairs, odd) = word.as_chunks::<2>();
-        if !odd.is_empty() {
-            return None;
+    let (mut at, mut in_run) = (0, false);
+    while let Some(&byte) = text.get(at) {
+        let rest = &text[at..];
+        if byte.is_ascii_whitespace() || b",:-".contains(&byte) {
+            (at, in_run) = (at + 1, false);
+            continue;
         }
-        for &[high, low] in pairs {
-            message.push(hex_value(high)? << 4 | hex_value(low)?);
-        }
+        let prefixed = rest.starts_with(b"\\x") || !in_run && is_hex_prefix(rest);
+        at += if prefixed { 2 } else { 0 };
+        let digit = |at: usize| text.get(at).and_then(|&digit| hex_value(digit)).ok_or(at);
+        message.push(digit(at)? << 4 | digit(at + 1)?);
+        (at, in_run) = (at + 2, true);
     }
-    (!message.is_empty()).then_some(message)
+    if message.is_empty() {
+        return Err(0);
+    }
+    Ok(message)
+}
+
+fn is_hex_prefix(text: &[u8]) -> bool {
+    text.starts_with(b"0x") || text.starts_with(b"0X")
 }
 
 fn hex_value(digit: u8) -> Option<u8> {
@@ -186,7 +412,7 @@ fn hex_value(digit: u8) -> Option<u8> {
 /// four, with nothing between them but line ends. The padding must be there,
 /// and the bits that it leaves over must be zero. At least one group. Otherwise
 /// the place in the text where it stops.
-fn decode_base64(text: &[u8]) -> Result<Vec<u8>, usize> {
+pub(crate) fn decode_base64(text: &[u8]) -> Result<Vec<u8>, usize> {
     let mut message = Vec::with_capacity(text.len() / 4 * 3);
     let mut ended = false;
     let mut at = 0;
@@ -254,7 +480,10 @@ fn base64_value(digit: u8) -> Option<u8> {
 
 #[cfg(test)]
 mod tests {
-    use super::{decode_base64, decode_hex, header_texts, read, Form, Kind, NoMessage, SIGNATURE};
+    use super::{
+        decode_base64, decode_hex, header_lines, inside, read, Form, Kind, NoMessage, Place,
+        SIGNATURE,
+    };
 
     const P12: [u8; 13] = *b"\0\0\0\0\x01\0\0\0LINE\0";
 
@@ -300,6 +529,11 @@ mod tests {
             "00 00 00 00 01 00 00 00 4C 49 4E 45 00",
             "\t00000000\r\n01000000\r\n4c494e4500\r\n",
             "\n\n00000000010000004C494E4500 ",
+            "0x00000000010000004C494E4500",
+            "0x00, 0x00, 0x00, 0x00,\n 0x01, 0x00, 0x00, 0x00,\n 0X4c,0x49,0x4e,0x45,0x00,\n",
+            "00:00:00:00:01:00:00:00:4c:49:4e:45:00\n",
+            "00-00-00-00-01-00-00-00-4C-49-4E-45-00",
+            "\\x00\\x00\\x00\\x00\\x01\\x00\\x00\\x00\\x4c\\x49\\x4e\\x45\\x00",
         ] {
             assert_eq!(read(text.into()), Ok((Form::Hex, P12.to_vec())), "{text}");
         }
@@ -315,9 +549,10 @@ mod tests {
     #[test]
     fn what_is_not_pairs_of_digits_is_not_hex() {
         for text in [
-            "", " \n", "0", "000", "0 0", "00 0", "0x00", "00,00", "00:00", "0g", "-1", "+1",
+            "", " \n", ",", "0", "000", "0 0", "00 0", "0g", "-1", "+1", "0x", "0x0", "000x00",
+            "\\x0", "00;00", "{0x00}", "0x\\x00",
         ] {
-            assert_eq!(decode_hex(text.as_bytes()), None, "{text}");
+            assert!(decode_hex(text.as_bytes()).is_err(), "{text}");
         }
     }
 
@@ -392,31 +627,121 @@ mod tests {
         assert_eq!(decode_base64(&text), Ok(message));
     }
 
+    fn place(line: usize, column: usize) -> Place {
+        Place { line, column }
+    }
+
     #[test]
-    fn other_text_is_no_message() {
-        for text in [
-            "test",
-            "hello, box 31\n",
-            "4E544C4D5",
-            "4E:54:4C:4D",
-            "TlRMTVNTUAADAAA",
-            "VGhpcyBpcyBubyBtZXNzYWdl",
-            " ",
-            "\n",
-        ] {
-            assert_eq!(
-                form_of(text.as_bytes()),
-                Err(NoMessage::OtherText),
-                "{text}"
-            );
+    fn other_text_is_told_by_where_each_form_stops() {
+        let cases = [
+            ("test", place(1, 1), place(1, 1), None),
+            (
+                "hello, box 31\n",
+                place(1, 1),
+                place(1, 1),
+                Some(place(1, 6)),
+            ),
+            ("4E544C4D5", place(1, 10), place(1, 10), Some(place(1, 10))),
+            ("4E54\n4Z", place(2, 2), place(2, 1), Some(place(2, 3))),
+            (
+                "0000: 4e54\n0002: 4g",
+                place(2, 8),
+                place(2, 8),
+                Some(place(1, 5)),
+            ),
+            ("VGhpcyBpcyBubyBtZXNzYWdl", place(1, 1), place(1, 1), None),
+            (" ", place(1, 1), place(1, 2), Some(place(1, 1))),
+            ("\n", place(1, 1), place(2, 1), Some(place(1, 1))),
+        ];
+        for (text, hex, dump, base64) in cases {
+            let told = NoMessage::OtherText { hex, dump, base64 };
+            assert_eq!(form_of(text.as_bytes()), Err(told), "{text}");
         }
+        let told = form_of(b"4E54\n4Z").expect_err("no message").to_string();
+        assert!(
+            told.contains("hex stops at line 2, column 2, a dump at line 2, column 1, base64 at ")
+        );
+    }
+
+    #[test]
+    fn base64_of_another_kind_is_told_by_its_name() {
+        for (text, told) in [
+            ("TlRMTVNTUAAD//8", NoMessage::NoPadding(1)),
+            ("TlRMTVNT\nUAADAA\n", NoMessage::NoPadding(2)),
+            ("TlRMTVNTUAAD_-8=", NoMessage::Base64Url(0)),
+            ("TlRMTVNTUAAD_-8", NoMessage::Base64Url(1)),
+            ("TlRMTVNTUAADAA-_/w", NoMessage::Base64Url(2)),
+        ] {
+            assert_eq!(form_of(text.as_bytes()), Err(told), "{text}");
+        }
+        let told = NoMessage::NoPadding(2).to_string();
+        assert_eq!(told, "it is base64 without its padding: put == at its end");
+        // A blank at its end, and what would begin no message.
+        for text in ["TlRMTVNTUAAD//8= ", "VGhpcyBpcyBubw", "VGhpcyBpcyBu-_"] {
+            let told = form_of(text.as_bytes());
+            assert!(matches!(told, Err(NoMessage::OtherText { .. })), "{text}");
+        }
+    }
+
+    #[test]
+    fn a_dump_is_a_form_and_one_of_words_is_told() {
+        for text in [
+            "00000000: 0000 0000 0100 0000 4c49 4e45 00         ....LINE.",
+            "0000000 00 00 00 00 01 00 00 00 4c 49 4e 45 00\n0000015\n",
+            // Its addresses are whole pairs, so that it could be hex too.
+            "000000 00 00 00 00 01 00 00 00 4c 49 4e 45 00\n00000d\n",
+        ] {
+            assert_eq!(read(text.into()), Ok((Form::Dump, P12.to_vec())), "{text}");
+        }
+        for text in [
+            "0000000 0000 0000 0001 0000 494c 454e 0000\n000000e\n",
+            "000000 0000 0000 0001 0000 494c 454e\n00000c\n",
+        ] {
+            assert_eq!(form_of(text.as_bytes()), Err(NoMessage::Words), "{text}");
+        }
+        let starred = " 4e 54 4c 4d\n 00 00 00 00\n*\n";
+        assert_eq!(form_of(starred.as_bytes()), Err(NoMessage::Starred));
+        assert_eq!(form_of(b"00000000 01000000 4C494E45 00"), Ok(Form::Hex));
+    }
+
+    #[test]
+    fn a_message_inside_something_else_is_told() {
+        let mut packet = vec![0x60; 34];
+        packet.extend_from_slice(SIGNATURE);
+        let told = inside(&packet).expect("told");
+        assert!(told.starts_with("NTLMSSP stands at byte 34: "), "{told}");
+        packet.extend_from_slice(SIGNATURE);
+        let told = inside(&packet).expect("told");
+        assert!(told.starts_with("NTLMSSP stands at byte 34 (1 more after it): "));
+        for other in [&SIGNATURE[..], b"NTLMSSP", b"", &packet[..41]] {
+            assert_eq!(inside(other), None);
+        }
+        // Base64 of such a thing is none by chance.
+        let base64 = b"YIEATlRMTVNTUAAB";
+        assert_eq!(form_of(base64), Ok(Form::Base64));
+    }
+
+    #[test]
+    fn a_capture_is_told() {
+        let pcap: [&[u8]; 4] = [
+            b"\xD4\xC3\xB2\xA1\x02\0\x04\0",
+            b"\x4D\x3C\xB2\xA1\x02\0\x04\0rest",
+            b"\xA1\xB2\xC3\xD4\0\x02\0\x04",
+            b"\x0A\x0D\x0D\x0A\x1C\0\0\0\x4D\x3C\x2B\x1A",
+        ];
+        for content in pcap {
+            assert_eq!(form_of(content), Err(NoMessage::Capture));
+            assert_eq!(form_of(&content[..7]), Ok(Form::Raw));
+        }
+        assert_eq!(form_of(b"\xD4\xC3\xB2\xA1\x02\0\x05\0"), Ok(Form::Raw));
     }
 
     #[test]
     fn header_lines_are_read_as_they_are_copied() {
         let texts = |content: &'static str| {
-            let numbered = header_texts(content.as_bytes())?;
-            Some(numbered.into_iter().map(|(_, text)| text).collect())
+            let lines = header_lines(content.as_bytes())?;
+            assert_eq!(lines.others, 0);
+            Some(lines.texts.into_iter().map(|(_, text)| text).collect())
         };
         let ntlm: Option<Vec<&[u8]>> = Some(vec![b"NTLM Zg=="]);
         for content in [
@@ -429,7 +754,8 @@ mod tests {
             "NTLM Zg==\n",
         ] {
             assert_eq!(texts(content), ntlm, "{content:?}");
-            assert_eq!(form_of(content.as_bytes()), Err(NoMessage::OtherText));
+            let told = form_of(content.as_bytes());
+            assert!(matches!(told, Err(NoMessage::OtherText { .. })));
         }
         let three = "Authorization: ntlm  a\nWWW-Authenticate: NTLM\nAuthorization: Basic b:c\n";
         let expected: Vec<&[u8]> = vec![b"ntlm  a", b"NTLM", b"Basic b:c"];
@@ -437,10 +763,22 @@ mod tests {
     }
 
     #[test]
+    fn other_lines_of_a_block_are_counted() {
+        let block = "* Connected to f\u{fc}r\n> GET /box HTTP/1.1\r\n> Host: depot\r\n\
+                     > Authorization: NTLM Zg==\r\n>\r\n\r\n< HTTP/1.1 401 Unauthorized\r\n\
+                     < WWW-Authenticate: NTLM Zm8=\r\nNTLM Zm9v\r\n{ [0 bytes data]\n";
+        let lines = header_lines(block.as_bytes()).expect("header lines");
+        let expected: Vec<(usize, &[u8])> =
+            vec![(4, b"NTLM Zg=="), (8, b"NTLM Zm8="), (9, b"NTLM Zm9v")];
+        assert_eq!((lines.texts, lines.others), (expected, 6));
+    }
+
+    #[test]
     fn a_header_line_has_its_number_in_the_file() {
         let content = b"\r\nNTLM a\n\n \nNTLM b\nNTLM c";
         let expected: Vec<(usize, &[u8])> = vec![(2, b"NTLM a"), (5, b"NTLM b"), (6, b"NTLM c")];
-        assert_eq!(header_texts(content), Some(expected));
+        let lines = header_lines(content).expect("header lines");
+        assert_eq!((lines.texts, lines.others), (expected, 0));
     }
 
     #[test]
@@ -453,13 +791,13 @@ mod tests {
             "Host: depot",
             "Authorization NTLM Zg==",
             "X-Authorization: NTLM Zg==",
-            "Authorization: NTLM Zg==\nHost: depot\n",
+            "NTLM is spoken here\nby all of us\n",
             "TlRMTVNTUAADAAAA",
             "4E544C4D",
             "Authorization: NTLM Zg==\0",
             "Authorization: NTLM \u{e4}",
         ] {
-            assert_eq!(header_texts(content.as_bytes()), None, "{content:?}");
+            assert_eq!(header_lines(content.as_bytes()), None, "{content:?}");
         }
     }
 

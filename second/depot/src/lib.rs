@@ -1,9 +1,11 @@
 //! What the depot bench reads and runs: the message files of a folder and the message
 //! that each holds, a night's messages, and programs that print a line; a refusal in words,
-//! and the summary of a run.
+//! the summary of a run, and messages out of a capture.
 
 #![forbid(unsafe_code)]
 
+pub mod capture;
+pub mod dump;
 pub mod folder;
 pub mod form;
 pub mod night;

@@ -12,8 +12,9 @@ use std::io::{self, BufWriter, Write};
 use std::path::{Path, PathBuf};
 use std::process::ExitCode;
 
+use depot::capture::{self, NotCaptured};
 use depot::folder::{Content, Folder, MessageFile, NoFolder, NotRead};
-use depot::form::Kind;
+use depot::form::{self, Kind};
 use depot::night::{index_of, read_index, NoNight};
 use depot::program::{Answer, CannotRun, Program, Text};
 use depot::summary::{Found, Outcome, Summary};
@@ -23,7 +24,8 @@ const USAGE: &str =
     "usage: depot look run FOLDER | depot run FOLDER NTLM_LINE NL_AUTH_LINE NTLM_EXPLAIN SECOND LINKED \
                      | depot look explain FILE | depot explain FILE NTLM_EXPLAIN NL_AUTH_LINE SECOND \
                      | depot look night FILE | depot night FILE LINKED SECOND \
-                     | depot look canonical FILE";
+                     | depot look canonical FILE \
+                     | depot look capture FILE | depot capture FILE OUT TSHARK";
 
 fn main() -> ExitCode {
     let args: Vec<OsString> = env::args_os().skip(1).collect();
@@ -49,6 +51,9 @@ fn main() -> ExitCode {
             let linked_and_second = [linked, second].map(Path::new);
             Night::read(Path::new(file)).and_then(|night| night.run(linked_and_second))
         }
+        [command, file, out, tshark] if command == "capture" => {
+            capture_file([file, out, tshark].map(Path::new))
+        }
         _ => return fail(2, &USAGE),
     };
     match done {
@@ -69,6 +74,7 @@ fn fail(status: u8, message: &dyn fmt::Display) -> ExitCode {
 enum Failure {
     NoFolder(NoFolder),
     NoFile(PathBuf, NotRead),
+    NotCaptured(NotCaptured),
     NotAWord(OsString),
     AreRefused(usize),
     NoBuffer(PathBuf, NotRead),
@@ -86,6 +92,12 @@ impl From<NoFolder> for Failure {
 impl From<NoNight> for Failure {
     fn from(why: NoNight) -> Self {
         Self::NoNight(why)
+    }
+}
+
+impl From<NotCaptured> for Failure {
+    fn from(why: NotCaptured) -> Self {
+        Self::NotCaptured(why)
     }
 }
 
@@ -128,6 +140,7 @@ impl fmt::Display for Failure {
             ),
             Self::NoBuffer(path, why) => write!(f, "{} is not read: {why}", path.display()),
             Self::NoNight(why) => why.fmt(f),
+            Self::NotCaptured(why) => why.fmt(f),
             Self::CannotRun(why) => write!(f, "{why}; make run builds it, or make night"),
             Self::Print(error) => write!(f, "what the bench found can't be printed: {error}"),
         }
@@ -150,6 +163,7 @@ fn needs(command: &OsStr, input: &Path) -> Option<Result<Vec<&'static str>, Fail
         })),
         "night" => Some(Night::read(input).map(|_| vec!["linked"])),
         "canonical" => Some(read(input).map(|_| vec!["linked"])),
+        "capture" => Some(capture::look(input).map_err(Failure::from).map(|()| vec![])),
         _ => None,
     }
 }
@@ -175,7 +189,7 @@ impl Needs {
         for file in &folder.messages {
             let kind = match file.read_all() {
                 Ok(Content::Message(_, message)) => Kind::of(&message),
-                Ok(Content::HeaderTexts(_)) => {
+                Ok(Content::HeaderTexts(..)) => {
                     needs.import = true;
                     Kind::Unclear
                 }
@@ -234,6 +248,9 @@ fn explain_file(file: &Path, [explain, nl_auth, second]: [&Path; 3]) -> Result<b
         }
         if let Some(words) = in_words(&proved, pair.read_as, &message) {
             writeln!(out, "{words}")?;
+            if let Some(told) = form::inside(&message) {
+                writeln!(out, "{told}")?;
+            }
         }
     } else {
         write_parted(&proved, &second, what, "", &mut out)?;
@@ -246,6 +263,22 @@ fn explain_file(file: &Path, [explain, nl_auth, second]: [&Path; 3]) -> Result<b
 fn in_words(answer: &Answer, read_as: ReadAs, bytes: &[u8]) -> Option<String> {
     let number = lines(answer).find_map(words::number_of)?;
     words::of(number, read_as, bytes)
+}
+
+/// Makes messages of a capture. DECODE_AS is a word for tshark, for a server on a port that isn't
+/// its own. True where all of it was read.
+fn capture_file([file, out, tshark]: [&Path; 3]) -> Result<bool, Failure> {
+    let decode_as = env::var("DECODE_AS").ok().filter(|word| !word.is_empty());
+    let captured = capture::capture(file, out, tshark, decode_as.as_deref())?;
+    writeln!(io::stdout(), "{captured}")?;
+    if let Some(said) = &captured.broke_off {
+        // Where standard error is closed, the status still tells.
+        let _ = writeln!(
+            io::stderr(),
+            "the capture is not read to its end: tshark said: {said}"
+        );
+    }
+    Ok(captured.broke_off.is_none())
 }
 
 /// A night's messages: the buffer, and the file that lists them.
@@ -396,14 +429,19 @@ impl Bench {
                 let outcome = self.run_message(&message, out)?;
                 Ok(vec![found(file.name.clone(), outcome)])
             }
-            Ok(Content::HeaderTexts(texts)) => {
+            Ok(Content::HeaderTexts(texts, others)) => {
                 let run = |(line, text): &(usize, Vec<u8>)| {
                     let name = format!("{}, {line}", file.name);
                     write!(out, "{name}: header line, ")?;
                     let outcome = self.run_header(text, out)?;
                     Ok(found(name, outcome))
                 };
-                texts.iter().map(run).collect()
+                let all: Result<Vec<Found>, Failure> = texts.iter().map(run).collect();
+                if others > 0 {
+                    let lines = if others == 1 { "line" } else { "lines" };
+                    writeln!(out, "{}: {others} other {lines} passed over", file.name)?;
+                }
+                all
             }
             Err(why) => {
                 writeln!(out, "{}: NOT READ: {why}", file.name)?;
@@ -503,6 +541,10 @@ impl Bench {
             {
                 different = Some("the checks are not the same".to_owned());
             }
+        }
+        if let Some(told) = form::inside(message).filter(|_| !taken) {
+            writeln!(out, "    {told}")?;
+            refused = told;
         }
         Ok(match (different, taken) {
             (Some(why), _) => (Outcome::Different, why),

@@ -564,7 +564,10 @@ fn a_file_that_gives_no_message_is_told_and_the_others_are_run() {
         .filter(|line| line.contains("NOT READ"))
         .collect();
     assert_eq!(not_read.len(), 4, "{out}");
-    assert!(not_read[0].starts_with("a.txt: NOT READ: it is text, but neither"));
+    assert!(not_read[0].starts_with(
+        "a.txt: NOT READ: it is text in no form that is read: hex stops at line 1, column 2, \
+         a dump at line 1, column 1, base64 at line 1, column 4, and no line is a header line: "
+    ));
     assert!(not_read[1].starts_with("c.txt: NOT READ: it begins with a byte order mark"));
     assert!(not_read[2].starts_with("d.bin: NOT READ: it leads to no file"));
     assert!(not_read[3].starts_with("e: NOT READ: it is a folder"));
@@ -760,4 +763,61 @@ fn header_lines_are_not_for_one_message() {
     assert_eq!((status, out.as_str()), (Some(1), ""));
     assert!(err.contains("it holds header lines, which make run takes: "));
     assert_eq!(err.lines().count(), 1);
+}
+
+#[test]
+fn other_lines_of_a_header_block_are_counted() {
+    let block = b"> PUT /box HTTP/1.1\r\n> Host: secret\r\n> Authorization: NTLM Zg==\r\n>\r\n";
+    let folder = folder_of("headers-block", &[("trace.txt", block)]);
+    let programs = ["refuses", "takes", "explains", "refuses"];
+    let (status, out, _) = run_linked(&folder, programs, "imports");
+    assert!(out.starts_with("trace.txt, 3: header line, 8 bytes, NTLM\n"));
+    assert!(
+        out.contains("\ntrace.txt: 3 other lines passed over\n"),
+        "{out}"
+    );
+    assert!(!out.contains("secret"), "{out}");
+    assert_eq!(status, Some(0));
+}
+
+#[test]
+fn a_message_inside_something_else_is_told_by_its_place() {
+    let told = "NTLMSSP stands at byte 6: a message inside something else, as SPNEGO or a packet; \
+                cut off what stands before it";
+    let files: [(&str, &[u8]); 2] = [
+        (
+            "a.bin",
+            b"\x60\x48\x06\x06\xA2\x2ANTLMSSP\0\x01\0\0\0SECRET",
+        ),
+        ("b.b64", b"YEgGBqIqTlRMTVNTUAABAAAA\n"),
+    ];
+    let folder = folder_of("inside", &files);
+    let (status, out, _) = run(&folder, "refuses", "refuses", "refuses");
+    for (name, _) in files {
+        assert!(out.contains(&format!("\n    {name}: {told}\n")), "{out}");
+    }
+    let under = format!("    refused 2 field=0 at=0\n    {WORDS_ALONE}\n    {told}\n");
+    assert_eq!(out.matches(&under).count(), 2, "{out}");
+    assert!(!out.contains("SECRET"));
+    assert_eq!(status, Some(0));
+    let (_, out, _) = explain(&folder.join("a.bin"), "explains", "refuses");
+    assert!(out.ends_with(&format!("\n{told}\n")), "{out}");
+    // One that is taken needs no word.
+    let (_, out, _) = run(&folder, "takes", "takes", "takes");
+    assert!(!out.contains("stands at"), "{out}");
+}
+
+#[test]
+fn a_capture_in_a_folder_is_told() {
+    let capture = b"\x0A\x0D\x0D\x0A\x1C\0\0\0\x4D\x3C\x2B\x1A";
+    let folder = folder_of("with-capture", &[("a.pcapng", capture), ("b.bin", P12)]);
+    let (status, out, _) = run(&folder, "takes", "takes", "takes");
+    let told = "a.pcapng: NOT READ: it is a capture: make messages of it, as make capture FILE=";
+    assert!(out.starts_with(told), "{out}");
+    assert_eq!(status, Some(1));
+    let (status, out, err) = look("capture", &folder.join("a.pcapng"));
+    assert_eq!((status, out.as_str(), err.as_str()), (Some(0), "\n", ""));
+    let (status, _, err) = look("capture", &folder.join("none"));
+    assert!(err.starts_with("there is no file ") && err.contains("make capture FILE="));
+    assert_eq!((status, err.lines().count()), (Some(1), 1));
 }

@@ -60,7 +60,7 @@ fn each_file_stands_in_the_table_with_its_line() {
     for file in &folder.messages {
         let printed = match file.read_all().expect("a message") {
             Content::Message(_, message) => printed(&message),
-            Content::HeaderTexts(texts) => {
+            Content::HeaderTexts(texts, _) => {
                 let lines = texts.iter().map(|(_, text)| match carried(text) {
                     Ok(message) => printed(&message),
                     Err(refusal) => format!("`{refusal}`"),
