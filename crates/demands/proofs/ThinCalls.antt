@@ -1,15 +1,17 @@
 -- What the three thin calls go by, and which of them refuse by 20.
-use Prim.Native.Nat.{ℕ, _<_}
+use Prim.Native.Nat.{ℕ, _/_, _%_, _<_}
 use mathlib.Core.Path.{_≡_, refl, sym, _∙_}
 use mathlib.Core.Bool.{true}
 use mathlib.Core.Logic.{inl, ⊎-elim, _↔_}
 use mathlib.Core.List.{List}
 use native.Mathlib.Omega.{arith}
-use Rattle.demands.specs.Message.{challenge, Set}
+use borrow.Author.Tests.{eqb-true, eq-eqb}
+use Rattle.wire.specs.Number.{has}
+use Rattle.demands.specs.Message.{challenge, FlagSet, Set}
 use Rattle.demands.specs.PairList.{FirstFault}
 use Rattle.demands.specs.TakenExactly.{ChallengeHolds, ChallengeFails, in-fields, in-list}
 use Rattle.demands.specs.Answering.{Declined, by-reading, by-20, by-21}
-use Rattle.demands.specs.ThinCalls.{ThinCall, for-bench, to-old-server, for-relay, goesBy, demands128, ThinSettings, HeaderDefaults, ThinCallsRefuse}
+use Rattle.demands.specs.ThinCalls.{ThinCall, for-bench, to-old-server, for-relay, goesBy, demands128, ThinSettings, SettingsByBits, HeaderDefaults, ThinCallsRefuse}
 use Rattle.demands.proofs.Bools.{both-ways}
 use Rattle.demands.proofs.Answering.{respond-answered}
 use Rattle.demands.proofs.PairList.{first-number}
@@ -19,6 +21,13 @@ pub thin-settings : ThinSettings
 thin-settings (for-bench demanded) = record { demand-128 = refl; ntlmv2 = refl; integrity = refl; confidentiality = refl }
 thin-settings to-old-server = record { demand-128 = refl; ntlmv2 = refl; integrity = refl; confidentiality = refl }
 thin-settings for-relay = record { demand-128 = refl; ntlmv2 = refl; integrity = refl; confidentiality = refl }
+
+-- a bit's question says that it is set
+asked : (n mask : ℕ) → (has n mask ≡ true) ↔ FlagSet n mask
+asked n mask = (λ h. eqb-true (n / mask % 2) 1 h, λ h. eq-eqb (n / mask % 2) 1 h)
+
+pub settings-by-bits : SettingsByBits
+settings-by-bits n = record { demand-128 = asked n 0x1; ntlmv2 = asked n 0x2; integrity = asked n 0x4; confidentiality = asked n 0x8 }
 
 pub header-defaults : HeaderDefaults
 header-defaults = refl

@@ -11,7 +11,7 @@ use Rattle.respond.specs.declared.decision.Settings.{Settings}
 use Rattle.respond.specs.Answer.{Supplied, respondTo}
 use Rattle.respond.specs.Decision.{defaults, benchSettings, oldServerSettings}
 use Rattle.c_respond.specs.Settings.{settingsOf}
-use Rattle.demands.specs.Message.{challenge, Set}
+use Rattle.demands.specs.Message.{challenge, FlagSet, Set}
 use Rattle.demands.specs.TakenExactly.{InfoBytes, ChallengeHolds}
 use Rattle.demands.specs.Answering.{AnswerRefusedWith}
 
@@ -42,6 +42,17 @@ pub record SettingsAre (settings : Settings) (demanded : Bool) : Type 0 where
 
 abbrev pub ThinSettings : Type 0
 ThinSettings = (call : ThinCall) → SettingsAre (goesBy call) (demands128 call)
+
+-- the settings of a number from C, by the header's bits: DIALTABLE_DEMAND_128, DIALTABLE_NTLMV2, DIALTABLE_INTEGRITY and
+-- DIALTABLE_CONFIDENTIALITY
+pub record ByBits (settings : Settings) (n : ℕ) : Type 0 where
+  pub demand-128 : (settings .«demand_128» ≡ true) ↔ FlagSet n 0x1
+  pub ntlmv2 : (settings .ntlmv2 ≡ true) ↔ FlagSet n 0x2
+  pub integrity : (settings .integrity ≡ true) ↔ FlagSet n 0x4
+  pub confidentiality : (settings .confidentiality ≡ true) ↔ FlagSet n 0x8
+
+abbrev pub SettingsByBits : Type 0
+SettingsByBits = (n : ℕ) → ByBits (settingsOf n) n
 
 -- the header's DIALTABLE_DEFAULTS, which is DIALTABLE_DEMAND_128 and DIALTABLE_NTLMV2
 abbrev pub HeaderDefaults : Type 0

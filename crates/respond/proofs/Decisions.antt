@@ -1,6 +1,6 @@
 -- Laws of the decision on a challenge.
 use mathlib.Core.Path.{_≡_, refl, sym, _∙_}
-use mathlib.Core.Bool.{Bool, false, _||_, _&&_, not}
+use mathlib.Core.Bool.{Bool, true, false, _||_, _&&_, not}
 use mathlib.Core.List.{List}
 use Prim.Native.Nat.{ℕ}
 use Rattle.wire.specs.declared.check.Checked.{Checked}
@@ -11,8 +11,6 @@ use Rattle.wire.specs.declared.refusal.Refusal.the-variants.{TooLong}
 use Rattle.wire.specs.Check.{checked}
 use Rattle.negotiate_flags.specs.Flags.{negotiate128}
 use Rattle.wire.proofs.Laws.{chain}
-use Rattle.read_challenge.specs.declared.Challenge.{Challenge}
-use Rattle.read_challenge.specs.declared.Reading.{Reading}
 use Rattle.read_challenge.specs.declared.Reading.the-variants.{Taken}
 use Rattle.read_challenge.specs.declared.FullChallenge.{FullChallenge}
 use Rattle.read_challenge.specs.declared.FullReading.{FullReading}
@@ -42,8 +40,11 @@ pub unwanted : (settings : Settings) (x : ServerNames) →
     (settings .ntlmv2 && (settings .integrity || settings .confidentiality)) ≡ false → Held ≡ serverNamesHold settings x
 unwanted settings x h = simp h
 
-pub of-names : (settings : Settings) (x y : ServerNames) (k : Checked) → x ≡ y → k ≡ serverNamesHold settings x → k ≡ serverNamesHold settings y
-of-names settings x y k e h = rw (← e) h
+-- names that are
+pub wanted : (settings : Settings) (x y : ServerNames) (k : Checked) →
+    (settings .ntlmv2 && (settings .integrity || settings .confidentiality)) ≡ true → x ≡ y →
+    k ≡ checked (x .«nb_computer_name» && x .«nb_domain_name») → k ≡ serverNamesHold settings y
+wanted settings x y k h e p = p ∙ simp (h, e)
 
 -- the pairs that were handed out are TargetInfo's
 pub of-list : (settings : Settings) (l m : List ℕ) (k : Checked) → l ≡ m → k ≡ serverNamesHold settings (serverNamesIn l) →
@@ -62,9 +63,6 @@ module _ (s : List ℕ) (f : FullChallenge) (h : fullReadingOf s ≡ FullTaken f
 pub ruleset decision = (chain, on-taken, of-list, read-as, decided-is)
 
 -- the reading of a challenge that was taken, and of one that was not
-pub taken-as : (s : List ℕ) (r : Reading) (c : Challenge) → r ≡ readingOf s → r ≡ Taken c → readingOf s ≡ Taken c
-taken-as s r c e h = sym e ∙ h
-
 pub full-as : (s : List ℕ) (r : FullReading) (f : FullChallenge) → r ≡ fullReadingOf s → r ≡ FullTaken f → fullReadingOf s ≡ FullTaken f
 full-as s r f e h = sym e ∙ h
 

@@ -21,12 +21,14 @@ use Rattle.av_pairs.specs.declared.Found.the-variants.{At, Nothing}
 use Rattle.av_pairs.specs.AvPairs.{pairsOf}
 use Rattle.target_info.specs.TargetInfo.{firstBy, firstPair}
 use Rattle.target_info.proofs.Searches.{found-in}
-use Rattle.read_challenge.specs.declared.Answer.{Answer}
 use Rattle.read_challenge.specs.declared.Challenge.{Challenge}
 use Rattle.read_challenge.specs.declared.Reading.{Reading}
-use Rattle.read_challenge.specs.declared.Reading.the-variants.{Taken, Refused}
-use Rattle.read_challenge.specs.Challenge.{readingOf, readChallenge, onTaken, infoOf}
-use Rattle.respond.specs.Domain.{Part, ownPart, valuePart, onFound, domainPart, domainToSend, lent, Within}
+use Rattle.read_challenge.specs.declared.Reading.the-variants.{Taken}
+use Rattle.read_challenge.specs.declared.FullReading.{FullReading}
+use Rattle.read_challenge.specs.declared.FullReading.the-variants.{Refused as Unread}
+use Rattle.read_challenge.specs.Challenge.{readingOf, onTaken, infoOf, fullReadingOf}
+use Rattle.read_challenge.proofs.Laws.{refusal-alone}
+use Rattle.respond.specs.Domain.{Part, ownPart, valuePart, onFound, domainPart, domainToSend, lent, DomainWithin}
 
 -- ---- the search for pair 2
 
@@ -41,18 +43,15 @@ module _ (l : List ℕ) (f : Found) (p : AvPair) (k : f ≡ firstPair (record { 
 
 -- ---- the challenge's pair 2
 
-pub reading-is : (s : List ℕ) (a : Answer) → a ≡ readChallenge s → a .reading ≡ readingOf s
-unfolding readChallenge
-reading-is s a e = rw e
-
 pub first-is : (s l : List ℕ) (c : Challenge) (f : Found) → l ≡ infoOf s c →
     f ≡ firstPair (record { id = 2 }) l → f ≡ firstBy isNbDomainName (pairsOf (infoOf s c))
 unfolding firstPair
 first-is s l c f k q = q ∙ simp k
 
-pub untaken : {A : Type 0} (f : Refusal → A) (k r : Reading) (e : Refusal) (x : Challenge → A) (y : A) →
-    r ≡ k → r ≡ Refused e → y ≡ f e → y ≡ onTaken f k x
-untaken f k r e x y p h q = simp (← p, h) q
+-- a challenge that was not read
+pub unread : {A : Type 0} (f : Refusal → A) (s : List ℕ) (r : FullReading) (e : Refusal) (x : Challenge → A) (y : A) →
+    r ≡ fullReadingOf s → r ≡ Unread e → y ≡ f e → y ≡ onTaken f (readingOf s) x
+unread f s r e x y p h q = simp (← refusal-alone s r p e h) q
 
 pub found-at : {A : Type 0} (k f : Found) (p : AvPair) (x : AvPair → A) (z y : A) → f ≡ k → f ≡ At p → y ≡ x p → y ≡ onFound k x z
 found-at k f p x z y e h q = simp (← e, h) q
@@ -64,7 +63,7 @@ found-none k f x z y e h q = simp (← e, h) q
 pub on-taken : {A : Type 0} (f : Refusal → A) (k : Reading) (c : Challenge) (x : Challenge → A) (y : A) → k ≡ Taken c → y ≡ x c → y ≡ onTaken f k x
 on-taken f k c x y h q = simp h q
 
-pub ruleset ways = (branches, on-taken, untaken, found-at, found-none, reading-is, first-is)
+pub ruleset ways = (branches, on-taken, unread, found-at, found-none, first-is)
 
 -- ---- what is handed out
 
@@ -76,7 +75,7 @@ module _ (own s : List ℕ) (e : ownPart own ≡ domainPart own s) where
   pub own-place : (a b : ℕ × ℕ) → PartAt a (lent (domainPart own s) a b) (domainPart own s .start)
   own-place a b = rw (← e) (refl, omega arith)
 
-  pub own-within : Within (domainPart own s) (lent (domainPart own s) (length own) (length s))
+  pub own-within : DomainWithin own s
   own-within = rw (← e) (omega arith)
 
 -- a field's bytes lie within its message
@@ -101,7 +100,7 @@ module _ (own s : List ℕ) (c : Challenge) (f : Found) (p : AvPair) (t : readin
   value-place m x n a b k y z = rw (← e) (y, simp k (omega arith))
 
   pub value-within : (l : List ℕ) → l ≡ infoOf s c → f ≡ firstPair (record { id = 2 }) l →
-      Within (domainPart own s) (lent (domainPart own s) (length own) (length s))
+      DomainWithin own s
   value-within l k v =
       let inside : p .at + p .len ≤ length l = value-end l f p v h in
       rw (← e) (simp (length-take, length-drop) (omega (arith, inside, ap length k, part-within s (c .fields .«target_info»))))

@@ -4,8 +4,9 @@ use mathlib.Core.Bool.{Bool, true, false, cond}
 use mathlib.Core.List.{List}
 use lib.Dec.{eqb}
 use lib.ListN.{length}
+use denote.Ref.{RefT, now}
 use Rattle.av_id.specs.AvId.{isNbDomainName}
-use Rattle.field.specs.Field.{fieldStart}
+use Rattle.field.specs.Field.{PartAt, fieldStart}
 use Rattle.negotiate_flags.specs.Flags.{unicode}
 use Rattle.av_pairs.specs.declared.AvPair.{AvPair}
 use Rattle.av_pairs.specs.declared.Found.{Found}
@@ -57,6 +58,10 @@ domainToSend own s = domainPart own s .bytes
 abbrev pub lent : {A : Type 0} → Part → A → A → A
 lent part own challenge = cond (part .ofChallenge) challenge own
 
--- a part ends within the n bytes that it is a part of
-abbrev pub Within : Part → ℕ → Type 0
-Within part n = part .start + length (part .bytes) ≤ n
+-- the domain to send stands at the pointer p: from its start on in the one that it lies in
+abbrev pub DomainAt : RefT (List ℕ) → RefT (List ℕ) → ℕ × ℕ → Type 0
+DomainAt own s p = PartAt p (lent (domainPart (now own) (now s)) (own .ptr) (s .ptr)) (domainPart (now own) (now s) .start)
+
+-- and ends within it
+abbrev pub DomainWithin : List ℕ → List ℕ → Type 0
+DomainWithin own s = domainPart own s .start + length (domainPart own s .bytes) ≤ lent (domainPart own s) (length own) (length s)

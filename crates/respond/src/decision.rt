@@ -10,7 +10,6 @@ use negotiate_flags::NegotiateFlags;
 use read_challenge::FullChallenge;
 use read_challenge::FullReading;
 use read_challenge::read_full;
-use target_info::ServerNames;
 use target_info::Timestamp;
 use target_info::server_names_in;
 use wire::check::Checked;
@@ -72,16 +71,6 @@ impl Settings {
     {
         check(!self.demand_128 | flags.negotiate_128())
     }
-
-    // Check 21.
-    fn server_names_hold(self, names: ServerNames) -> Checked
-        ensures { λ r. ⌜ r ≡ serverNamesHold self names ⌝ }
-    {
-        check(
-            !(self.ntlmv2 & (self.integrity | self.confidentiality))
-                | (names.nb_computer_name & names.nb_domain_name),
-        )
-    }
 }
 
 // Check 21 for the pairs of a challenge, which are looked at only where the names are wanted.
@@ -90,7 +79,8 @@ fn names_hold(settings: Settings, list: &[u8]) -> Checked
     ensures { λ r. ⌜ r ≡ serverNamesHold settings (serverNamesIn (now (list .entry))) ⌝ }
 {
     if settings.ntlmv2 & (settings.integrity | settings.confidentiality) {
-        return settings.server_names_hold(server_names_in(list));
+        let names = server_names_in(list);
+        return check(names.nb_computer_name & names.nb_domain_name);
     }
     Checked::Held
 }

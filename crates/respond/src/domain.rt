@@ -1,23 +1,21 @@
 // The domain to send: a part of the lent settings or of the lent challenge.
 ghost use mathlib.Core.Path.{_≡_};
-ghost use lib.ListN.{length};
-ghost use Rattle.field.specs.Field.{PartAt};
 ghost use Rattle.read_challenge.specs.declared.Reading.the-variants.{Taken};
 ghost use Rattle.read_challenge.specs.Challenge.{readingOf};
-ghost use Rattle.respond.specs.Domain.{domainPart, domainToSend, lent, Within};
+ghost use Rattle.respond.specs.Domain.{domainToSend, DomainAt, DomainWithin};
 use av_id::AvId;
 use av_pairs::Found;
 use read_challenge::Challenge;
-use read_challenge::Reading;
-use read_challenge::read;
+use read_challenge::FullReading;
+use read_challenge::read_full;
 use target_info::first_pair;
 
 // The domain to send, for a challenge that was taken as `c`.
 pub(crate) fn domain_of<'a>(own: &'a [u8], challenge: &'a [u8], c: Challenge) -> &'a [u8]
     requires { ⌜ readingOf (now challenge) ≡ Taken c ⌝ }
     ensures content { λ r. ⌜ now r ≡ domainToSend (now (own .entry)) (now (challenge .entry)) ⌝ }
-    ensures place { λ r. ⌜ PartAt (r .ptr) (lent (domainPart (now (own .entry)) (now (challenge .entry))) (own .entry .ptr) (challenge .entry .ptr)) (domainPart (now (own .entry)) (now (challenge .entry)) .start) ⌝ }
-    ensures within { λ r. ⌜ Within (domainPart (now (own .entry)) (now (challenge .entry))) (lent (domainPart (now (own .entry)) (now (challenge .entry))) (length (now (own .entry))) (length (now (challenge .entry)))) ⌝ }
+    ensures place { λ r. ⌜ DomainAt (own .entry) (challenge .entry) (r .ptr) ⌝ }
+    ensures within { λ _. ⌜ DomainWithin (now (own .entry)) (now (challenge .entry)) ⌝ }
 {
     if own.len() != 0 {
         return own;
@@ -40,15 +38,15 @@ pub(crate) fn domain_of<'a>(own: &'a [u8], challenge: &'a [u8], c: Challenge) ->
 // The domain to send: the settings' own, or where that is empty and UNICODE is set the value of the challenge's first pair 2.
 pub fn domain_to_send<'a>(own: &'a [u8], challenge: &'a [u8]) -> &'a [u8]
     ensures content { λ r. ⌜ now r ≡ domainToSend (now (own .entry)) (now (challenge .entry)) ⌝ }
-    ensures place { λ r. ⌜ PartAt (r .ptr) (lent (domainPart (now (own .entry)) (now (challenge .entry))) (own .entry .ptr) (challenge .entry .ptr)) (domainPart (now (own .entry)) (now (challenge .entry)) .start) ⌝ }
-    ensures within { λ r. ⌜ Within (domainPart (now (own .entry)) (now (challenge .entry))) (lent (domainPart (now (own .entry)) (now (challenge .entry))) (length (now (own .entry))) (length (now (challenge .entry)))) ⌝ }
+    ensures place { λ r. ⌜ DomainAt (own .entry) (challenge .entry) (r .ptr) ⌝ }
+    ensures within { λ _. ⌜ DomainWithin (now (own .entry)) (now (challenge .entry)) ⌝ }
 {
     if own.len() != 0 {
         return own;
     }
-    let reading = read(challenge).reading;
-    let Reading::Taken(c) = reading else {
+    let FullReading::Taken(f) = read_full(challenge) else {
         return own;
     };
+    let c = f.challenge;
     domain_of(own, challenge, c)
 }
