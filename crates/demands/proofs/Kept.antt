@@ -22,7 +22,7 @@ use Rattle.place.specs.declared.written.Written.the-variants.{Length, Refused}
 use Rattle.place.specs.Written.{atFront, answered, outAfter, sizeHolds, roomHolds, bytesHold, bytesAnswer, bytesAfter}
 use Rattle.nl_auth_flags.specs.declared.NlAuthFlags.{NlAuthFlags}
 use Rattle.nl_auth_flags.specs.Flags.{known, stringsHold}
-use Rattle.write_nl_auth.specs.Writing.{requestBytes, responseBytes, checkZeros, checkNames, checkRequest, requestAnswer, requestOut, responseAnswer, responseOut}
+use Rattle.write_nl_auth.specs.Writing.{requestBytes, responseBytes, checkUnder, checkRequest, requestAnswer, requestOut, responseAnswer, responseOut}
 use Rattle.demands.specs.Kept.{Kept, NlRequestKept, NlResponseKept, LineKept}
 use Rattle.demands.proofs.Bools.{after-held}
 
@@ -59,8 +59,7 @@ by-verdict (Not d) bytes out room =
 -- what a request that is written went through
 pub record RequestHolds (room : ℕ) (w : NlAuthFlags) (a b c d e : List ℕ) : Type 0 where
   pub strings : stringsHold w ≡ Held
-  pub zeros : checkZeros w a b c d e ≡ Clear
-  pub names : checkNames w c d e ≡ Clear
+  pub strings-under : checkUnder w a b c d e ≡ Clear
   pub size : length (requestBytes w a b c d e) ≤ 65535
   pub room-there : length (requestBytes w a b c d e) ≤ room
 
@@ -72,14 +71,12 @@ pub request-holds : (room : ℕ) (w : NlAuthFlags) (a b c d e : List ℕ) → ch
 unfolding checkRequest
 request-holds room w a b c d e h =
     let s = after-held (stringsHold w) NoStrings _ h in
-    let z = clear-both (checkZeros w a b c d e) _ (s .1) in
-    let m = clear-both (checkNames w c d e) _ (z .1) in
+    let m = clear-both (checkUnder w a b c d e) _ (s .1) in
     let n = after-held (sizeHolds (length (requestBytes w a b c d e))) TooLongToWrite _ (m .1) in
     let r = after-held (roomHolds (length (requestBytes w a b c d e)) room) NoRoom _ (n .1) in
     record {
       strings = s .0;
-      zeros = z .0;
-      names = m .0;
+      strings-under = m .0;
       size = leb-true (length (requestBytes w a b c d e)) 65535 (held-true _ (n .0));
       room-there = leb-true (length (requestBytes w a b c d e)) room (held-true _ (r .0));
     }

@@ -139,7 +139,7 @@ unfolding nameBytes
 name-is t = labelled-is (labelsOf t)
 
 request-laid-out : (flags : NlAuthFlags) (a b c d e : List ℕ) → RequestLaidOut (requestBytes (known flags) a b c d e) (flags .bits) a b c d e
-unfolding requestBytes R.headBytes R.stringBytes R.bytesUnder R.nameUnder R.utf8Bytes le32 le16
+unfolding requestBytes R.headBytes R.stringBytes R.bytesUnder R.oemBytes R.nameUnder R.utf8Bytes le32 le16
 request-laid-out flags a b c d e =
     record {
       c-labels = labelsOf c;
@@ -150,7 +150,7 @@ request-laid-out flags a b c d e =
       e-text = text-labels e;
       message-type = refl;
       flags = refl;
-      strings = simp (bit1 (flags .bits), bit2 (flags .bits), bit4 (flags .bits), bit8 (flags .bits), bit16 (flags .bits), name-is c, name-is d, name-is e);
+      strings = simp (bit1 (flags .bits), bit2 (flags .bits), bit4 (flags .bits), bit8 (flags .bits), bit16 (flags .bits), name-is c, name-is d, name-is e, append-assoc);
     }
 
 pub nl-request-by-layout : NlRequestByLayout

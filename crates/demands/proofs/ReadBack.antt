@@ -38,7 +38,7 @@ use Rattle.write_dns_name.specs.Writing.{labelsOf, nameBytes, textHolds, codedH
 use Rattle.write_dns_name.proofs.Back.{back as name-back}
 use Rattle.nl_auth_flags.specs.Flags.{nbDomain, nbComputer, dnsDomain, dnsHost, utf8Computer, known, noFlags, stringsHold}
 use Rattle.read_nl_auth.specs.NlAuth.{noString, stringBytes as ownBytes, beforeZero, holdsZero, stringAt, stringUnder, refusalIn, nameString, onName, nameAt, nameUnder as readUnder, flagsAt, readUtf8, emptyStrings, readRequest, readResponse, readNlAuth}
-use Rattle.write_nl_auth.specs.Writing.{headBytes, stringBytes, bytesUnder, nameUnder, utf8Bytes, requestBytes, responseBytes, noZero, checkZeros, labelsUnder, checkLabels, codedUnder, checkCoded, checkNames, checkRequest, requestAnswer, requestOut, responseAnswer, responseOut}
+use Rattle.write_nl_auth.specs.Writing.{headBytes, stringBytes, bytesUnder, oemBytes, nameUnder, utf8Bytes, requestBytes, responseBytes, noZero, checkZeros, checkLabels, checkCoded, checkStrings, under, checkUnder, checkRequest, requestAnswer, requestOut, responseAnswer, responseOut}
 use Rattle.demands.specs.ReadBack.{NameBack, NlRequestReadsBack, NlResponseReadsBack}
 use Rattle.demands.proofs.DnsText.{text-labels, text-shown}
 use Rattle.demands.proofs.Kept.{request-holds, clear-both}
@@ -127,15 +127,15 @@ module _ (s pre x rest : List ℕ) (e : s ≡ pre ++ (nameBytes x ++ rest)) (l :
       ∙ ap (λ (n : ℕ). Named (record { offset = length pre; len = length (nameBytes x); jumps = 0 }) n) next
 
 name-scan : (s pre x rest : List ℕ) (b : Bool) (i : ℕ) → s ≡ pre ++ (nameUnder b x ++ rest) → 8 ≤ length pre →
-    labelsUnder (b, x) ≡ Held → codedUnder (b, x) ≡ Held →
+    textHolds (under b x) ≡ Held → codedHolds (under b x) ≡ Held →
     readUnder b s (length pre) i ≡ Named (nameFor b (length pre) x) (length (pre ++ nameUnder b x))
-unfolding readUnder nameUnder labelsUnder codedUnder
+unfolding readUnder nameUnder under
 name-scan s pre x rest true i e l h g = name-found s pre x rest e l h g i
 name-scan s pre x rest false i e l h g = simp append-none
 
 name-same : (s pre x rest : List ℕ) (b : Bool) → s ≡ pre ++ (nameUnder b x ++ rest) → 8 ≤ length pre →
-    labelsUnder (b, x) ≡ Held → codedUnder (b, x) ≡ Held → b ≡ true → NameBack s (nameFor b (length pre) x) x
-unfolding nameUnder labelsUnder codedUnder utf8Text
+    textHolds (under b x) ≡ Held → codedHolds (under b x) ≡ Held → b ≡ true → NameBack s (nameFor b (length pre) x) x
+unfolding nameUnder under utf8Text
 name-same s pre x rest true e l h g q =
     let ls : labelsAt (drop 8 s) (length pre - 8) ≡ labelsOf x = name-labels s pre x rest e l h g in
     record {
@@ -151,7 +151,8 @@ name-same s pre x rest false e l h g q = absurd (true-not-false (sym q))
 regroup : (s p y z : List ℕ) → s ≡ p ++ (y ++ z) → s ≡ (p ++ y) ++ z
 regroup s p y z e = e ∙ sym (append-assoc p y z)
 
-no-zero : (b : Bool) (x : List ℕ) → noZero (b, x) ≡ Held → b ≡ true → holdsZero x ≡ false
+no-zero : (b : Bool) (x : List ℕ) → noZero (under b x) ≡ Held → b ≡ true → holdsZero x ≡ false
+unfolding under
 no-zero true x h e = go (holdsZero x) (held-true _ h) where
   go : (t : Bool) → not t ≡ true → t ≡ false
   go true p = absurd (true-not-false (sym p))
@@ -171,26 +172,38 @@ pre3 w a b c = pre2 w a b ++ nameUnder (dnsDomain w) c
 abbrev pre4 : NlAuthFlags → List ℕ → List ℕ → List ℕ → List ℕ → List ℕ
 pre4 w a b c d = pre3 w a b c ++ nameUnder (dnsHost w) d
 
--- checks 50 and 53 held for each of C, D and E
-record NamesHold (w : NlAuthFlags) (c d e : List ℕ) : Type 0 where
-  labels-c : labelsUnder (dnsDomain w, c) ≡ Held
-  labels-d : labelsUnder (dnsHost w, d) ≡ Held
-  labels-e : labelsUnder (utf8Computer w, e) ≡ Held
-  coded-c : codedUnder (dnsDomain w, c) ≡ Held
-  coded-d : codedUnder (dnsHost w, d) ≡ Held
-  coded-e : codedUnder (utf8Computer w, e) ≡ Held
+-- checks 34, 50 and 53 held at each string
+record Hold (a b c d e : List ℕ) : Type 0 where
+  zero-a : noZero a ≡ Held
+  zero-b : noZero b ≡ Held
+  labels-c : textHolds c ≡ Held
+  labels-d : textHolds d ≡ Held
+  labels-e : textHolds e ≡ Held
+  coded-c : codedHolds c ≡ Held
+  coded-d : codedHolds d ≡ Held
+  coded-e : codedHolds e ≡ Held
 
-names-hold : (w : NlAuthFlags) (c d e : List ℕ) → checkNames w c d e ≡ Clear → NamesHold w c d e
-unfolding checkNames checkLabels checkCoded
-names-hold w c d e h =
-    let k = clear-both (checkLabels w c d e) (checkCoded w c d e) h in
-    let l3 = after-held (labelsUnder (dnsDomain w, c)) (WrongLabel 3) _ (k .0) in
-    let l4 = after-held (labelsUnder (dnsHost w, d)) (WrongLabel 4) _ (l3 .1) in
-    let l5 = after-held (labelsUnder (utf8Computer w, e)) (WrongLabel 5) _ (l4 .1) in
-    let c3 = after-held (codedUnder (dnsDomain w, c)) (NameTooLong 3) _ (k .1) in
-    let c4 = after-held (codedUnder (dnsHost w, d)) (NameTooLong 4) _ (c3 .1) in
-    let c5 = after-held (codedUnder (utf8Computer w, e)) (NameTooLong 5) _ (c4 .1) in
-    record { labels-c = l3 .0; labels-d = l4 .0; labels-e = l5 .0; coded-c = c3 .0; coded-d = c4 .0; coded-e = c5 .0 }
+strings-hold : (a b c d e : List ℕ) → checkStrings a b c d e ≡ Clear → Hold a b c d e
+unfolding checkStrings checkZeros checkLabels checkCoded
+strings-hold a b c d e h =
+    let z = clear-both (checkZeros a b c d e) _ h in
+    let k = clear-both (checkLabels c d e) (checkCoded c d e) (z .1) in
+    let z1 = after-held (noZero a) (ZeroInString 1) _ (z .0) in
+    let z2 = after-held (noZero b) (ZeroInString 2) _ (z1 .1) in
+    let l3 = after-held (textHolds c) (WrongLabel 3) _ (k .0) in
+    let l4 = after-held (textHolds d) (WrongLabel 4) _ (l3 .1) in
+    let l5 = after-held (textHolds e) (WrongLabel 5) _ (l4 .1) in
+    let c3 = after-held (codedHolds c) (NameTooLong 3) _ (k .1) in
+    let c4 = after-held (codedHolds d) (NameTooLong 4) _ (c3 .1) in
+    let c5 = after-held (codedHolds e) (NameTooLong 5) _ (c4 .1) in
+    record { zero-a = z1 .0; zero-b = z2 .0; labels-c = l3 .0; labels-d = l4 .0; labels-e = l5 .0; coded-c = c3 .0; coded-d = c4 .0; coded-e = c5 .0 }
+
+abbrev StringsHold : NlAuthFlags → List ℕ → List ℕ → List ℕ → List ℕ → List ℕ → Type 0
+StringsHold w a b c d e = Hold (under (nbDomain w) a) (under (nbComputer w) b) (under (dnsDomain w) c) (under (dnsHost w) d) (under (utf8Computer w) e)
+
+under-hold : (w : NlAuthFlags) (a b c d e : List ℕ) → checkUnder w a b c d e ≡ Clear → StringsHold w a b c d e
+unfolding checkUnder
+under-hold w a b c d e h = strings-hold _ _ _ _ _ h
 
 -- the message that a request reads back as
 abbrev back : NlAuthFlags → List ℕ → List ℕ → List ℕ → List ℕ → List ℕ → NlAuth
@@ -213,8 +226,8 @@ head-long t w = simp (length-append, length-le32)
 
 module _ (w : NlAuthFlags) (a b c d e : List ℕ) where
   at0 : requestBytes w a b c d e ≡ headBytes 0 w ++ (bytesUnder (nbDomain w) a ++ (bytesUnder (nbComputer w) b ++ (nameUnder (dnsDomain w) c ++ (nameUnder (dnsHost w) d ++ nameUnder (utf8Computer w) e))))
-  unfolding requestBytes utf8Bytes
-  at0 = refl
+  unfolding requestBytes oemBytes utf8Bytes
+  at0 = ap (λ (l : List ℕ). headBytes 0 w ++ l) (append-assoc (bytesUnder (nbDomain w) a) (bytesUnder (nbComputer w) b) _)
 
   at1 : requestBytes w a b c d e ≡ pre1 w a ++ (bytesUnder (nbComputer w) b ++ (nameUnder (dnsDomain w) c ++ (nameUnder (dnsHost w) d ++ nameUnder (utf8Computer w) e)))
   at1 = regroup (requestBytes w a b c d e) (headBytes 0 w) (bytesUnder (nbDomain w) a) _ at0
@@ -244,7 +257,7 @@ module _ (w : NlAuthFlags) (a b c d e : List ℕ) where
   long4 = simp length-append (omega (arith, head-long 0 w))
 
   -- the strings that are read are those that were written
-  utf8-back : (fa fb : NlString) → NamesHold w c d e →
+  utf8-back : (fa fb : NlString) → StringsHold w a b c d e →
       readUtf8 w (requestBytes w a b c d e) fa fb (length (pre2 w a b)) ≡
       Taken (record { «message_type» = 0; flags = w; strings = record { «nb_domain» = fa; «nb_computer» = fb; «dns_domain» = nameFor (dnsDomain w) (length (pre2 w a b)) c; «dns_host» = nameFor (dnsHost w) (length (pre3 w a b c)) d; «utf8_computer» = nameFor (utf8Computer w) (length (pre4 w a b c d)) e } })
   unfolding readUtf8
@@ -256,20 +269,18 @@ module _ (w : NlAuthFlags) (a b c d e : List ℕ) where
         eq-eqb (length (pre4 w a b c d ++ nameUnder (utf8Computer w) e)) (length (requestBytes w a b c d e)) (ap length (sym at5)),
       )
 
-  request-back : stringsHold w ≡ Held → checkZeros w a b c d e ≡ Clear → NamesHold w c d e → readRequest w (requestBytes w a b c d e) ≡ Taken (back w a b c d e)
-  unfolding readRequest checkZeros
-  request-back held zeros names =
+  request-back : stringsHold w ≡ Held → StringsHold w a b c d e → readRequest w (requestBytes w a b c d e) ≡ Taken (back w a b c d e)
+  unfolding readRequest
+  request-back held all =
       let s = requestBytes w a b c d e in
-      let z1 = after-held (noZero (nbDomain w, a)) (ZeroInString 1) _ zeros in
-      let z2 = after-held (noZero (nbComputer w, b)) (ZeroInString 2) _ (z1 .1) in
       let s1 : stringUnder (nbDomain w) s 8 ≡ Found (stringFor (nbDomain w) (length (headBytes 0 w)) a) (length (pre1 w a)) =
       subst (λ (k : ℕ). stringUnder (nbDomain w) s k ≡ Found (stringFor (nbDomain w) (length (headBytes 0 w)) a) (length (pre1 w a))) (head-long 0 w)
-      (scan s (headBytes 0 w) a _ (nbDomain w) at0 (no-zero (nbDomain w) a (z1 .0))) in
+      (scan s (headBytes 0 w) a _ (nbDomain w) at0 (no-zero (nbDomain w) a (all .zero-a))) in
       simp (
         held,
         s1,
-        scan s (pre1 w a) b _ (nbComputer w) at1 (no-zero (nbComputer w) b (z2 .0)),
-        utf8-back (stringFor (nbDomain w) (length (headBytes 0 w)) a) (stringFor (nbComputer w) (length (pre1 w a)) b) names,
+        scan s (pre1 w a) b _ (nbComputer w) at1 (no-zero (nbComputer w) b (all .zero-b)),
+        utf8-back (stringFor (nbDomain w) (length (headBytes 0 w)) a) (stringFor (nbComputer w) (length (pre1 w a)) b) all,
       )
 
   -- the head reads back
@@ -285,12 +296,12 @@ module _ (w : NlAuthFlags) (a b c d e : List ℕ) where
   long = simp (at0, length-append) (omega (arith, head-long 0 w))
 
   -- with bits A to E alone
-  read-back : w .bits % 32 ≡ w .bits → stringsHold w ≡ Held → checkZeros w a b c d e ≡ Clear → NamesHold w c d e → length (requestBytes w a b c d e) ≤ 65535 →
+  read-back : w .bits % 32 ≡ w .bits → stringsHold w ≡ Held → StringsHold w a b c d e → length (requestBytes w a b c d e) ≤ 65535 →
       readNlAuth (requestBytes w a b c d e) ≡ Taken (back w a b c d e)
   unfolding readNlAuth
-  read-back low held zeros names size =
+  read-back low held all size =
       let w-same : flagsAt (requestBytes w a b c d e) ≡ w = ap (λ (n : ℕ). record { bits = n }) (ap (λ (n : ℕ). n % 32) flags-back ∙ low) in
-      simp (le-leb (length (requestBytes w a b c d e)) 65535 size, le-leb 8 (length (requestBytes w a b c d e)) long, type-back, w-same) (request-back held zeros names)
+      simp (le-leb (length (requestBytes w a b c d e)) 65535 size, le-leb 8 (length (requestBytes w a b c d e)) long, type-back, w-same) (request-back held all)
 
 -- the bytes that were written are the whole message
 pub written-is : (v : Verdict) (bytes out : List ℕ) (n : ℕ) → answered v bytes ≡ Length n → (v ≡ Clear) × (take n (outAfter v bytes out) ≡ bytes)
@@ -305,11 +316,11 @@ nl-request-reads-back out flags a b c d e n h =
     let w = known flags in
     let t = written-is (checkRequest (length out) w a b c d e) (requestBytes w a b c d e) out n h in
     let r = request-holds (length out) w a b c d e (t .0) in
-    let k = names-hold w c d e (r .names) in
+    let k = under-hold w a b c d e (r .strings-under) in
     rw (t .1)
     (record {
       message = back w a b c d e;
-      read = read-back w a b c d e (low (flags .bits)) (r .strings) (r .zeros) k (r .size);
+      read = read-back w a b c d e (low (flags .bits)) (r .strings) k (r .size);
       message-type = refl;
       flags-same = refl;
       a-same = λ q. scan-bytes (requestBytes w a b c d e) (headBytes 0 w) a _ (nbDomain w) (at0 w a b c d e) (bit 0x1 (bit1 (flags .bits)) q);

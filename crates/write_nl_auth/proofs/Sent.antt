@@ -2,7 +2,7 @@
 use Prim.Native.Nat.{ℕ, _+_, _-_, _^_, _≤_, _<_, min}
 use mathlib.Core.Path.{_≡_, refl, sym, ap, _∙_}
 use mathlib.Core.Bool.{Bool, true, false, not}
-use mathlib.Core.List.{List, [], _∷_, _++_, append-assoc}
+use mathlib.Core.List.{List, [], _∷_}
 use native.Mathlib.Nat.{add-zero}
 use native.Mathlib.Omega.{arith}
 use lib.Dec.{leb, ltb}
@@ -28,8 +28,8 @@ use Rattle.place.proofs.Writings.{whole-length, whole-content}
 use Rattle.nl_auth_flags.specs.declared.NlAuthFlags.{NlAuthFlags}
 use Rattle.nl_auth_flags.specs.Flags.{nbDomain, nbComputer, dnsDomain, dnsHost, utf8Computer, noFlags, stringsHold}
 use Rattle.read_nl_auth.specs.NlAuth.{beforeZero}
-use Rattle.write_dns_name.specs.Writing.{nameBytes, textHolds, codedHolds}
-use Rattle.write_nl_auth.specs.Writing.{headBytes, stringBytes, bytesUnder, nameUnder, utf8Bytes, requestBytes, responseBytes, noZero, checkZeros, labelsUnder, checkLabels, codedUnder, checkCoded, checkNames, checkRequest, requestAnswer, requestOut}
+use Rattle.write_dns_name.specs.Writing.{nameBytes, textHolds}
+use Rattle.write_nl_auth.specs.Writing.{headBytes, stringBytes, bytesUnder, oemBytes, nameUnder, utf8Bytes, requestBytes, responseBytes, noZero, checkZeros, checkLabels, checkCoded, checkStrings, under, checkUnder, checkRequest, requestAnswer, requestOut}
 
 -- the string of a bit that was told to be set
 module _ (s : List ℕ) (d : Bool) (h : d ≡ true) where
@@ -50,9 +50,6 @@ module _ (s : List ℕ) (d : Bool) (h : d ≡ true) where
   pub set-size : (n m r : ℕ) → m ≡ min 65536 (n + length s) → r ≡ min 65536 (m + 1) → r ≡ min 65536 (n + length (bytesUnder d s))
   set-size n m r e f = omega (arith, set-length)
 
-  pub set-zero : (n : ℕ) (r : Checked) → n ≡ beforeZero s → r ≡ checked (not (ltb n (length s))) → r ≡ noZero (d, s)
-  set-zero n r e f = f ∙ simp (h, e)
-
 -- and of one that was told to be clear
 module _ (s : List ℕ) (d : Bool) (h : d ≡ false) where
   clear-bytes : bytesUnder d s ≡ []
@@ -64,9 +61,6 @@ module _ (s : List ℕ) (d : Bool) (h : d ≡ false) where
 
   pub clear-size : (n : ℕ) → n ≤ 65536 → n ≡ min 65536 (n + length (bytesUnder d s))
   clear-size n l = simp (clear-bytes, add-zero) (omega arith)
-
-  pub clear-zero : Held ≡ noZero (d, s)
-  clear-zero = simp h
 
 -- the name of a bit that was told to be set
 module _ (s : List ℕ) (d : Bool) (h : d ≡ true) where
@@ -86,17 +80,9 @@ module _ (s : List ℕ) (d : Bool) (h : d ≡ true) where
   pub set-name-size : (n m r : ℕ) → m ≡ min 65536 (length (nameBytes s)) → r ≡ min 65536 (n + m) → r ≡ min 65536 (n + length (nameUnder d s))
   set-name-size n m r e f = omega (arith, ap length set-name)
 
-  pub set-labels : (r : Checked) → r ≡ textHolds s → r ≡ labelsUnder (d, s)
-  unfolding labelsUnder
-  set-labels r e = rw h e
-
-  pub set-held : labelsUnder (d, s) ≡ Held → textHolds s ≡ Held
-  unfolding labelsUnder
+  pub set-held : textHolds (under d s) ≡ Held → textHolds s ≡ Held
+  unfolding under
   set-held e = rw h at e
-
-  pub set-coded : (r : Checked) → r ≡ codedHolds s → r ≡ codedUnder (d, s)
-  unfolding codedUnder
-  set-coded r e = rw h e
 
 -- and of one that was told to be clear
 module _ (s : List ℕ) (d : Bool) (h : d ≡ false) where
@@ -110,46 +96,50 @@ module _ (s : List ℕ) (d : Bool) (h : d ≡ false) where
   pub clear-name-size : (n : ℕ) → n ≤ 65536 → n ≡ min 65536 (n + length (nameUnder d s))
   clear-name-size n l = simp (clear-name, add-zero) (omega arith)
 
-  pub clear-labels : Held ≡ labelsUnder (d, s)
-  unfolding labelsUnder
-  clear-labels = rw h
+-- check 34, by the place of a zero byte
+pub zero-asked : (s : List ℕ) (n : ℕ) (r : Checked) → n ≡ beforeZero s → r ≡ checked (not (ltb n (length s))) → r ≡ noZero s
+zero-asked s n r e f = rw e at f
 
-  pub clear-coded : Held ≡ codedUnder (d, s)
-  unfolding codedUnder
-  clear-coded = rw h
+-- what the checks of the strings take of a bit's
+pub set-under : (s : List ℕ) (d : Bool) → d ≡ true → s ≡ under d s
+unfolding under
+set-under s d h = rw h
 
--- the string of a bit d, whose question was answered by b
-module _ (s : List ℕ) (b d : Bool) (q : b ≡ d) where
-  pub asked-zero : (r : Checked) → r ≡ noZero (b, s) → r ≡ noZero (d, s)
-  asked-zero r e = rw (← q) e
+pub clear-under : (s : List ℕ) (d : Bool) → d ≡ false → [] ≡ under d s
+unfolding under
+clear-under s d h = rw h
 
-  pub asked-labels : (r : Checked) → r ≡ labelsUnder (b, s) → r ≡ labelsUnder (d, s)
-  asked-labels r e = rw (← q) e
+module _ (flags : NlAuthFlags) (a b c d e a′ b′ c′ d′ e′ : List ℕ) (v w x y z : Bool)
+    (p : v ≡ nbDomain flags) (q : w ≡ nbComputer flags) (r : x ≡ dnsDomain flags) (s : y ≡ dnsHost flags) (t : z ≡ utf8Computer flags) where
+  pub of-strings : a′ ≡ under v a → b′ ≡ under w b → c′ ≡ under x c → d′ ≡ under y d → e′ ≡ under z e →
+      (k : Verdict) → k ≡ checkStrings a′ b′ c′ d′ e′ → k ≡ checkUnder flags a b c d e
+  unfolding checkUnder
+  of-strings f g h i j k l = rw (← p, ← q, ← r, ← s, ← t, ← f, ← g, ← h, ← i, ← j) l
 
-  pub asked-coded : (r : Checked) → r ≡ codedUnder (b, s) → r ≡ codedUnder (d, s)
-  asked-coded r e = rw (← q) e
-
-  pub asked-held : labelsUnder (d, s) ≡ Held → labelsUnder (b, s) ≡ Held
-  asked-held e = rw q e
-
--- check 50 held for each of C, D and E
+-- check 50 held for each of C, D and E, whose bits' questions were answered
 first-held : (k : Checked) (e : Refusal) (x : Verdict) → after k (Refused e) x ≡ Clear → (k ≡ Held) × (x ≡ Clear)
 first-held Held e x h = (refl, h)
 first-held Failed e x h = (cc, cc)
 
-module _ (flags : NlAuthFlags) (c d e : List ℕ) (h : checkLabels flags c d e ≡ Clear) where
-  held-c : (labelsUnder (dnsDomain flags, c) ≡ Held) × (after (labelsUnder (dnsHost flags, d)) (Refused (WrongLabel 4)) (after (labelsUnder (utf8Computer flags, e)) (Refused (WrongLabel 5)) Clear) ≡ Clear)
+module _ (c d e : List ℕ) (h : checkLabels c d e ≡ Clear) where
+  held-c : (textHolds c ≡ Held) × (after (textHolds d) (Refused (WrongLabel 4)) (after (textHolds e) (Refused (WrongLabel 5)) Clear) ≡ Clear)
   unfolding checkLabels
-  held-c = first-held (labelsUnder (dnsDomain flags, c)) (WrongLabel 3) _ h
+  held-c = first-held (textHolds c) (WrongLabel 3) _ h
 
-  pub labels-c : labelsUnder (dnsDomain flags, c) ≡ Held
+  held-d : (textHolds d ≡ Held) × (after (textHolds e) (Refused (WrongLabel 5)) Clear ≡ Clear)
+  held-d = first-held (textHolds d) (WrongLabel 4) _ (held-c .1)
+
+  pub labels-c : textHolds c ≡ Held
   labels-c = held-c .0
 
-  pub labels-d : labelsUnder (dnsHost flags, d) ≡ Held
-  labels-d = first-held (labelsUnder (dnsHost flags, d)) (WrongLabel 4) _ (held-c .1) .0
+  pub labels-d : textHolds d ≡ Held
+  labels-d = held-d .0
 
-  pub labels-e : labelsUnder (utf8Computer flags, e) ≡ Held
-  labels-e = first-held (labelsUnder (utf8Computer flags, e)) (WrongLabel 5) _ (first-held (labelsUnder (dnsHost flags, d)) (WrongLabel 4) _ (held-c .1) .1) .0
+  pub labels-e : textHolds e ≡ Held
+  labels-e = first-held (textHolds e) (WrongLabel 5) _ (held-d .1) .0
+
+pub asked-held : (s : List ℕ) (b d : Bool) → b ≡ d → textHolds (under d s) ≡ Held → textHolds (under b s) ≡ Held
+asked-held s b d q e = rw q e
 
 -- lengths
 length-head : (t : ℕ) (flags : NlAuthFlags) → length (headBytes t flags) ≡ 8
@@ -167,8 +157,24 @@ module _ (flags : NlAuthFlags) (a b c d e : List ℕ) where
       + (length (nameUnder (dnsHost flags) d) + length (nameUnder (utf8Computer flags) e)))))
 
   pub length-request : length (requestBytes flags a b c d e) ≡ requestSize
-  unfolding requestBytes utf8Bytes
-  length-request = simp (length-append, length-head)
+  unfolding requestBytes oemBytes utf8Bytes
+  length-request = simp (length-append, length-head) (omega arith)
+
+  -- a request whose bytes have room in l: room for its head, for A and B after that, and for C to E after those
+  module _ (l : List ℕ) (fits : length (requestBytes flags a b c d e) ≤ length l) where
+    parts : 8 + (length (oemBytes flags a b) + length (utf8Bytes flags c d e)) ≤ length l
+    unfolding requestBytes
+    parts = simp (length-append, length-head) at fits
+
+    pub head-fits : 8 ≤ length l
+    head-fits = omega (arith, parts)
+
+    module _ (h xs : List ℕ) (i : ℕ) (at : i ≡ 8) (u : Wrote l h 0 i xs) where
+      pub oem-fits : i + length (oemBytes flags a b) ≤ length h
+      oem-fits = omega (arith, parts, kept l h xs 0 i u)
+
+      pub utf8-fits : (k : List ℕ) (j : ℕ) → Wrote h k i j (oemBytes flags a b) → j + length (utf8Bytes flags c d e) ≤ length k
+      utf8-fits k j w = omega (arith, parts, w .place, kept l h xs 0 i u, kept h k (oemBytes flags a b) i j w)
 
   -- its strings, by the answers v to z to their bits' questions
   module _ (v w x y z : Bool) (p : v ≡ nbDomain flags) (q : w ≡ nbComputer flags) (r : x ≡ dnsDomain flags) (s : y ≡ dnsHost flags) (t : z ≡ utf8Computer flags) where
@@ -186,82 +192,87 @@ module _ (flags : NlAuthFlags) (a b c d e : List ℕ) where
     size-is k l m n o f g h i j = omega (arith, length-request, answered-size)
 
 -- strings after one another, by the answers to their bits' questions: room for each, and what they come to
-module _ (flags : NlAuthFlags) (a b l : List ℕ) (i : ℕ) (room : i + (length (bytesUnder (nbDomain flags) a) + length (bytesUnder (nbComputer flags) b)) ≤ length l)
-    (v : Bool) (p : v ≡ nbDomain flags) where
+module _ (flags : NlAuthFlags) (a b l : List ℕ) (i : ℕ) (room : i + length (oemBytes flags a b) ≤ length l) (v : Bool) (p : v ≡ nbDomain flags) where
+  both-fit : i + (length (bytesUnder (nbDomain flags) a) + length (bytesUnder (nbComputer flags) b)) ≤ length l
+  unfolding oemBytes
+  both-fit = simp length-append at room
+
   pub room-a : i + length (bytesUnder v a) ≤ length l
-  room-a = rw p (omega arith)
+  room-a = rw p (omega (arith, both-fit))
 
   module _ (k : List ℕ) (j : ℕ) (u : Wrote l k i j (bytesUnder v a)) (w : Bool) (q : w ≡ nbComputer flags) where
     pub room-b : j + length (bytesUnder w b) ≤ length k
-    room-b = rw q (omega (arith, (rw p at u) .place, kept l k _ i j u))
+    room-b = rw q (omega (arith, both-fit, (rw p at u) .place, kept l k _ i j u))
 
-    module _ (m : List ℕ) (n : ℕ) (x : Wrote k m j n (bytesUnder w b)) where
-      pub oem-wrote : Wrote l m i n (bytesUnder (nbDomain flags) a ++ bytesUnder (nbComputer flags) b)
-      oem-wrote = rw (← p, ← q) (and-then l k m _ _ i j n u x)
+    pub oem-wrote : (m : List ℕ) (n : ℕ) → Wrote k m j n (bytesUnder w b) → Wrote l m i n (oemBytes flags a b)
+    unfolding oemBytes
+    oem-wrote m n x = rw (← p, ← q) (and-then l k m _ _ i j n u x)
 
-      pub oem-next : n ≡ i + (length (bytesUnder (nbDomain flags) a) + length (bytesUnder (nbComputer flags) b))
-      oem-next = omega (arith, (rw p at u) .place, (rw q at x) .place)
+module _ (flags : NlAuthFlags) (c d e l : List ℕ) (i : ℕ) (room : i + length (utf8Bytes flags c d e) ≤ length l) (x : Bool) (p : x ≡ dnsDomain flags) where
+  all-fit : i + (length (nameUnder (dnsDomain flags) c) + (length (nameUnder (dnsHost flags) d) + length (nameUnder (utf8Computer flags) e))) ≤ length l
+  unfolding utf8Bytes
+  all-fit = simp length-append at room
 
-module _ (flags : NlAuthFlags) (c d e l : List ℕ) (i : ℕ)
-    (room : i + (length (nameUnder (dnsDomain flags) c) + (length (nameUnder (dnsHost flags) d) + length (nameUnder (utf8Computer flags) e))) ≤ length l)
-    (x : Bool) (p : x ≡ dnsDomain flags) where
   pub room-c : i + length (nameUnder x c) ≤ length l
-  room-c = rw p (omega arith)
+  room-c = rw p (omega (arith, all-fit))
 
   module _ (k : List ℕ) (j : ℕ) (u : Wrote l k i j (nameUnder x c)) (y : Bool) (q : y ≡ dnsHost flags) where
     pub room-d : j + length (nameUnder y d) ≤ length k
-    room-d = rw q (omega (arith, (rw p at u) .place, kept l k _ i j u))
+    room-d = rw q (omega (arith, all-fit, (rw p at u) .place, kept l k _ i j u))
 
     module _ (m : List ℕ) (n : ℕ) (v : Wrote k m j n (nameUnder y d)) (z : Bool) (s : z ≡ utf8Computer flags) where
       pub room-e : n + length (nameUnder z e) ≤ length m
-      room-e = rw s (omega (arith, (rw p at u) .place, (rw q at v) .place, kept l k _ i j u, kept k m _ j n v))
+      room-e = rw s (omega (arith, all-fit, (rw p at u) .place, (rw q at v) .place, kept l k _ i j u, kept k m _ j n v))
 
       pub names-wrote : (o : List ℕ) (r : ℕ) → Wrote m o n r (nameUnder z e) → Wrote l o i r (utf8Bytes flags c d e)
       unfolding utf8Bytes
       names-wrote o r w = rw (← p, ← q, ← s) (and-then l k o _ _ i j r u (and-then k m o _ _ j n r v w))
 
 -- the head, the OEM strings and the UTF-8 strings
-pub request-wrote : (flags : NlAuthFlags) (a b c d e l h k m : List ℕ) (i j n : ℕ) → Wrote l h 0 i (headBytes 0 flags) →
-    Wrote h k i j (bytesUnder (nbDomain flags) a ++ bytesUnder (nbComputer flags) b) → Wrote k m j n (utf8Bytes flags c d e) →
+pub request-wrote : (flags : NlAuthFlags) (a b c d e l h k m : List ℕ) (i j n : ℕ) →
+    Wrote l h 0 i (headBytes 0 flags) → Wrote h k i j (oemBytes flags a b) → Wrote k m j n (utf8Bytes flags c d e) →
     Wrote l m 0 n (requestBytes flags a b c d e)
 unfolding requestBytes
-request-wrote flags a b c d e l h k m i j n u v w =
-    and-then l h m _ _ 0 i n u
-    (rw (← append-assoc (bytesUnder (nbDomain flags) a) (bytesUnder (nbComputer flags) b) (utf8Bytes flags c d e)) (and-then h k m _ _ i j n v w))
+request-wrote flags a b c d e l h k m i j n u v w = and-then l h m _ _ 0 i n u (and-then h k m _ _ i j n v w)
 
 -- ---- the checks
 
-room-held : (k m : Checked) (z v : Verdict) (t : Bool) →
-    after k (Refused NoStrings) (onClear Refused z (onClear Refused v (after m (Refused TooLongToWrite) (after (checked t) (Refused NoRoom) Clear)))) ≡ Clear →
+room-held : (k m : Checked) (v : Verdict) (t : Bool) →
+    after k (Refused NoStrings) (onClear Refused v (after m (Refused TooLongToWrite) (after (checked t) (Refused NoRoom) Clear))) ≡ Clear →
     (v ≡ Clear) × (t ≡ true)
-room-held Held Held Clear Clear true h = (refl, refl)
-room-held Held Held Clear Clear false h = (cc, cc)
-room-held Held Failed Clear Clear t h = (cc, cc)
-room-held Held m Clear (Refused e) t h = (cc, cc)
-room-held Held m (Refused e) v t h = (cc, cc)
-room-held Failed m z v t h = (cc, cc)
+room-held Held Held Clear true h = (refl, refl)
+room-held Held Held Clear false h = (cc, cc)
+room-held Held Failed Clear t h = (cc, cc)
+room-held Held m (Refused e) t h = (cc, cc)
+room-held Failed m v t h = (cc, cc)
 
-labels-held : (v w : Verdict) → onClear Refused v w ≡ Clear → v ≡ Clear
-labels-held Clear w h = refl
-labels-held (Refused e) w h = cc
+labels-held : (z v w : Verdict) → onClear Refused z (onClear Refused v w) ≡ Clear → v ≡ Clear
+labels-held Clear Clear w h = refl
+labels-held Clear (Refused e) w h = cc
+labels-held (Refused e) v w h = cc
+
+pub under-labels : (flags : NlAuthFlags) (a b c d e : List ℕ) → checkUnder flags a b c d e ≡ Clear →
+    checkLabels (under (dnsDomain flags) c) (under (dnsHost flags) d) (under (utf8Computer flags) e) ≡ Clear
+unfolding checkUnder checkStrings
+under-labels flags a b c d e h =
+    let c′ : List ℕ = under (dnsDomain flags) c in
+    let d′ : List ℕ = under (dnsHost flags) d in
+    let e′ : List ℕ = under (utf8Computer flags) e in
+    labels-held (checkZeros (under (nbDomain flags) a) (under (nbComputer flags) b) c′ d′ e′) (checkLabels c′ d′ e′) (checkCoded c′ d′ e′) h
 
 -- a request whose checks held has its room
 module _ (flags : NlAuthFlags) (a b c d e : List ℕ) (room : ℕ) (v : Verdict) (p : v ≡ checkRequest room flags a b c d e) (h : v ≡ Clear) where
-  held : (checkNames flags c d e ≡ Clear) × (leb (length (requestBytes flags a b c d e)) room ≡ true)
+  held : (checkUnder flags a b c d e ≡ Clear) × (leb (length (requestBytes flags a b c d e)) room ≡ true)
   unfolding checkRequest
   held =
       let n : ℕ = length (requestBytes flags a b c d e) in
-      room-held (stringsHold flags) (sizeHolds n) (checkZeros flags a b c d e) (checkNames flags c d e) (leb n room) (sym p ∙ h)
+      room-held (stringsHold flags) (sizeHolds n) (checkUnder flags a b c d e) (leb n room) (sym p ∙ h)
 
-  pub request-labels : checkLabels flags c d e ≡ Clear
-  unfolding checkNames
-  request-labels = labels-held (checkLabels flags c d e) (checkCoded flags c d e) (held .0)
+  pub request-strings : checkUnder flags a b c d e ≡ Clear
+  request-strings = held .0
 
   pub request-fits : length (requestBytes flags a b c d e) ≤ room
   request-fits = leb-true (length (requestBytes flags a b c d e)) room (held .1)
-
-  pub request-room : requestSize flags a b c d e ≤ room
-  request-room = rw (length-request flags a b c d e) at request-fits
 
 -- a response
 pub of-response : (room : ℕ) (r : Checked) → r ≡ roomHolds 9 room → r ≡ roomHolds (length responseBytes) room

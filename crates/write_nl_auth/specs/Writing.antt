@@ -1,10 +1,9 @@
 -- NL_AUTH_MESSAGE (MS-NRPC 2.2.1.3.1), written as documents 01 and 02 set it out, into a lent output.
 use Prim.Native.Nat.{ℕ}
-use mathlib.Core.Bool.{Bool, _&&_, not, cond}
+use mathlib.Core.Bool.{Bool, not, cond}
 use mathlib.Core.List.{List, [], _∷_, _++_}
 use lib.ListN.{length}
 use Rattle.wire.specs.declared.check.Checked.{Checked}
-use Rattle.wire.specs.declared.check.Checked.the-variants.{Held}
 use Rattle.wire.specs.declared.check.Verdict.{Verdict}
 use Rattle.wire.specs.declared.check.Verdict.the-variants.{Clear, Refused as Not}
 use Rattle.wire.specs.declared.refusal.Refusal.the-variants.{NoStrings, TooLongToWrite, NoRoom, ZeroInString, WrongLabel, NameTooLong}
@@ -32,6 +31,10 @@ stringBytes x = x ++ (0 ∷ [])
 unfoldable pub bytesUnder : Bool → List ℕ → List ℕ
 bytesUnder set x = cond set (stringBytes x) []
 
+-- the OEM strings, A and B
+unfoldable pub oemBytes : NlAuthFlags → List ℕ → List ℕ → List ℕ
+oemBytes flags a b = bytesUnder (nbDomain flags) a ++ bytesUnder (nbComputer flags) b
+
 -- the UTF-8 strings, C to E: "without jumps, from text split at full stops"
 unfoldable pub nameUnder : Bool → List ℕ → List ℕ
 nameUnder set x = cond set (nameBytes x) []
@@ -44,11 +47,7 @@ utf8Bytes flags c d e =
 
 -- a request: one string for each set bit, A first
 unfoldable pub requestBytes : NlAuthFlags → List ℕ → List ℕ → List ℕ → List ℕ → List ℕ → List ℕ
-requestBytes flags a b c d e =
-    headBytes 0 flags ++ (
-    bytesUnder (nbDomain flags) a ++ (
-    bytesUnder (nbComputer flags) b ++
-    utf8Bytes flags c d e))
+requestBytes flags a b c d e = headBytes 0 flags ++ (oemBytes flags a b ++ utf8Bytes flags c d e)
 
 -- a response: its flags are zero, its buffer is one zero byte
 unfoldable pub responseBytes : List ℕ
@@ -56,48 +55,49 @@ responseBytes = headBytes 1 noFlags ++ (0 ∷ [])
 
 -- ---- the checks
 
--- strings C to E with their bits, C first
-abbrev pub names : NlAuthFlags → List ℕ → List ℕ → List ℕ → List (ℕ × (Bool × List ℕ))
-names flags c d e = (3, (dnsDomain flags, c)) ∷ (4, (dnsHost flags, d)) ∷ (5, (utf8Computer flags, e)) ∷ []
+-- strings C to E by number, C first
+abbrev pub names : List ℕ → List ℕ → List ℕ → List (ℕ × List ℕ)
+names c d e = (3, c) ∷ (4, d) ∷ (5, e) ∷ []
 
--- check 34 at one string: a set bit's string holds no zero byte
-abbrev pub noZero : Bool × List ℕ → Checked
-noZero x = checked (not (x .0 && holdsZero (x .1)))
+-- check 34 at one string: it holds no zero byte
+abbrev pub noZero : List ℕ → Checked
+noZero x = checked (not (holdsZero x))
 
--- check 34, A first, and its part over C to E
-unfoldable pub checkNameZeros : NlAuthFlags → List ℕ → List ℕ → List ℕ → Verdict
-checkNameZeros flags c d e = overAll noZero ZeroInString (names flags c d e)
+unfoldable pub checkZeros : List ℕ → List ℕ → List ℕ → List ℕ → List ℕ → Verdict
+checkZeros a b c d e = overAll noZero ZeroInString ((1, a) ∷ (2, b) ∷ names c d e)
 
-unfoldable pub checkZeros : NlAuthFlags → List ℕ → List ℕ → List ℕ → List ℕ → List ℕ → Verdict
-checkZeros flags a b c d e = overAll noZero ZeroInString ((1, (nbDomain flags, a)) ∷ (2, (nbComputer flags, b)) ∷ names flags c d e)
+-- check 50: labels have 1 to 63 bytes
+unfoldable pub checkLabels : List ℕ → List ℕ → List ℕ → Verdict
+checkLabels c d e = overAll textHolds WrongLabel (names c d e)
 
--- check 50 at one string: the labels of a set bit's string have 1 to 63 bytes
-unfoldable pub labelsUnder : Bool × List ℕ → Checked
-labelsUnder x = cond (x .0) (textHolds (x .1)) Held
+-- check 53: the coded length is at most 255
+unfoldable pub checkCoded : List ℕ → List ℕ → List ℕ → Verdict
+checkCoded c d e = overAll codedHolds NameTooLong (names c d e)
 
-unfoldable pub checkLabels : NlAuthFlags → List ℕ → List ℕ → List ℕ → Verdict
-checkLabels flags c d e = overAll labelsUnder WrongLabel (names flags c d e)
+-- 34, then "50 .. then 53", each over all strings
+unfoldable pub checkStrings : List ℕ → List ℕ → List ℕ → List ℕ → List ℕ → Verdict
+checkStrings a b c d e =
+    onClear Not (checkZeros a b c d e) (
+    onClear Not (checkLabels c d e)
+    (checkCoded c d e))
 
--- check 53 at one string: its coded length is at most 255
-unfoldable pub codedUnder : Bool × List ℕ → Checked
-codedUnder x = cond (x .0) (codedHolds (x .1)) Held
+-- the string of a bit as these checks take it: that of a clear bit is empty, and none of them fails at an empty one
+unfoldable pub under : Bool → List ℕ → List ℕ
+under set x = cond set x []
 
-unfoldable pub checkCoded : NlAuthFlags → List ℕ → List ℕ → List ℕ → Verdict
-checkCoded flags c d e = overAll codedUnder NameTooLong (names flags c d e)
-
--- "50 .. then 53", each over all strings
-unfoldable pub checkNames : NlAuthFlags → List ℕ → List ℕ → List ℕ → Verdict
-checkNames flags c d e = onClear Not (checkLabels flags c d e) (checkCoded flags c d e)
+unfoldable pub checkUnder : NlAuthFlags → List ℕ → List ℕ → List ℕ → List ℕ → List ℕ → Verdict
+checkUnder flags a b c d e =
+    checkStrings (under (nbDomain flags) a) (under (nbComputer flags) b)
+    (under (dnsDomain flags) c) (under (dnsHost flags) d) (under (utf8Computer flags) e)
 
 -- a request, for an output of so many bytes: 14, 34, 50, 53, 30, 33
 unfoldable pub checkRequest : ℕ → NlAuthFlags → List ℕ → List ℕ → List ℕ → List ℕ → List ℕ → Verdict
 checkRequest room flags a b c d e =
     after (stringsHold flags) (Not NoStrings) (
-    onClear Not (checkZeros flags a b c d e) (
-    onClear Not (checkNames flags c d e) (
+    onClear Not (checkUnder flags a b c d e) (
     after (sizeHolds (length (requestBytes flags a b c d e))) (Not TooLongToWrite) (
     after (roomHolds (length (requestBytes flags a b c d e)) room) (Not NoRoom)
-    Clear))))
+    Clear)))
 
 -- ---- what a writing answers, and what it leaves in the output
 

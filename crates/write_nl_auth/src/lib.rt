@@ -1,14 +1,16 @@
 // NL_AUTH_MESSAGE (MS-NRPC 2.2.1.3.1): writing. The strings of bits A to E are lent as `a` to `e`;
 // C, D and E are texts, written as names by RFC 1035.
 ghost use mathlib.Core.Path.{_≡_};
-ghost use mathlib.Core.List.{_++_};
 ghost use Prim.Native.Nat.{_+_, _≤_, min};
 ghost use lib.ListN.{length};
 ghost use Rattle.wire.specs.declared.check.Checked.the-variants.{Held};
 ghost use Rattle.wire.specs.declared.check.Verdict.the-variants.{Clear};
 ghost use Rattle.place.specs.Place.{Wrote};
-ghost use Rattle.nl_auth_flags.specs.Flags.{nbDomain, nbComputer, dnsDomain, dnsHost, utf8Computer, known};
-ghost use Rattle.write_nl_auth.specs.Writing.{headBytes, stringBytes, bytesUnder, nameUnder, utf8Bytes, requestBytes, noZero, checkNameZeros, checkZeros, labelsUnder, checkLabels, codedUnder, checkCoded, checkNames, checkRequest, requestAnswer, requestOut, responseAnswer, responseOut};
+ghost use Rattle.nl_auth_flags.specs.Flags.{dnsDomain, dnsHost, utf8Computer, known};
+ghost use Rattle.write_dns_name.specs.Writing.{textHolds};
+ghost use Rattle.write_nl_auth.specs.Writing.{headBytes, stringBytes, bytesUnder, oemBytes, nameUnder, utf8Bytes, requestBytes};
+ghost use Rattle.write_nl_auth.specs.Writing.{noZero, checkZeros, checkLabels, checkCoded, checkStrings, under, checkUnder};
+ghost use Rattle.write_nl_auth.specs.Writing.{checkRequest, requestAnswer, requestOut, responseAnswer, responseOut};
 use nl_auth_flags::NlAuthFlags;
 use place::Place;
 use place::written::Written;
@@ -26,106 +28,103 @@ use write_dns_name::coded_size;
 use write_dns_name::put_name;
 use write_dns_name::text_holds;
 
-// Check 34 at the string of a bit. Where the bit isn't set the string isn't looked at.
-fn no_zero(set: bool, string: &[u8]) -> Checked
-    ensures { λ r. ⌜ r ≡ noZero (set, now (string .entry)) ⌝ }
+// Check 34 at one string.
+fn no_zero(string: &[u8]) -> Checked
+    ensures { λ r. ⌜ r ≡ noZero (now (string .entry)) ⌝ }
 {
-    if set {
-        return check(!(before_zero(string) < string.len()));
-    }
-    Checked::Held
+    check(!(before_zero(string) < string.len()))
 }
 
-// Check 34 over C to E.
-fn check_name_zeros(flags: NlAuthFlags, c: &[u8], d: &[u8], e: &[u8]) -> Verdict
-    ensures { λ r. ⌜ r ≡ checkNameZeros flags (now (c .entry)) (now (d .entry)) (now (e .entry)) ⌝ }
+// Check 34, A first.
+fn check_zeros(a: &[u8], b: &[u8], c: &[u8], d: &[u8], e: &[u8]) -> Verdict
+    ensures { λ r. ⌜ r ≡ checkZeros (now (a .entry)) (now (b .entry)) (now (c .entry)) (now (d .entry)) (now (e .entry)) ⌝ }
 {
-    let Checked::Held = no_zero(flags.dns_domain(), c) else {
+    let Checked::Held = no_zero(a) else {
+        return Verdict::Refused(Refusal::ZeroInString(1));
+    };
+    let Checked::Held = no_zero(b) else {
+        return Verdict::Refused(Refusal::ZeroInString(2));
+    };
+    let Checked::Held = no_zero(c) else {
         return Verdict::Refused(Refusal::ZeroInString(3));
     };
-    let Checked::Held = no_zero(flags.dns_host(), d) else {
+    let Checked::Held = no_zero(d) else {
         return Verdict::Refused(Refusal::ZeroInString(4));
     };
-    let Checked::Held = no_zero(flags.utf8_computer(), e) else {
+    let Checked::Held = no_zero(e) else {
         return Verdict::Refused(Refusal::ZeroInString(5));
     };
     Verdict::Clear
 }
 
-// Check 34, A first.
-fn check_zeros(flags: NlAuthFlags, a: &[u8], b: &[u8], c: &[u8], d: &[u8], e: &[u8]) -> Verdict
-    ensures { λ r. ⌜ r ≡ checkZeros flags (now (a .entry)) (now (b .entry)) (now (c .entry)) (now (d .entry)) (now (e .entry)) ⌝ }
-{
-    let Checked::Held = no_zero(flags.nb_domain(), a) else {
-        return Verdict::Refused(Refusal::ZeroInString(1));
-    };
-    let Checked::Held = no_zero(flags.nb_computer(), b) else {
-        return Verdict::Refused(Refusal::ZeroInString(2));
-    };
-    check_name_zeros(flags, c, d, e)
-}
-
-// Check 50 at the string of a bit.
-fn labels_under(set: bool, text: &[u8]) -> Checked
-    ensures { λ r. ⌜ r ≡ labelsUnder (set, now (text .entry)) ⌝ }
-{
-    if set {
-        return text_holds(text);
-    }
-    Checked::Held
-}
-
 // Check 50, C first.
-fn check_labels(flags: NlAuthFlags, c: &[u8], d: &[u8], e: &[u8]) -> Verdict
-    ensures { λ r. ⌜ r ≡ checkLabels flags (now (c .entry)) (now (d .entry)) (now (e .entry)) ⌝ }
+fn check_labels(c: &[u8], d: &[u8], e: &[u8]) -> Verdict
+    ensures { λ r. ⌜ r ≡ checkLabels (now (c .entry)) (now (d .entry)) (now (e .entry)) ⌝ }
 {
-    let Checked::Held = labels_under(flags.dns_domain(), c) else {
+    let Checked::Held = text_holds(c) else {
         return Verdict::Refused(Refusal::WrongLabel(3));
     };
-    let Checked::Held = labels_under(flags.dns_host(), d) else {
+    let Checked::Held = text_holds(d) else {
         return Verdict::Refused(Refusal::WrongLabel(4));
     };
-    let Checked::Held = labels_under(flags.utf8_computer(), e) else {
+    let Checked::Held = text_holds(e) else {
         return Verdict::Refused(Refusal::WrongLabel(5));
     };
     Verdict::Clear
 }
 
-// Check 53 at the string of a bit.
-fn coded_under(set: bool, text: &[u8]) -> Checked
-    ensures { λ r. ⌜ r ≡ codedUnder (set, now (text .entry)) ⌝ }
-{
-    if set {
-        return coded_holds(text);
-    }
-    Checked::Held
-}
-
 // Check 53, C first.
-fn check_coded(flags: NlAuthFlags, c: &[u8], d: &[u8], e: &[u8]) -> Verdict
-    ensures { λ r. ⌜ r ≡ checkCoded flags (now (c .entry)) (now (d .entry)) (now (e .entry)) ⌝ }
+fn check_coded(c: &[u8], d: &[u8], e: &[u8]) -> Verdict
+    ensures { λ r. ⌜ r ≡ checkCoded (now (c .entry)) (now (d .entry)) (now (e .entry)) ⌝ }
 {
-    let Checked::Held = coded_under(flags.dns_domain(), c) else {
+    let Checked::Held = coded_holds(c) else {
         return Verdict::Refused(Refusal::NameTooLong(3));
     };
-    let Checked::Held = coded_under(flags.dns_host(), d) else {
+    let Checked::Held = coded_holds(d) else {
         return Verdict::Refused(Refusal::NameTooLong(4));
     };
-    let Checked::Held = coded_under(flags.utf8_computer(), e) else {
+    let Checked::Held = coded_holds(e) else {
         return Verdict::Refused(Refusal::NameTooLong(5));
     };
     Verdict::Clear
 }
 
-// Checks 50 and 53, each over all strings.
-fn check_names(flags: NlAuthFlags, c: &[u8], d: &[u8], e: &[u8]) -> Verdict
-    ensures { λ r. ⌜ r ≡ checkNames flags (now (c .entry)) (now (d .entry)) (now (e .entry)) ⌝ }
+// Checks 34, 50 and 53, each over all strings.
+fn check_strings(a: &[u8], b: &[u8], c: &[u8], d: &[u8], e: &[u8]) -> Verdict
+    ensures { λ r. ⌜ r ≡ checkStrings (now (a .entry)) (now (b .entry)) (now (c .entry)) (now (d .entry)) (now (e .entry)) ⌝ }
 {
-    let labels = check_labels(flags, c, d, e);
+    let zeros = check_zeros(a, b, c, d, e);
+    let Verdict::Clear = zeros else {
+        return zeros;
+    };
+    let labels = check_labels(c, d, e);
     let Verdict::Clear = labels else {
         return labels;
     };
-    check_coded(flags, c, d, e)
+    check_coded(c, d, e)
+}
+
+// The string of a bit; where that is clear, the empty part, at which no check of a string fails.
+fn under(set: bool, string: &[u8]) -> &[u8]
+    ensures { λ r. ⌜ now r ≡ under set (now (string .entry)) ⌝ }
+{
+    if set {
+        return string;
+    }
+    &string[..0]
+}
+
+// The same checks over the strings of the set bits alone.
+fn check_under(flags: NlAuthFlags, a: &[u8], b: &[u8], c: &[u8], d: &[u8], e: &[u8]) -> Verdict
+    ensures { λ r. ⌜ r ≡ checkUnder flags (now (a .entry)) (now (b .entry)) (now (c .entry)) (now (d .entry)) (now (e .entry)) ⌝ }
+{
+    check_strings(
+        under(flags.nb_domain(), a),
+        under(flags.nb_computer(), b),
+        under(flags.dns_domain(), c),
+        under(flags.dns_host(), d),
+        under(flags.utf8_computer(), e),
+    )
 }
 
 // A length so far, and with string A or B.
@@ -176,13 +175,9 @@ fn check_request(
     let Checked::Held = flags.strings_hold() else {
         return Verdict::Refused(Refusal::NoStrings);
     };
-    let zeros = check_zeros(flags, a, b, c, d, e);
-    let Verdict::Clear = zeros else {
-        return zeros;
-    };
-    let names = check_names(flags, c, d, e);
-    let Verdict::Clear = names else {
-        return names;
+    let strings = check_under(flags, a, b, c, d, e);
+    let Verdict::Clear = strings else {
+        return strings;
     };
     let n = request_size(flags, a, b, c, d, e);
     let Checked::Held = size_holds(n) else {
@@ -229,7 +224,7 @@ fn put_under(place: Place, out: &mut [u8], set: bool, string: &[u8]) -> Place
 
 // The same of string C, D or E, whose labels check 50 let pass.
 fn put_name_under(place: Place, out: &mut [u8], set: bool, text: &[u8]) -> Place
-    requires { ⌜ (labelsUnder (set, now text) ≡ Held) × (place .at + length (nameUnder set (now text)) ≤ length (now out)) ⌝ }
+    requires { ⌜ (textHolds (under set (now text)) ≡ Held) × (place .at + length (nameUnder set (now text)) ≤ length (now out)) ⌝ }
     ensures { λ r. ⌜ Wrote (now (out .entry)) (now (out .exit)) (place .at) (r .at) (nameUnder set (now (text .entry))) ⌝ }
 {
     if set {
@@ -242,9 +237,8 @@ fn put_name_under(place: Place, out: &mut [u8], set: bool, text: &[u8]) -> Place
 
 // The OEM strings, A and B.
 fn put_oem(place: Place, out: &mut [u8], flags: NlAuthFlags, a: &[u8], b: &[u8]) -> Place
-    requires { ⌜ place .at + (length (bytesUnder (nbDomain flags) (now a)) + length (bytesUnder (nbComputer flags) (now b))) ≤ length (now out) ⌝ }
-    ensures next { λ r. ⌜ r .at ≡ place .at + (length (bytesUnder (nbDomain flags) (now (a .entry))) + length (bytesUnder (nbComputer flags) (now (b .entry)))) ⌝ }
-    ensures { λ r. ⌜ Wrote (now (out .entry)) (now (out .exit)) (place .at) (r .at) (bytesUnder (nbDomain flags) (now (a .entry)) ++ bytesUnder (nbComputer flags) (now (b .entry))) ⌝ }
+    requires { ⌜ place .at + length (oemBytes flags (now a) (now b)) ≤ length (now out) ⌝ }
+    ensures { λ r. ⌜ Wrote (now (out .entry)) (now (out .exit)) (place .at) (r .at) (oemBytes flags (now (a .entry)) (now (b .entry))) ⌝ }
 {
     let place = put_under(place, out, flags.nb_domain(), a);
     put_under(place, out, flags.nb_computer(), b)
@@ -252,8 +246,8 @@ fn put_oem(place: Place, out: &mut [u8], flags: NlAuthFlags, a: &[u8], b: &[u8])
 
 // The UTF-8 strings, C to E.
 fn put_utf8(place: Place, out: &mut [u8], flags: NlAuthFlags, c: &[u8], d: &[u8], e: &[u8]) -> Place
-    requires { ⌜ checkLabels flags (now c) (now d) (now e) ≡ Clear ⌝ }
-    requires { ⌜ place .at + (length (nameUnder (dnsDomain flags) (now c)) + (length (nameUnder (dnsHost flags) (now d)) + length (nameUnder (utf8Computer flags) (now e)))) ≤ length (now out) ⌝ }
+    requires { ⌜ checkLabels (under (dnsDomain flags) (now c)) (under (dnsHost flags) (now d)) (under (utf8Computer flags) (now e)) ≡ Clear ⌝ }
+    requires { ⌜ place .at + length (utf8Bytes flags (now c) (now d) (now e)) ≤ length (now out) ⌝ }
     ensures { λ r. ⌜ Wrote (now (out .entry)) (now (out .exit)) (place .at) (r .at) (utf8Bytes flags (now (c .entry)) (now (d .entry)) (now (e .entry))) ⌝ }
 {
     let place = put_name_under(place, out, flags.dns_domain(), c);
@@ -271,8 +265,8 @@ fn put_request(
     d: &[u8],
     e: &[u8],
 ) -> Place
-    requires { ⌜ checkLabels flags (now c) (now d) (now e) ≡ Clear ⌝ }
-    requires { ⌜ 8 + (length (bytesUnder (nbDomain flags) (now a)) + (length (bytesUnder (nbComputer flags) (now b)) + (length (nameUnder (dnsDomain flags) (now c)) + (length (nameUnder (dnsHost flags) (now d)) + length (nameUnder (utf8Computer flags) (now e)))))) ≤ length (now out) ⌝ }
+    requires { ⌜ checkUnder flags (now a) (now b) (now c) (now d) (now e) ≡ Clear ⌝ }
+    requires { ⌜ length (requestBytes flags (now a) (now b) (now c) (now d) (now e)) ≤ length (now out) ⌝ }
     ensures { λ r. ⌜ Wrote (now (out .entry)) (now (out .exit)) 0 (r .at) (requestBytes flags (now (a .entry)) (now (b .entry)) (now (c .entry)) (now (d .entry)) (now (e .entry))) ⌝ }
 {
     let place = put_head(out, NlAuth::REQUEST, flags);

@@ -46,7 +46,8 @@ use Rattle.read_nl_auth.specs.declared.Reading.the-variants.{Taken as NlTaken, 
 use Rattle.read_nl_auth.specs.NlAuth.{readNlAuth}
 use Rattle.nl_auth_flags.specs.declared.NlAuthFlags.{NlAuthFlags}
 use Rattle.nl_auth_flags.specs.Flags.{nbDomain, nbComputer, dnsDomain, dnsHost, utf8Computer, known, stringsHold}
-use Rattle.write_nl_auth.specs.Writing.{requestBytes, responseBytes, noZero, checkZeros, labelsUnder, checkLabels, codedUnder, checkCoded, checkNames, checkRequest, requestAnswer, responseAnswer}
+use Rattle.write_dns_name.specs.Writing.{textHolds, codedHolds}
+use Rattle.write_nl_auth.specs.Writing.{requestBytes, responseBytes, noZero, checkZeros, checkLabels, checkCoded, checkStrings, under, checkUnder, checkRequest, requestAnswer, responseAnswer}
 use Rattle.respond.specs.declared.decision.Decided.{Decided}
 use Rattle.respond.specs.declared.decision.Decided.the-variants.{Taken as Decides, Refused as Declines}
 use Rattle.respond.specs.declared.decision.Settings.{Settings}
@@ -221,37 +222,47 @@ authenticate-checks room flags lm nt domain user workstation key =
     (of-after SmallV (sizeToHold (sizeToWrite lm nt domain user workstation key)) _ _ (omega arith)
     (of-after SmallV (roomHolds (sizeToWrite lm nt domain user workstation key) room) (Not NoRoom) Clear (omega arith) tt))))
 
-zeros-small : (flags : NlAuthFlags) (a b c d e : List ℕ) → SmallV (checkZeros flags a b c d e)
+zeros-small : (a b c d e : List ℕ) → SmallV (checkZeros a b c d e)
 unfolding checkZeros
-zeros-small flags a b c d e =
-    of-after SmallV (noZero (nbDomain flags, a)) _ _ (omega arith)
-    (of-after SmallV (noZero (nbComputer flags, b)) _ _ (omega arith)
-    (of-after SmallV (noZero (dnsDomain flags, c)) _ _ (omega arith)
-    (of-after SmallV (noZero (dnsHost flags, d)) _ _ (omega arith)
-    (of-after SmallV (noZero (utf8Computer flags, e)) (Not (ZeroInString 5)) Clear (omega arith) tt))))
+zeros-small a b c d e =
+    of-after SmallV (noZero a) _ _ (omega arith)
+    (of-after SmallV (noZero b) _ _ (omega arith)
+    (of-after SmallV (noZero c) _ _ (omega arith)
+    (of-after SmallV (noZero d) _ _ (omega arith)
+    (of-after SmallV (noZero e) (Not (ZeroInString 5)) Clear (omega arith) tt))))
 
-labels-small : (flags : NlAuthFlags) (c d e : List ℕ) → SmallV (checkLabels flags c d e)
+labels-small : (c d e : List ℕ) → SmallV (checkLabels c d e)
 unfolding checkLabels
-labels-small flags c d e =
-    of-after SmallV (labelsUnder (dnsDomain flags, c)) _ _ (omega arith)
-    (of-after SmallV (labelsUnder (dnsHost flags, d)) _ _ (omega arith)
-    (of-after SmallV (labelsUnder (utf8Computer flags, e)) (Not (WrongLabel 5)) Clear (omega arith) tt))
+labels-small c d e =
+    of-after SmallV (textHolds c) _ _ (omega arith)
+    (of-after SmallV (textHolds d) _ _ (omega arith)
+    (of-after SmallV (textHolds e) (Not (WrongLabel 5)) Clear (omega arith) tt))
 
-coded-small : (flags : NlAuthFlags) (c d e : List ℕ) → SmallV (checkCoded flags c d e)
+coded-small : (c d e : List ℕ) → SmallV (checkCoded c d e)
 unfolding checkCoded
-coded-small flags c d e =
-    of-after SmallV (codedUnder (dnsDomain flags, c)) _ _ (omega arith)
-    (of-after SmallV (codedUnder (dnsHost flags, d)) _ _ (omega arith)
-    (of-after SmallV (codedUnder (utf8Computer flags, e)) (Not (NameTooLong 5)) Clear (omega arith) tt))
+coded-small c d e =
+    of-after SmallV (codedHolds c) _ _ (omega arith)
+    (of-after SmallV (codedHolds d) _ _ (omega arith)
+    (of-after SmallV (codedHolds e) (Not (NameTooLong 5)) Clear (omega arith) tt))
+
+strings-small : (a b c d e : List ℕ) → SmallV (checkStrings a b c d e)
+unfolding checkStrings
+strings-small a b c d e =
+    small-clear (checkZeros a b c d e) _ (zeros-small a b c d e)
+    (small-clear (checkLabels c d e) _ (labels-small c d e) (coded-small c d e))
+
+under-small : (flags : NlAuthFlags) (a b c d e : List ℕ) → SmallV (checkUnder flags a b c d e)
+unfolding checkUnder
+under-small flags a b c d e =
+    strings-small (under (nbDomain flags) a) (under (nbComputer flags) b) (under (dnsDomain flags) c) (under (dnsHost flags) d) (under (utf8Computer flags) e)
 
 request-checks : (room : ℕ) (flags : NlAuthFlags) (a b c d e : List ℕ) → SmallV (checkRequest room flags a b c d e)
-unfolding checkRequest checkNames
+unfolding checkRequest
 request-checks room flags a b c d e =
     of-after SmallV (stringsHold flags) _ _ (omega arith)
-    (small-clear (checkZeros flags a b c d e) _ (zeros-small flags a b c d e)
-    (small-clear (onClear Not (checkLabels flags c d e) (checkCoded flags c d e)) _ (small-clear (checkLabels flags c d e) _ (labels-small flags c d e) (coded-small flags c d e))
+    (small-clear (checkUnder flags a b c d e) _ (under-small flags a b c d e)
     (of-after SmallV (sizeToHold (length (requestBytes flags a b c d e))) _ _ (omega arith)
-    (of-after SmallV (roomHolds (length (requestBytes flags a b c d e)) room) (Not NoRoom) Clear (omega arith) tt))))
+    (of-after SmallV (roomHolds (length (requestBytes flags a b c d e)) room) (Not NoRoom) Clear (omega arith) tt)))
 
 abbrev pub SmallW : Written → Type 0
 SmallW (Length n) = Unit

@@ -20,10 +20,10 @@ use Rattle.place.specs.Written.{answered}
 use Rattle.nl_auth_flags.specs.declared.NlAuthFlags.{NlAuthFlags}
 use Rattle.nl_auth_flags.specs.Flags.{nbDomain, nbComputer, dnsDomain, dnsHost, utf8Computer, known, stringsHold}
 use Rattle.read_nl_auth.specs.NlAuth.{beforeZero, holdsZero}
-use Rattle.write_nl_auth.specs.Writing.{stringBytes, bytesUnder, nameUnder, requestBytes, responseBytes, noZero, checkZeros, names, labelsUnder, checkLabels, codedUnder, checkCoded, checkNames, checkRequest, requestAnswer, responseAnswer}
+use Rattle.write_nl_auth.specs.Writing.{stringBytes, bytesUnder, nameUnder, requestBytes, responseBytes, noZero, checkZeros, names, checkLabels, checkCoded, checkStrings, under, checkUnder, checkRequest, requestAnswer, responseAnswer}
 use Rattle.write_nl_auth.proofs.Sent.{length-request, length-response}
 use Rattle.read_dns_name.specs.Rfc1035.{codedLength}
-use Rattle.write_dns_name.specs.Writing.{labelsOf, coded, nameBytes, codedHolds}
+use Rattle.write_dns_name.specs.Writing.{labelsOf, coded, nameBytes, labelsHold, textHolds, codedHolds}
 use Rattle.write_dns_name.proofs.Holding.{coded-size}
 use Rattle.demands.specs.DnsName.{LabelsFail, codedSize}
 use Rattle.demands.proofs.DnsText.{text-failed, text-held, coded-is}
@@ -37,33 +37,35 @@ use Rattle.demands.proofs.Order.Rank.{FreeBy, JudgedBy, LinksBy, only-i
 use Rattle.demands.proofs.WrittenExactly.{rows, free-at-first, next, room-judged, size-judged, only-room, only-room-judged, by-verdict}
 
 -- check 34 at one string
-zero-failed : (set : Bool) (x : List ℕ) → noZero (set, x) ≡ Failed → (set ≡ true) × HoldsZero x
-zero-failed set x f = go set (holdsZero x) refl refl (failed-false _ f) where
-  go : (a b : Bool) → set ≡ a → holdsZero x ≡ b → not (a && b) ≡ false → (set ≡ true) × HoldsZero x
-  go true true p q e = let l = ltb-true (beforeZero x) (length x) q in (p, (beforeZero x, l, at-zero x l))
-  go true false p q e = absurd (true-not-false e)
-  go false b p q e = absurd (true-not-false e)
+zero-failed : (set : Bool) (x : List ℕ) → noZero (under set x) ≡ Failed → (set ≡ true) × HoldsZero x
+unfolding under
+zero-failed true x f = go (holdsZero x) refl (failed-false _ f) where
+  go : (b : Bool) → holdsZero x ≡ b → not b ≡ false → (true ≡ true) × HoldsZero x
+  go true q e = let l = ltb-true (beforeZero x) (length x) q in (refl, (beforeZero x, l, at-zero x l))
+  go false q e = absurd (true-not-false e)
+zero-failed false x f = absurd (true-not-false (failed-false _ f))
 
-zero-held : (set : Bool) (x : List ℕ) → noZero (set, x) ≡ Held → set ≡ true → HoldsZero x → ⊥
-zero-held set x h on z = go set (holdsZero x) refl refl (held-true _ h) where
-  go : (a b : Bool) → set ≡ a → holdsZero x ≡ b → not (a && b) ≡ true → ⊥
-  go true true p q e = true-not-false (sym e)
-  go true false p q e = before-nonzero x (z .0) (omega (arith, ltb-false (beforeZero x) (length x) q, z .1)) (z .2)
-  go false b p q e = true-not-false (sym on ∙ p)
+zero-held : (set : Bool) (x : List ℕ) → noZero (under set x) ≡ Held → set ≡ true → HoldsZero x → ⊥
+unfolding under
+zero-held true x h on z = go (holdsZero x) refl (held-true _ h) where
+  go : (b : Bool) → holdsZero x ≡ b → not b ≡ true → ⊥
+  go true q e = true-not-false (sym e)
+  go false q e = before-nonzero x (z .0) (omega (arith, ltb-false (beforeZero x) (length x) q, z .1)) (z .2)
+zero-held false x h on z = true-not-false (sym on)
 
-under : (t : Bool) (x : List ℕ) → length (bytesUnder t x) ≡ cond t (length x + 1) 0
+string-under : (t : Bool) (x : List ℕ) → length (bytesUnder t x) ≡ cond t (length x + 1) 0
 unfolding bytesUnder stringBytes
-under true x = simp length-append
-under false x = refl
+string-under true x = simp length-append
+string-under false x = refl
 
 -- check 50 at one name, and its length
-labels-failed : (set : Bool) (x : List ℕ) → labelsUnder (set, x) ≡ Failed → (set ≡ true) × LabelsFail x
-unfolding labelsUnder
+labels-failed : (set : Bool) (x : List ℕ) → textHolds (under set x) ≡ Failed → (set ≡ true) × LabelsFail x
+unfolding under textHolds labelsOf labelsHold
 labels-failed true x f = (refl, text-failed x f)
 labels-failed false x f = absurd (let z : _≡_ {A = ℕ} 0 1 = cc in omega arith)
 
-labels-held : (set : Bool) (x : List ℕ) → labelsUnder (set, x) ≡ Held → set ≡ true → LabelsFail x → ⊥
-unfolding labelsUnder
+labels-held : (set : Bool) (x : List ℕ) → textHolds (under set x) ≡ Held → set ≡ true → LabelsFail x → ⊥
+unfolding under textHolds labelsOf labelsHold
 labels-held true x h on w = text-held x h w
 labels-held false x h on w = true-not-false (sym on)
 
@@ -72,14 +74,14 @@ bytes-are : (x : List ℕ) → length (nameBytes x) ≡ length (coded (labelsOf 
 unfolding nameBytes
 bytes-are x = refl
 
-coded-failed : (set : Bool) (x : List ℕ) → codedUnder (set, x) ≡ Failed → (set ≡ true) × (255 < codedSize x)
-unfolding codedUnder codedHolds
+coded-failed : (set : Bool) (x : List ℕ) → codedHolds (under set x) ≡ Failed → (set ≡ true) × (255 < codedSize x)
+unfolding under codedHolds labelsOf
 coded-failed true x f =
     (refl, let l = leb-false (codedLength (labelsOf x)) 255 (failed-false _ f) in omega (arith, l, coded-is x, coded-size (labelsOf x), bytes-are x))
 coded-failed false x f = absurd (let z : _≡_ {A = ℕ} 0 1 = cc in omega arith)
 
-coded-held : (set : Bool) (x : List ℕ) → codedUnder (set, x) ≡ Held → set ≡ true → 255 < codedSize x → ⊥
-unfolding codedUnder codedHolds
+coded-held : (set : Bool) (x : List ℕ) → codedHolds (under set x) ≡ Held → set ≡ true → 255 < codedSize x → ⊥
+unfolding under codedHolds labelsOf
 coded-held true x h on w =
     let l = leb-true (codedLength (labelsOf x)) 255 (held-true _ h) in omega (arith, l, coded-is x, coded-size (labelsOf x), bytes-are x)
 coded-held false x h on w = true-not-false (sym on)
@@ -104,7 +106,7 @@ module _ (room : ℕ) (flags : NlAuthFlags) (a b c d e : List ℕ) where
 
   -- the string of a bit, which is the same of the lowest five bits
   size-under : (m : ℕ) (x : List ℕ) → bits % 32 / m % 2 ≡ bits / m % 2 → length (bytesUnder (has (w .bits) m) x) ≡ sizeUnder bits m x
-  size-under m x q = under (has (w .bits) m) x ∙ ap (λ (k : ℕ). cond (eqb k 1) (length x + 1) 0) q
+  size-under m x q = string-under (has (w .bits) m) x ∙ ap (λ (k : ℕ). cond (eqb k 1) (length x + 1) 0) q
 
   name-size-under : (m : ℕ) (x : List ℕ) → bits % 32 / m % 2 ≡ bits / m % 2 → length (nameUnder (has (w .bits) m) x) ≡ nameSizeUnder bits m x
   name-size-under m x q = name-under (has (w .bits) m) x ∙ ap (λ (k : ℕ). cond (eqb k 1) (codedSize x) 0) q
@@ -144,18 +146,27 @@ module _ (room : ℕ) (flags : NlAuthFlags) (a b c d e : List ℕ) where
       (λ p. none 5 (omega arith) (omega arith) (sym (bit16 bits) ∙ eqb-true _ 1 p))
       (or-either (toC || dnsHost w) (utf8Computer w) (held-true _ h))
 
+  abbrev c′ : List ℕ
+  c′ = under (dnsDomain w) c
+
+  abbrev d′ : List ℕ
+  d′ = under (dnsHost w) d
+
+  abbrev e′ : List ℕ
+  e′ = under (utf8Computer w) e
+
   -- 34, 50 and 53: a check that fails at a string exactly where its bit is set and Bad holds of it
-  module _ (ok : Bool × List ℕ → Checked) (Bad : List ℕ → Type 0) (k : ℕ) (k3 : k ≤ 3)
-      (bad : (set : Bool) (x : List ℕ) → ok (set, x) ≡ Failed → (set ≡ true) × Bad x)
-      (good : (set : Bool) (x : List ℕ) → ok (set, x) ≡ Held → set ≡ true → Bad x → ⊥) where
-    failed : (i m : ℕ) (x : List ℕ) → k ≤ i → i ≤ 5 → bits % 32 / m % 2 ≡ bits / m % 2 → ok (has (w .bits) m, x) ≡ Failed →
+  module _ (ok : List ℕ → Checked) (Bad : List ℕ → Type 0) (k : ℕ) (k3 : k ≤ 3)
+      (bad : (set : Bool) (x : List ℕ) → ok (under set x) ≡ Failed → (set ≡ true) × Bad x)
+      (good : (set : Bool) (x : List ℕ) → ok (under set x) ≡ Held → set ≡ true → Bad x → ⊥) where
+    failed : (i m : ℕ) (x : List ℕ) → k ≤ i → i ≤ 5 → bits % 32 / m % 2 ≡ bits / m % 2 → ok (under (has (w .bits) m) x) ≡ Failed →
         (k ≤ i) × (i ≤ 5) × FlagSet bits m × Bad x
     failed i m x l r q f = let z = bad (has (w .bits) m) x f in (l, r, sym q ∙ eqb-true _ 1 (z .0), z .1)
 
-    held : {A B : Type 0} (m : ℕ) (x : List ℕ) → bits % 32 / m % 2 ≡ bits / m % 2 → ok (has (w .bits) m, x) ≡ Held → A × B × FlagSet bits m × Bad x → ⊥
+    held : {A B : Type 0} (m : ℕ) (x : List ℕ) → bits % 32 / m % 2 ≡ bits / m % 2 → ok (under (has (w .bits) m) x) ≡ Held → A × B × FlagSet bits m × Bad x → ⊥
     held m x q h y = good (has (w .bits) m) x h (eq-eqb _ 1 (q ∙ y .2)) (y .3)
 
-    names-linked : LinksBy (λ n i. (k ≤ i) × (i ≤ 5) × FlagSet bits (maskOf i) × Bad (stringOf a b c d e i)) 0 ok 3 (names w c d e)
+    names-linked : LinksBy (λ n i. (k ≤ i) × (i ≤ 5) × FlagSet bits (maskOf i) × Bad (stringOf a b c d e i)) 0 ok 3 (names c′ d′ e′)
     names-linked = (
       refl,
       failed 3 0x4 c k3 (omega arith) (bit4 bits),
@@ -168,11 +179,11 @@ module _ (room : ℕ) (flags : NlAuthFlags) (a b c d e : List ℕ) where
       ),
     )
 
-  zeros-judged : FreeBy (placeIn order) F 34 0 → JudgedBy (placeIn order) F 50 (checkZeros w a b c d e)
+  zeros-judged : FreeBy (placeIn order) F 34 0 → JudgedBy (placeIn order) F 50 (checkZeros (under (nbDomain w) a) (under (nbComputer w) b) c′ d′ e′)
   unfolding checkZeros
   zeros-judged free =
       over-judged-by (placeIn order) F 34 50 noZero ZeroInString refl (only-in order 34 (omega arith)) (λ j. (refl, refl))
-      ((1, (nbDomain w, a)) ∷ (2, (nbComputer w, b)) ∷ names w c d e) 1 (
+      ((1, under (nbDomain w) a) ∷ (2, under (nbComputer w) b) ∷ names c′ d′ e′) 1 (
         refl,
         failed noZero HoldsZero 1 (omega arith) zero-failed zero-held 1 0x1 a (omega arith) (omega arith) (bit1 bits),
         held noZero HoldsZero 1 (omega arith) zero-failed zero-held 0x1 a (bit1 bits),
@@ -186,25 +197,27 @@ module _ (room : ℕ) (flags : NlAuthFlags) (a b c d e : List ℕ) where
       (skip-by (placeIn order) F 34 1 free (λ j l h. omega (arith, l, h .0)))
       (λ j l h. omega (arith, l, h .1))
 
-  labels-judged : FreeBy (placeIn order) F 50 0 → JudgedBy (placeIn order) F 53 (checkLabels w c d e)
+  labels-judged : FreeBy (placeIn order) F 50 0 → JudgedBy (placeIn order) F 53 (checkLabels c′ d′ e′)
   unfolding checkLabels
   labels-judged free =
-      over-judged-by (placeIn order) F 50 53 labelsUnder WrongLabel refl (only-in order 50 (omega arith)) (λ j. (refl, refl))
-      (names w c d e) 3 (names-linked labelsUnder LabelsFail 3 (omega arith) labels-failed labels-held)
+      over-judged-by (placeIn order) F 50 53 textHolds WrongLabel refl (only-in order 50 (omega arith)) (λ j. (refl, refl))
+      (names c′ d′ e′) 3 (names-linked textHolds LabelsFail 3 (omega arith) labels-failed labels-held)
       (skip-by (placeIn order) F 50 3 free (λ j l h. omega (arith, l, h .0)))
       (λ j l h. omega (arith, l, h .1))
 
-  coded-judged : FreeBy (placeIn order) F 53 0 → JudgedBy (placeIn order) F 30 (checkCoded w c d e)
+  coded-judged : FreeBy (placeIn order) F 53 0 → JudgedBy (placeIn order) F 30 (checkCoded c′ d′ e′)
   unfolding checkCoded
   coded-judged free =
-      over-judged-by (placeIn order) F 53 30 codedUnder NameTooLong refl (only-in order 53 (omega arith)) (λ j. (refl, refl))
-      (names w c d e) 3 (names-linked codedUnder (λ x. 255 < codedSize x) 3 (omega arith) coded-failed coded-held)
+      over-judged-by (placeIn order) F 53 30 codedHolds NameTooLong refl (only-in order 53 (omega arith)) (λ j. (refl, refl))
+      (names c′ d′ e′) 3 (names-linked codedHolds (λ x. 255 < codedSize x) 3 (omega arith) coded-failed coded-held)
       (skip-by (placeIn order) F 53 3 free (λ j l h. omega (arith, l, h .0)))
       (λ j l h. omega (arith, l, h .1))
 
-  names-judged : FreeBy (placeIn order) F 50 0 → JudgedBy (placeIn order) F 30 (checkNames w c d e)
-  unfolding checkNames
-  names-judged free = then-by (placeIn order) F 53 30 (checkLabels w c d e) _ (labels-judged free) coded-judged
+  under-judged : FreeBy (placeIn order) F 34 0 → JudgedBy (placeIn order) F 30 (checkUnder w a b c d e)
+  unfolding checkUnder checkStrings
+  under-judged free =
+      then-by (placeIn order) F 50 30 (checkZeros (under (nbDomain w) a) (under (nbComputer w) b) c′ d′ e′) _ (zeros-judged free)
+      (λ c50. then-by (placeIn order) F 53 30 (checkLabels c′ d′ e′) _ (labels-judged c50) coded-judged)
 
   request-judged : JudgedBy (placeIn order) F 0 (checkRequest room w a b c d e)
   unfolding checkRequest
@@ -212,13 +225,12 @@ module _ (room : ℕ) (flags : NlAuthFlags) (a b c d e : List ℕ) where
       let none = free-at-first order F 14 refl in
       chained (JudgedBy (placeIn order) F 0) _ _ _
       (λ f. first-by (placeIn order) F 14 0 none (refl, strings-failed f))
-      (λ h14. then-by (placeIn order) F 50 0 (checkZeros w a b c d e) _
-      (zeros-judged (next order F 14 34 refl (omega arith) none (λ j x. strings-held h14 (x .1))))
-      (λ c50. then-by (placeIn order) F 30 0 (checkNames w c d e) _ (names-judged c50)
+      (λ h14. then-by (placeIn order) F 30 0 (checkUnder w a b c d e) _
+      (under-judged (next order F 14 34 refl (omega arith) none (λ j x. strings-held h14 (x .1))))
       (λ c30. size-judged order F (requestSize bits a b c d e) (length (requestBytes w a b c d e)) _ size-is
       (λ l. (refl, l)) (λ j x. x .1) refl (omega arith) c30
       (room-judged order F room (requestSize bits a b c d e) (length (requestBytes w a b c d e)) size-is
-      (λ l. (refl, l)) (λ j x. x .1) refl (omega arith)))))
+      (λ l. (refl, l)) (λ j x. x .1) refl (omega arith))))
 
 pub nl-request-written : NlRequestIsWritten
 unfolding requestAnswer

@@ -1,6 +1,5 @@
 -- `check_coded` is check 53, C first.
 use borrow.Author.Needs.{needs}
-use Rattle.write_nl_auth.proofs.Sent.{asked-coded}
 use Rattle.wire.proofs.Laws.{chain}
 use Rattle.write_nl_auth.specs.Writing.{checkCoded}
 use Rattle.write_nl_auth.proofs.check_coded.Statement.{statement}
@@ -11,10 +10,7 @@ unfolding checkCoded
 check-coded-spec =
     tie.close
     (tie.spec
-    (λ c κs. search needs) (λ c κs. search needs) (λ c. search needs) (λ c. search needs)
-    (λ c. search (chain, asked-coded) depth 9 fits 20000)
-    (λ c κs. search needs) (λ c κs. search needs) (λ c. search needs) (λ c. search needs)
-    (λ c. search (chain, asked-coded) depth 9 fits 20000)
-    (λ c κs. search needs) (λ c κs. search needs) (λ c. search needs) (λ c. search needs)
-    (λ c. search (chain, asked-coded) depth 9 fits 20000)
-    (λ c. search (chain, asked-coded) depth 9 fits 20000))
+    (λ c κs. search needs) (λ c. search needs) (λ c. search needs) (λ c. search chain depth 9 fits 20000)
+    (λ c κs. search needs) (λ c. search needs) (λ c. search needs) (λ c. search chain depth 9 fits 20000)
+    (λ c κs. search needs) (λ c. search needs) (λ c. search needs) (λ c. search chain depth 9 fits 20000)
+    (λ c. search chain depth 9 fits 20000))

@@ -1,6 +1,5 @@
 -- `check_labels` is check 50, C first.
 use borrow.Author.Needs.{needs}
-use Rattle.write_nl_auth.proofs.Sent.{asked-labels}
 use Rattle.wire.proofs.Laws.{chain}
 use Rattle.write_nl_auth.specs.Writing.{checkLabels}
 use Rattle.write_nl_auth.proofs.check_labels.Statement.{statement}
@@ -11,10 +10,7 @@ unfolding checkLabels
 check-labels-spec =
     tie.close
     (tie.spec
-    (λ c κs. search needs) (λ c κs. search needs) (λ c. search needs) (λ c. search needs)
-    (λ c. search (chain, asked-labels) depth 9 fits 20000)
-    (λ c κs. search needs) (λ c κs. search needs) (λ c. search needs) (λ c. search needs)
-    (λ c. search (chain, asked-labels) depth 9 fits 20000)
-    (λ c κs. search needs) (λ c κs. search needs) (λ c. search needs) (λ c. search needs)
-    (λ c. search (chain, asked-labels) depth 9 fits 20000)
-    (λ c. search (chain, asked-labels) depth 9 fits 20000))
+    (λ c κs. search needs) (λ c. search needs) (λ c. search needs) (λ c. search chain depth 9 fits 20000)
+    (λ c κs. search needs) (λ c. search needs) (λ c. search needs) (λ c. search chain depth 9 fits 20000)
+    (λ c κs. search needs) (λ c. search needs) (λ c. search needs) (λ c. search chain depth 9 fits 20000)
+    (λ c. search chain depth 9 fits 20000))

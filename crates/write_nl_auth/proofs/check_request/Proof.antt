@@ -11,11 +11,8 @@ unfolding checkRequest
 check-request-spec =
     tie.close
     (tie.spec
-    (λ c κs. search needs) (λ c. search needs) (λ c. search needs)
-    (λ c. search (chain, groups, measured) depth 8 fits 20000) (λ c κs. search needs) (λ c. search needs)
-    (λ c. search needs) (λ c. search (chain, groups, measured) depth 8 fits 20000) (λ c κs. search needs)
-    (λ c. search needs) (λ c. search needs) (λ c. search (chain, groups, measured) depth 8 fits 20000)
-    (λ c κs. search needs) (λ c κs. search needs) (λ c. search needs) (λ c. search needs)
-    (λ c. search (chain, groups, measured) depth 8 fits 20000) (λ c κs. search needs) (λ c. search needs)
-    (λ c. search needs) (λ c. search (chain, groups, measured) depth 8 fits 20000)
+    (λ c κs. search needs) (λ c. search needs) (λ c. search needs) (λ c. search (chain, groups, measured) depth 8 fits 20000)
+    (λ c κs. search needs) (λ c. search needs) (λ c. search needs) (λ c. search (chain, groups, measured) depth 8 fits 20000)
+    (λ c κs. search needs) (λ c κs. search needs) (λ c. search needs) (λ c. search needs) (λ c. search (chain, groups, measured) depth 8 fits 20000)
+    (λ c κs. search needs) (λ c. search needs) (λ c. search needs) (λ c. search (chain, groups, measured) depth 8 fits 20000)
     (λ c. search (chain, groups, measured) depth 8 fits 20000))

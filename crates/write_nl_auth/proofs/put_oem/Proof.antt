@@ -1,6 +1,6 @@
 -- `put_oem` writes strings A and B.
 use borrow.Author.Needs.{needs}
-use Rattle.write_nl_auth.proofs.Sent.{room-a, room-b, oem-wrote, oem-next}
+use Rattle.write_nl_auth.proofs.Sent.{room-a, room-b, oem-wrote}
 use Rattle.write_nl_auth.proofs.put_oem.Statement.{statement}
 use Rattle.write_nl_auth.proofs.put_oem.Tie as tie
 
@@ -9,4 +9,4 @@ put-oem-spec =
     tie.close
     (tie.spec
     (λ c κs. search needs) (λ c κs. search room-a) (λ c κs. search needs) (λ c κs. search room-b) (λ c. search needs)
-    (λ c. (search oem-next, search oem-wrote)))
+    (λ c. search oem-wrote))
