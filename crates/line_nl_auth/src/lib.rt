@@ -9,8 +9,10 @@ ghost use Rattle.wire.specs.Text.{ascii};
 ghost use Rattle.line_words.specs.Words.{Room, numberWord, stringWord};
 ghost use Rattle.read_nl_auth.specs.declared.Reading.the-variants.{Taken};
 ghost use Rattle.read_nl_auth.specs.NlAuth.{readNlAuth};
-ghost use Rattle.line_nl_string.specs.StringText.{oemText, utf8Text};
+ghost use Rattle.line_nl_string.specs.StringText.{eitherText};
 ghost use Rattle.line_nl_auth.specs.Nl.{nlStart, nlOem, nlUtf8, nlText};
+use line_nl_string::put_text;
+use line_nl_string::room_after_text;
 use line_words::words::put_flags_word;
 use line_words::words::put_number_word;
 use line_words::words::room_after_number_word;
@@ -24,34 +26,19 @@ use read_nl_auth::string::NlString;
 use wire::check::Checked;
 use wire::refusal::Refusal;
 
-// What the word of string A or B leaves of a room; it is left out where its bit is clear.
-fn room_after_oem_string(
+// What the word of a string leaves of a room; it is left out where its bit is clear. `utf8` is set for strings C, D and E.
+fn room_after_string(
     room: usize,
     label: &[u8],
     msg: &[u8],
     set: bool,
+    utf8: bool,
     string: NlString,
 ) -> usize
-    ensures { λ r. ⌜ r ≡ room - length (stringWord (now (label .entry)) set (oemText (now (msg .entry)) string)) ⌝ }
+    ensures { λ r. ⌜ r ≡ room - length (stringWord (now (label .entry)) set (eitherText utf8 (now (msg .entry)) string)) ⌝ }
 {
     if set {
-        return line_nl_string::room_after_oem(room_after(room, label.len()), msg, string);
-    }
-    room
-}
-
-// What the word of string C, D or E leaves of a room; it is left out where its bit is clear.
-fn room_after_utf8_string(
-    room: usize,
-    label: &[u8],
-    msg: &[u8],
-    set: bool,
-    string: NlString,
-) -> usize
-    ensures { λ r. ⌜ r ≡ room - length (stringWord (now (label .entry)) set (utf8Text (now (msg .entry)) string)) ⌝ }
-{
-    if set {
-        return line_nl_string::room_after_utf8(room_after(room, label.len()), msg, string);
+        return room_after_text(room_after(room, label.len()), msg, utf8, string);
     }
     room
 }
@@ -61,8 +48,15 @@ fn room_after_oem(room: usize, msg: &[u8], m: NlAuth) -> usize
     ensures { λ r. ⌜ r ≡ room - length (nlOem (now (msg .entry)) m) ⌝ }
 {
     let s = m.strings;
-    let left = room_after_oem_string(room, b" a=", msg, m.flags.nb_domain(), s.nb_domain);
-    room_after_oem_string(left, b" b=", msg, m.flags.nb_computer(), s.nb_computer)
+    let left = room_after_string(room, b" a=", msg, m.flags.nb_domain(), false, s.nb_domain);
+    room_after_string(
+        left,
+        b" b=",
+        msg,
+        m.flags.nb_computer(),
+        false,
+        s.nb_computer,
+    )
 }
 
 // What the UTF-8 strings leave of a room.
@@ -70,13 +64,21 @@ fn room_after_utf8(room: usize, msg: &[u8], m: NlAuth) -> usize
     ensures { λ r. ⌜ r ≡ room - length (nlUtf8 (now (msg .entry)) m) ⌝ }
 {
     let s = m.strings;
-    let left = room_after_utf8_string(room, b" c=", msg, m.flags.dns_domain(), s.dns_domain);
-    let left = room_after_utf8_string(left, b" d=", msg, m.flags.dns_host(), s.dns_host);
-    room_after_utf8_string(left, b" e=", msg, m.flags.utf8_computer(), s.utf8_computer)
+    let left = room_after_string(room, b" c=", msg, m.flags.dns_domain(), true, s.dns_domain);
+    let left = room_after_string(left, b" d=", msg, m.flags.dns_host(), true, s.dns_host);
+    room_after_string(
+        left,
+        b" e=",
+        msg,
+        m.flags.utf8_computer(),
+        true,
+        s.utf8_computer,
+    )
 }
 
-// At least what a line has besides strings A and B: 18 for the type's word, 15 for the flags', 3 for each label, four bytes for each
-// of a name's at most 255, and 1 for the line's end.
+// The most bytes that a line has besides strings A and B: 18 for the type's word, 15 for the flags', 3 for each of the five labels,
+// 1,020 for each of the names C to E (four for each of its 255 bytes), 1 for the line's end. It is the same for all types: the type
+// is here for the contract alone.
 fn most_besides_oem(message_type: u32) -> u16
     ensures { λ r. ⌜ 3091 + length (numberWord (ascii "nl type=") «message_type») ≤ r ⌝ }
 {
@@ -107,56 +109,37 @@ fn put_start(out: &mut [u8], message_type: u32, bits: u32) -> Place
     put_flags_word(p, out, bits)
 }
 
-fn put_oem_word(p: Place, out: &mut [u8], label: &[u8], msg: &[u8], string: NlString) -> Place
-    requires { ⌜ Room (p .at) (now label ++ oemText (now msg) string) (length (now out)) ⌝ }
-    ensures { λ r. ⌜ Wrote (now (out .entry)) (now (out .exit)) (p .at) (r .at) (now (label .entry) ++ oemText (now (msg .entry)) string) ⌝ }
+fn put_word(
+    p: Place,
+    out: &mut [u8],
+    label: &[u8],
+    msg: &[u8],
+    utf8: bool,
+    string: NlString,
+) -> Place
+    requires { ⌜ Room (p .at) (now label ++ eitherText utf8 (now msg) string) (length (now out)) ⌝ }
+    ensures { λ r. ⌜ Wrote (now (out .entry)) (now (out .exit)) (p .at) (r .at) (now (label .entry) ++ eitherText utf8 (now (msg .entry)) string) ⌝ }
 {
     let p = p.put_bytes(out, label);
     let at = p.at;
-    let text = line_nl_string::put_oem(&mut out[at..], msg, string);
+    let text = put_text(&mut out[at..], msg, utf8, string);
     Place { at: at + text.at }
 }
 
-fn put_oem_string(
+fn put_string(
     p: Place,
     out: &mut [u8],
     label: &[u8],
     msg: &[u8],
     set: bool,
+    utf8: bool,
     string: NlString,
 ) -> Place
-    requires { ⌜ Room (p .at) (stringWord (now label) set (oemText (now msg) string)) (length (now out)) ⌝ }
-    ensures { λ r. ⌜ Wrote (now (out .entry)) (now (out .exit)) (p .at) (r .at) (stringWord (now (label .entry)) set (oemText (now (msg .entry)) string)) ⌝ }
+    requires { ⌜ Room (p .at) (stringWord (now label) set (eitherText utf8 (now msg) string)) (length (now out)) ⌝ }
+    ensures { λ r. ⌜ Wrote (now (out .entry)) (now (out .exit)) (p .at) (r .at) (stringWord (now (label .entry)) set (eitherText utf8 (now (msg .entry)) string)) ⌝ }
 {
     if set {
-        return put_oem_word(p, out, label, msg, string);
-    }
-    p
-}
-
-fn put_utf8_word(p: Place, out: &mut [u8], label: &[u8], msg: &[u8], string: NlString) -> Place
-    requires { ⌜ Room (p .at) (now label ++ utf8Text (now msg) string) (length (now out)) ⌝ }
-    ensures { λ r. ⌜ Wrote (now (out .entry)) (now (out .exit)) (p .at) (r .at) (now (label .entry) ++ utf8Text (now (msg .entry)) string) ⌝ }
-{
-    let p = p.put_bytes(out, label);
-    let at = p.at;
-    let text = line_nl_string::put_utf8(&mut out[at..], msg, string);
-    Place { at: at + text.at }
-}
-
-fn put_utf8_string(
-    p: Place,
-    out: &mut [u8],
-    label: &[u8],
-    msg: &[u8],
-    set: bool,
-    string: NlString,
-) -> Place
-    requires { ⌜ Room (p .at) (stringWord (now label) set (utf8Text (now msg) string)) (length (now out)) ⌝ }
-    ensures { λ r. ⌜ Wrote (now (out .entry)) (now (out .exit)) (p .at) (r .at) (stringWord (now (label .entry)) set (utf8Text (now (msg .entry)) string)) ⌝ }
-{
-    if set {
-        return put_utf8_word(p, out, label, msg, string);
+        return put_word(p, out, label, msg, utf8, string);
     }
     p
 }
@@ -166,8 +149,16 @@ fn put_oem(p: Place, out: &mut [u8], msg: &[u8], m: NlAuth) -> Place
     ensures { λ r. ⌜ Wrote (now (out .entry)) (now (out .exit)) (p .at) (r .at) (nlOem (now (msg .entry)) m) ⌝ }
 {
     let s = m.strings;
-    let p = put_oem_string(p, out, b" a=", msg, m.flags.nb_domain(), s.nb_domain);
-    put_oem_string(p, out, b" b=", msg, m.flags.nb_computer(), s.nb_computer)
+    let p = put_string(p, out, b" a=", msg, m.flags.nb_domain(), false, s.nb_domain);
+    put_string(
+        p,
+        out,
+        b" b=",
+        msg,
+        m.flags.nb_computer(),
+        false,
+        s.nb_computer,
+    )
 }
 
 fn put_utf8(p: Place, out: &mut [u8], msg: &[u8], m: NlAuth) -> Place
@@ -175,14 +166,23 @@ fn put_utf8(p: Place, out: &mut [u8], msg: &[u8], m: NlAuth) -> Place
     ensures { λ r. ⌜ Wrote (now (out .entry)) (now (out .exit)) (p .at) (r .at) (nlUtf8 (now (msg .entry)) m) ⌝ }
 {
     let s = m.strings;
-    let p = put_utf8_string(p, out, b" c=", msg, m.flags.dns_domain(), s.dns_domain);
-    let p = put_utf8_string(p, out, b" d=", msg, m.flags.dns_host(), s.dns_host);
-    put_utf8_string(
+    let p = put_string(
+        p,
+        out,
+        b" c=",
+        msg,
+        m.flags.dns_domain(),
+        true,
+        s.dns_domain,
+    );
+    let p = put_string(p, out, b" d=", msg, m.flags.dns_host(), true, s.dns_host);
+    put_string(
         p,
         out,
         b" e=",
         msg,
         m.flags.utf8_computer(),
+        true,
         s.utf8_computer,
     )
 }

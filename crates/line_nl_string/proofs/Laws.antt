@@ -1,7 +1,7 @@
 -- Laws of a string's text: its length, and which one is written.
 use Prim.Native.Nat.{ℕ, _+_, _-_, _*_, _≤_}
 use mathlib.Core.Path.{_≡_, ap, _∙_}
-use mathlib.Core.Bool.{Bool, false, _&&_}
+use mathlib.Core.Bool.{Bool, true, false, _&&_}
 use mathlib.Core.List.{List, []}
 use native.Mathlib.Omega.{arith}
 use lib.ListN.{length}
@@ -23,41 +23,38 @@ use Rattle.read_nl_auth.specs.declared.Reading.the-variants.{Taken, Refused as 
 use Rattle.read_nl_auth.specs.declared.string.NlString.{NlString}
 use Rattle.read_nl_auth.specs.NlAuth.{stringBytes, bufferOf, inBuffer, readNlAuth}
 use Rattle.read_nl_auth.proofs.Names.{string-small}
-use Rattle.line_nl_string.specs.StringText.{oemText, utf8Text, stringText, textAnswer, textAfter}
+use Rattle.line_nl_string.specs.StringText.{oemText, utf8Text, eitherText, stringText, textAnswer, textAfter}
 
 -- ---- strings A and B, by their bytes as they are lent
 
-module _ (s : List ℕ) (x : NlString) (bytes : List ℕ) (e : bytes ≡ stringBytes s x) where
-  pub oem-leaves : (room n : ℕ) → n ≡ room - length (nameText false bytes) → n ≡ room - length (oemText s x)
-  unfolding oemText
-  oem-leaves room n h = rw (← e) h
+module _ (s : List ℕ) (x : NlString) (b : Bool) (h : b ≡ false) (bytes : List ℕ) (e : bytes ≡ stringBytes s x) where
+  oem-is : nameText false bytes ≡ eitherText b s x
+  unfolding eitherText oemText
+  oem-is = simp (h, e)
 
-  pub oem-room : (n : ℕ) → Room 0 (oemText s x) n → length (nameText false bytes) ≤ n
-  unfolding oemText
-  oem-room n r = omega (arith, r .fits, ap (λ (y : List ℕ). length (nameText false y)) e)
+  pub oem-length : (n : ℕ) → n ≡ 4 * x .len - length (nameText false bytes) → 4 * x .len - n ≡ length (eitherText b s x)
+  oem-length n f = rw (← oem-is) (omega (arith, name-bound false bytes, ap length e, string-small s x))
 
-  pub oem-wrote : (l k : List ℕ) (q : ℕ) → Wrote l k 0 q (nameText false bytes) → Wrote l k 0 q (oemText s x)
-  unfolding oemText
-  oem-wrote l k q w = rw (← e) w
+  pub oem-room : (n : ℕ) → Room 0 (eitherText b s x) n → length (nameText false bytes) ≤ n
+  oem-room n r = omega (arith, r .fits, ap length oem-is)
 
-pub oem-length : (s : List ℕ) (x : NlString) (n : ℕ) → n ≡ 4 * x .len - length (oemText s x) → 4 * x .len - n ≡ length (oemText s x)
-unfolding oemText
-oem-length s x n e = omega (arith, name-bound false (stringBytes s x), string-small s x)
+  pub oem-wrote : (l k : List ℕ) (q : ℕ) → Wrote l k 0 q (nameText false bytes) → Wrote l k 0 q (eitherText b s x)
+  oem-wrote l k q w = rw (← oem-is) w
 
 -- ---- strings C, D and E, by the buffer as it is lent
 
-module _ (s : List ℕ) (x : NlString) (buf : List ℕ) (at : ℕ) (e : buf ≡ bufferOf s) (f : at ≡ inBuffer (x .offset)) where
-  utf8-is : dnsText (labelsAt buf at) ≡ utf8Text s x
-  unfolding utf8Text
-  utf8-is = simp (e, f)
+module _ (s : List ℕ) (x : NlString) (b : Bool) (h : b ≡ true) (buf : List ℕ) (at : ℕ) (e : buf ≡ bufferOf s) (f : at ≡ inBuffer (x .offset)) where
+  utf8-is : dnsText (labelsAt buf at) ≡ eitherText b s x
+  unfolding eitherText utf8Text
+  utf8-is = simp (h, e, f)
 
-  pub utf8-length : (n : ℕ) → n ≡ length (dnsText (labelsAt buf at)) → n ≡ length (utf8Text s x)
+  pub utf8-length : (n : ℕ) → n ≡ length (dnsText (labelsAt buf at)) → n ≡ length (eitherText b s x)
   utf8-length n h = rw (← utf8-is) h
 
-  pub utf8-room : (i n : ℕ) → i + length (utf8Text s x) ≤ n → i + length (dnsText (labelsAt buf at)) ≤ n
-  utf8-room i n h = rw (← utf8-is) at h
+  pub utf8-room : (n : ℕ) → Room 0 (eitherText b s x) n → 0 + length (dnsText (labelsAt buf at)) ≤ n
+  utf8-room n r = omega (arith, r .fits, ap length utf8-is)
 
-  pub utf8-wrote : (l k : List ℕ) (i q : ℕ) → Wrote l k i q (dnsText (labelsAt buf at)) → Wrote l k i q (utf8Text s x)
+  pub utf8-wrote : (l k : List ℕ) (i q : ℕ) → Wrote l k i q (dnsText (labelsAt buf at)) → Wrote l k i q (eitherText b s x)
   utf8-wrote l k i q w = rw (← utf8-is) w
 
 -- ---- one text alone

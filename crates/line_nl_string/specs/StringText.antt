@@ -1,6 +1,6 @@
 -- The text of an NL_AUTH string, as the message's line has it, and the call that writes it alone.
 use Prim.Native.Nat.{ℕ}
-use mathlib.Core.Bool.{false, _&&_, cond}
+use mathlib.Core.Bool.{Bool, false, _&&_, cond}
 use mathlib.Core.List.{List, []}
 use lib.Dec.{eqb}
 use Rattle.wire.specs.declared.refusal.Refusal.{Refusal}
@@ -23,6 +23,10 @@ oemText s x = nameText false (stringBytes s x)
 -- strings C, D and E: "The line joins labels with a full stop"
 unfoldable pub utf8Text : List ℕ → NlString → List ℕ
 utf8Text s x = dnsText (labelsOf s x)
+
+-- of either kind
+unfoldable pub eitherText : Bool → List ℕ → NlString → List ℕ
+eitherText utf8 s x = cond utf8 (utf8Text s x) (oemText s x)
 
 -- the text of a string by its number, A = 1 to E = 5: empty where the string's bit is clear, and for any other number
 unfoldable pub utf8Numbered : List ℕ → NlAuth → ℕ → List ℕ

@@ -1,11 +1,11 @@
-// The text of an NL_AUTH string, as the message's line has it.
+// The text of an NL_AUTH string, as the message's line has it. `utf8` is set for strings C, D and E, and clear for A and B.
 ghost use mathlib.Core.Path.{_≡_};
 ghost use Prim.Native.Nat.{_-_};
 ghost use lib.ListN.{length};
 ghost use Rattle.place.specs.Place.{Wrote};
 ghost use Rattle.place.specs.Written.{bytesAnswer, bytesAfter};
 ghost use Rattle.line_words.specs.Words.{Room};
-ghost use Rattle.line_nl_string.specs.StringText.{oemText, utf8Text, utf8Numbered, stringText, textAnswer, textAfter};
+ghost use Rattle.line_nl_string.specs.StringText.{eitherText, utf8Numbered, stringText, textAnswer, textAfter};
 use line_dns_name::name_size;
 use line_words::name::put_name;
 use line_words::name::room_after_name;
@@ -21,72 +21,47 @@ use read_nl_auth::string::NlString;
 use wire::check::Checked;
 use wire::refusal::Refusal;
 
-// What the text of string A or B leaves of a room.
-pub fn room_after_oem(room: usize, msg: &[u8], string: NlString) -> usize
-    ensures { λ r. ⌜ r ≡ room - length (oemText (now (msg .entry)) string) ⌝ }
+// The length of a text. That of string A or B is known by what it leaves of the most that it may have: four bytes for each of the
+// string's.
+fn text_size(msg: &[u8], utf8: bool, string: NlString) -> usize
+    ensures { λ r. ⌜ r ≡ length (eitherText utf8 (now (msg .entry)) string) ⌝ }
 {
-    room_after_name(room, string.bytes(msg), false)
-}
-
-// Its length, by what it leaves of the most that it may have: four bytes for each of the string's.
-fn oem_size(msg: &[u8], string: NlString) -> usize
-    ensures { λ r. ⌜ r ≡ length (oemText (now (msg .entry)) string) ⌝ }
-{
+    if utf8 {
+        return name_size(buffer(msg), in_buffer(string.offset));
+    }
     let most = 4 * string.len as usize;
-    most - room_after_oem(most, msg, string)
-}
-
-// The text of string A or B, at the start of the output.
-pub fn put_oem(out: &mut [u8], msg: &[u8], string: NlString) -> Place
-    requires { ⌜ Room 0 (oemText (now msg) string) (length (now out)) ⌝ }
-    ensures { λ r. ⌜ Wrote (now (out .entry)) (now (out .exit)) 0 (r .at) (oemText (now (msg .entry)) string) ⌝ }
-{
-    put_name(out, string.bytes(msg), false)
-}
-
-// The length of the text of string C, D or E.
-fn utf8_size(msg: &[u8], string: NlString) -> usize
-    ensures { λ r. ⌜ r ≡ length (utf8Text (now (msg .entry)) string) ⌝ }
-{
-    name_size(buffer(msg), in_buffer(string.offset))
+    most - room_after_name(most, string.bytes(msg), false)
 }
 
 // What it leaves of a room.
-pub fn room_after_utf8(room: usize, msg: &[u8], string: NlString) -> usize
-    ensures { λ r. ⌜ r ≡ room - length (utf8Text (now (msg .entry)) string) ⌝ }
+pub fn room_after_text(room: usize, msg: &[u8], utf8: bool, string: NlString) -> usize
+    ensures { λ r. ⌜ r ≡ room - length (eitherText utf8 (now (msg .entry)) string) ⌝ }
 {
-    room_after(room, utf8_size(msg, string))
+    room_after(room, text_size(msg, utf8, string))
 }
 
-// The text of string C, D or E, at the start of the output.
-pub fn put_utf8(out: &mut [u8], msg: &[u8], string: NlString) -> Place
-    requires { ⌜ Room 0 (utf8Text (now msg) string) (length (now out)) ⌝ }
-    ensures { λ r. ⌜ Wrote (now (out .entry)) (now (out .exit)) 0 (r .at) (utf8Text (now (msg .entry)) string) ⌝ }
+// The text, at the start of the output.
+pub fn put_text(out: &mut [u8], msg: &[u8], utf8: bool, string: NlString) -> Place
+    requires { ⌜ Room 0 (eitherText utf8 (now msg) string) (length (now out)) ⌝ }
+    ensures { λ r. ⌜ Wrote (now (out .entry)) (now (out .exit)) 0 (r .at) (eitherText utf8 (now (msg .entry)) string) ⌝ }
 {
-    line_dns_name::put_name(Place { at: 0 }, out, buffer(msg), in_buffer(string.offset))
+    if utf8 {
+        let at = in_buffer(string.offset);
+        return line_dns_name::put_name(Place { at: 0 }, out, buffer(msg), at);
+    }
+    put_name(out, string.bytes(msg), false)
 }
 
 // ---- one text alone
 
-fn write_oem(out: &mut [u8], msg: &[u8], string: NlString) -> Written
-    ensures answer { λ r. ⌜ r ≡ bytesAnswer (oemText (now (msg .entry)) string) (now (out .entry)) ⌝ }
-    ensures content { λ _. ⌜ now (out .exit) ≡ bytesAfter (oemText (now (msg .entry)) string) (now (out .entry)) ⌝ }
+fn write_text(out: &mut [u8], msg: &[u8], utf8: bool, string: NlString) -> Written
+    ensures answer { λ r. ⌜ r ≡ bytesAnswer (eitherText utf8 (now (msg .entry)) string) (now (out .entry)) ⌝ }
+    ensures content { λ _. ⌜ now (out .exit) ≡ bytesAfter (eitherText utf8 (now (msg .entry)) string) (now (out .entry)) ⌝ }
 {
-    let Checked::Held = room_holds(oem_size(msg, string), out.len()) else {
+    let Checked::Held = room_holds(text_size(msg, utf8, string), out.len()) else {
         return Written::Refused(Refusal::NoRoom);
     };
-    let p = put_oem(out, msg, string);
-    Written::Length(p.at)
-}
-
-fn write_utf8(out: &mut [u8], msg: &[u8], string: NlString) -> Written
-    ensures answer { λ r. ⌜ r ≡ bytesAnswer (utf8Text (now (msg .entry)) string) (now (out .entry)) ⌝ }
-    ensures content { λ _. ⌜ now (out .exit) ≡ bytesAfter (utf8Text (now (msg .entry)) string) (now (out .entry)) ⌝ }
-{
-    let Checked::Held = room_holds(utf8_size(msg, string), out.len()) else {
-        return Written::Refused(Refusal::NoRoom);
-    };
-    let p = put_utf8(out, msg, string);
+    let p = put_text(out, msg, utf8, string);
     Written::Length(p.at)
 }
 
@@ -97,13 +72,13 @@ fn write_utf8_numbered(out: &mut [u8], msg: &[u8], m: NlAuth, which: u32) -> Wri
 {
     let s = m.strings;
     if (which == 3) & m.flags.dns_domain() {
-        return write_utf8(out, msg, s.dns_domain);
+        return write_text(out, msg, true, s.dns_domain);
     }
     if (which == 4) & m.flags.dns_host() {
-        return write_utf8(out, msg, s.dns_host);
+        return write_text(out, msg, true, s.dns_host);
     }
     if (which == 5) & m.flags.utf8_computer() {
-        return write_utf8(out, msg, s.utf8_computer);
+        return write_text(out, msg, true, s.utf8_computer);
     }
     Written::Length(0)
 }
@@ -114,10 +89,10 @@ fn write_numbered(out: &mut [u8], msg: &[u8], m: NlAuth, which: u32) -> Written
 {
     let s = m.strings;
     if (which == 1) & m.flags.nb_domain() {
-        return write_oem(out, msg, s.nb_domain);
+        return write_text(out, msg, false, s.nb_domain);
     }
     if (which == 2) & m.flags.nb_computer() {
-        return write_oem(out, msg, s.nb_computer);
+        return write_text(out, msg, false, s.nb_computer);
     }
     write_utf8_numbered(out, msg, m, which)
 }

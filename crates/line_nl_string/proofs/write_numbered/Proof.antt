@@ -3,12 +3,12 @@ use borrow.Author.Needs.{needs}
 use Rattle.wire.proofs.Laws.{branches}
 use Rattle.line_words.proofs.Calls.{same-line}
 use Rattle.line_nl_string.proofs.Laws.{both}
-use Rattle.line_nl_string.specs.StringText.{stringText}
+use Rattle.line_nl_string.specs.StringText.{eitherText, stringText}
 use Rattle.line_nl_string.proofs.write_numbered.Statement.{statement}
 use Rattle.line_nl_string.proofs.write_numbered.Tie as tie
 
 pub write-numbered-spec : {M : Type 1} → statement M
-unfolding stringText
+unfolding eitherText stringText
 write-numbered-spec =
     tie.close
     (tie.spec

@@ -3,12 +3,12 @@ use borrow.Author.Needs.{needs}
 use Rattle.wire.proofs.Laws.{branches}
 use Rattle.line_words.proofs.Calls.{same-line}
 use Rattle.line_nl_string.proofs.Laws.{both, none-answer, none-after}
-use Rattle.line_nl_string.specs.StringText.{utf8Numbered}
+use Rattle.line_nl_string.specs.StringText.{eitherText, utf8Numbered}
 use Rattle.line_nl_string.proofs.write_utf8_numbered.Statement.{statement}
 use Rattle.line_nl_string.proofs.write_utf8_numbered.Tie as tie
 
 pub write-utf8-numbered-spec : {M : Type 1} → statement M
-unfolding utf8Numbered
+unfolding eitherText utf8Numbered
 write-utf8-numbered-spec =
     tie.close
     (tie.spec

@@ -1,12 +1,12 @@
--- `put_utf8_word` writes a label and a string's text.
+-- `put_word` writes a label and a string's text.
 use borrow.Author.Needs.{needs}
 use native.Mathlib.Omega.{arith}
 use Rattle.line_words.proofs.Rooms.{parts, then-lent}
-use Rattle.line_nl_auth.proofs.put_utf8_word.Statement.{statement}
-use Rattle.line_nl_auth.proofs.put_utf8_word.Tie as tie
+use Rattle.line_nl_auth.proofs.put_word.Statement.{statement}
+use Rattle.line_nl_auth.proofs.put_word.Tie as tie
 
-pub put-utf8-word-spec : {M : Type 1} → statement M
-put-utf8-word-spec =
+pub put-word-spec : {M : Type 1} → statement M
+put-word-spec =
     tie.close
     (tie.spec
     (λ c κs. omega (arith, parts)) (λ c. omega (arith, parts)) (λ c. omega (arith, parts)) (λ c. search needs)

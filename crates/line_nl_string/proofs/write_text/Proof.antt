@@ -1,12 +1,12 @@
--- `write_utf8` writes the text of a name, or refuses by check 33.
+-- `write_text` writes the text of a string, or refuses by check 33.
 use borrow.Author.Needs.{needs}
 use Rattle.line_words.proofs.Calls.{has-room, no-room, as-it-was, its-length, its-bytes}
 use Rattle.line_nl_string.proofs.Laws.{by-length}
-use Rattle.line_nl_string.proofs.write_utf8.Statement.{statement}
-use Rattle.line_nl_string.proofs.write_utf8.Tie as tie
+use Rattle.line_nl_string.proofs.write_text.Statement.{statement}
+use Rattle.line_nl_string.proofs.write_text.Tie as tie
 
-pub write-utf8-spec : {M : Type 1} → statement M
-write-utf8-spec =
+pub write-text-spec : {M : Type 1} → statement M
+write-text-spec =
     tie.close
     (tie.spec
     (λ c κs. search needs) (λ c κs. search needs) (λ c. search needs) (λ c. search needs)
