@@ -23,7 +23,7 @@ use Rattle.place.proofs.Writings.{measured, counted-on}
 use Rattle.write_field.specs.Writing.{fieldOf}
 use Rattle.write_field.proofs.Laws.{length-head, length-version}
 use Rattle.read_authenticate.specs.declared.Fields.{Fields}
-use Rattle.write_authenticate.specs.Writing.{fieldsTo, headsBytes, afterHeads, fixedBytes, payloadBytes, authenticateBytes, checkNamesToWrite, keyHolds, sizeToWrite, checkToWrite}
+use Rattle.write_authenticate.specs.Writing.{fieldsTo, headsBytes, afterHeads, fixedBytes, payloadBytes, payloadSize, authenticateBytes, checkNamesToWrite, keyHolds, sizeToWrite, checkToWrite}
 
 -- ---- the fixed part
 
@@ -53,8 +53,7 @@ unfolding fixedBytes afterHeads
 length-fixed flags v mic f e d = simp (length-append, length-le32, length-heads, length-version flags v e, d)
 
 module _ (lm nt domain user workstation key : List ℕ) where
-  pub length-payload : length (payloadBytes lm nt domain user workstation key) ≡
-      length domain + (length user + (length workstation + (length lm + (length nt + length key))))
+  pub length-payload : length (payloadBytes lm nt domain user workstation key) ≡ payloadSize lm nt domain user workstation key
   unfolding payloadBytes
   length-payload = simp length-append
 
@@ -121,12 +120,12 @@ module _ (flags : NegotiateFlags) (lm nt domain user workstation key : List ℕ)
   held =
       both-held (charsetHolds flags) (keyHolds flags key) (checkNamesToWrite (unicode flags) domain user workstation) _ _ (sym p ∙ h)
 
-  pub message-size : 88 + (length domain + (length user + (length workstation + (length lm + (length nt + length key))))) ≤ 65535
+  pub message-size : 88 + payloadSize lm nt domain user workstation key ≤ 65535
   message-size =
       rw (length-payload lm nt domain user workstation key) at
       (leb-true (sizeToWrite lm nt domain user workstation key) 65535 (held .0))
 
-  pub message-room : 88 + (length domain + (length user + (length workstation + (length lm + (length nt + length key))))) ≤ room
+  pub message-room : 88 + payloadSize lm nt domain user workstation key ≤ room
   message-room =
       rw (length-payload lm nt domain user workstation key) at
       (leb-true (sizeToWrite lm nt domain user workstation key) room (held .1))

@@ -57,6 +57,10 @@ fixedBytes flags v mic f = signature ++ (le32 3 ++ (headsBytes f ++ afterHeads f
 unfoldable pub payloadBytes : List ℕ → List ℕ → List ℕ → List ℕ → List ℕ → List ℕ → List ℕ
 payloadBytes lm nt domain user workstation key = domain ++ (user ++ (workstation ++ (lm ++ (nt ++ key))))
 
+-- its length, by the lengths of the fields
+abbrev pub payloadSize : List ℕ → List ℕ → List ℕ → List ℕ → List ℕ → List ℕ → ℕ
+payloadSize lm nt domain user workstation key = length domain + (length user + (length workstation + (length lm + (length nt + length key))))
+
 -- the message
 unfoldable pub authenticateBytes : NegotiateFlags → List ℕ → List ℕ → List ℕ → List ℕ → List ℕ → List ℕ → List ℕ → List ℕ → List ℕ
 authenticateBytes flags v mic lm nt domain user workstation key =

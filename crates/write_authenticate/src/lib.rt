@@ -5,7 +5,8 @@ ghost use Prim.Native.Nat.{_+_, _≤_, min};
 ghost use lib.ListN.{length};
 ghost use Rattle.place.specs.Place.{Wrote};
 ghost use Rattle.write_field.specs.Writing.{headBytes};
-ghost use Rattle.write_authenticate.specs.Writing.{fieldsTo, headsBytes, afterHeads, fixedBytes, payloadBytes, authenticateBytes, evenToWrite, checkNamesToWrite, keyHolds, sizeToWrite, checkToWrite, writeAnswer, writeOut};
+ghost use Rattle.write_authenticate.specs.Writing.{fieldsTo, headsBytes, afterHeads, fixedBytes, payloadBytes, payloadSize, authenticateBytes};
+ghost use Rattle.write_authenticate.specs.Writing.{evenToWrite, checkNamesToWrite, keyHolds, sizeToWrite, checkToWrite, writeAnswer, writeOut};
 use negotiate_flags::NegotiateFlags;
 use place::Place;
 use place::written::Written;
@@ -210,8 +211,9 @@ fn put_payload(
     workstation: &[u8],
     key: &[u8],
 ) -> Place
-    requires { ⌜ place .at + (length (now domain) + (length (now user) + (length (now workstation) + (length (now lm) + (length (now nt) + length (now key)))))) ≤ length (now out) ⌝ }
-    ensures { λ r. ⌜ Wrote (now (out .entry)) (now (out .exit)) (place .at) (r .at) (payloadBytes (now (lm .entry)) (now (nt .entry)) (now (domain .entry)) (now (user .entry)) (now (workstation .entry)) (now (key .entry))) ⌝ }
+    requires { ⌜ place .at + payloadSize (now lm) (now nt) (now domain) (now user) (now workstation) (now key) ≤ length (now out) ⌝ }
+    ensures { λ r. ⌜ Wrote (now (out .entry)) (now (out .exit)) (place .at) (r .at)
+        (payloadBytes (now (lm .entry)) (now (nt .entry)) (now (domain .entry)) (now (user .entry)) (now (workstation .entry)) (now (key .entry))) ⌝ }
 {
     let place = put_at(place, out, domain);
     let place = put_at(place, out, user);
@@ -232,9 +234,11 @@ fn put_message(
     workstation: &[u8],
     key: &[u8],
 ) -> Place
-    requires { ⌜ (88 + (length (now domain) + (length (now user) + (length (now workstation) + (length (now lm) + (length (now nt) + length (now key)))))) ≤ 65535) × (88 + (length (now domain) + (length (now user) + (length (now workstation) + (length (now lm) + (length (now nt) + length (now key)))))) ≤ length (now out)) ⌝ }
+    requires { ⌜ 88 + payloadSize (now lm) (now nt) (now domain) (now user) (now workstation) (now key) ≤ 65535 ⌝ }
+    requires { ⌜ 88 + payloadSize (now lm) (now nt) (now domain) (now user) (now workstation) (now key) ≤ length (now out) ⌝ }
     ensures next { λ r. ⌜ r .at ≡ sizeToWrite (now (lm .entry)) (now (nt .entry)) (now (domain .entry)) (now (user .entry)) (now (workstation .entry)) (now (key .entry)) ⌝ }
-    ensures { λ r. ⌜ Wrote (now (out .entry)) (now (out .exit)) 0 (r .at) (authenticateBytes flags (now (version .entry)) (now (mic .entry)) (now (lm .entry)) (now (nt .entry)) (now (domain .entry)) (now (user .entry)) (now (workstation .entry)) (now (key .entry))) ⌝ }
+    ensures { λ r. ⌜ Wrote (now (out .entry)) (now (out .exit)) 0 (r .at) (authenticateBytes flags (now (version .entry)) (now (mic .entry))
+        (now (lm .entry)) (now (nt .entry)) (now (domain .entry)) (now (user .entry)) (now (workstation .entry)) (now (key .entry))) ⌝ }
 {
     let f = fields_to(
         lm.len(),
@@ -261,8 +265,10 @@ pub fn write(
     workstation: &[u8],
     key: &[u8],
 ) -> Written
-    ensures answer { λ r. ⌜ r ≡ writeAnswer (length (now (out .entry))) flags (now (version .entry)) (now (mic .entry)) (now (lm .entry)) (now (nt .entry)) (now (domain .entry)) (now (user .entry)) (now (workstation .entry)) (now (key .entry)) ⌝ }
-    ensures content { λ _. ⌜ now (out .exit) ≡ writeOut (now (out .entry)) flags (now (version .entry)) (now (mic .entry)) (now (lm .entry)) (now (nt .entry)) (now (domain .entry)) (now (user .entry)) (now (workstation .entry)) (now (key .entry)) ⌝ }
+    ensures answer { λ r. ⌜ r ≡ writeAnswer (length (now (out .entry))) flags (now (version .entry)) (now (mic .entry))
+        (now (lm .entry)) (now (nt .entry)) (now (domain .entry)) (now (user .entry)) (now (workstation .entry)) (now (key .entry)) ⌝ }
+    ensures content { λ _. ⌜ now (out .exit) ≡ writeOut (now (out .entry)) flags (now (version .entry)) (now (mic .entry))
+        (now (lm .entry)) (now (nt .entry)) (now (domain .entry)) (now (user .entry)) (now (workstation .entry)) (now (key .entry)) ⌝ }
 {
     let verdict = check_to_write(out.len(), flags, lm, nt, domain, user, workstation, key);
     let Verdict::Clear = verdict else {

@@ -12,5 +12,5 @@ write-spec =
     tie.close
     (tie.spec
     (λ c κs. search needs) (λ c. search needs) (λ c. search needs) (λ c κs. search needs)
-    (λ c. search writing) (λ c κs. search (message-size, message-room)) (λ c. search needs)
+    (λ c. search writing) (λ c κs. (search message-size, search message-room)) (λ c. search needs)
     (λ c. search (writing, message-fits)))
