@@ -14,7 +14,7 @@ use Rattle.place.specs.Place.{Wrote}
 use Rattle.place.proofs.Laws.{kept}
 use Rattle.place.proofs.Parts.{Partly, still-kept, all-written, room-left, goes-on}
 use Rattle.wire.proofs.Bools.{and-left, and-right}
-use Rattle.base64.specs.Base64.{three, two, one, encode, isLetter, valueOf, groupHolds, isEmpty, isBase64, groupBytes, decode}
+use Rattle.base64.specs.Base64.{three, two, one, encode, isLetter, valueOf, groupHolds, isEmpty, isBase64, firstByte, secondByte, thirdByte, groupBytes, decode}
 use Rattle.base64.proofs.Alphabet.{no-pad}
 
 -- the elements of a list from a place on
@@ -122,20 +122,19 @@ module _ (p n a b c d : ℕ) (h : p + length (groupBytes a b c d) ≤ n) where
 
 pub ruleset rooms = (room-1, room-2, room-3)
 
-module _ (l m : List ℕ) (p q a b c d s t u v : ℕ) (es : s ≡ valueOf a) (et : t ≡ valueOf b) where
-  pub group-1 : c ≡ 61 → Wrote l m p q ((s * 4 + t / 16) ∷ []) → Wrote l m p q (groupBytes a b c d)
+module _ (l m : List ℕ) (p q a b c d s t u v x y z : ℕ) (es : s ≡ valueOf a) (et : t ≡ valueOf b) (ex : x ≡ firstByte s t) where
+  pub group-1 : c ≡ 61 → Wrote l m p q (x ∷ []) → Wrote l m p q (groupBytes a b c d)
   unfolding groupBytes
-  group-1 e w = simp (eq-eqb c 61 e, ← es, ← et) w
+  group-1 e w = simp (eq-eqb c 61 e, ← es, ← et, ← ex) w
 
-  pub group-2 : u ≡ valueOf c → (c ≡ 61 → ⊥) → d ≡ 61 → Wrote l m p q ((s * 4 + t / 16) ∷ (t % 16 * 16 + u / 4) ∷ []) →
-      Wrote l m p q (groupBytes a b c d)
+  pub group-2 : u ≡ valueOf c → y ≡ secondByte t u → (c ≡ 61 → ⊥) → d ≡ 61 → Wrote l m p q (x ∷ y ∷ []) → Wrote l m p q (groupBytes a b c d)
   unfolding groupBytes
-  group-2 eu e f w = simp (ne-eqb c 61 e, eq-eqb d 61 f, ← es, ← et, ← eu) w
+  group-2 eu ey e f w = simp (ne-eqb c 61 e, eq-eqb d 61 f, ← es, ← et, ← eu, ← ex, ← ey) w
 
-  pub group-3 : u ≡ valueOf c → v ≡ valueOf d → (c ≡ 61 → ⊥) → (d ≡ 61 → ⊥) →
-      Wrote l m p q ((s * 4 + t / 16) ∷ (t % 16 * 16 + u / 4) ∷ (u % 4 * 64 + v) ∷ []) → Wrote l m p q (groupBytes a b c d)
+  pub group-3 : u ≡ valueOf c → v ≡ valueOf d → y ≡ secondByte t u → z ≡ thirdByte u v → (c ≡ 61 → ⊥) → (d ≡ 61 → ⊥) →
+      Wrote l m p q (x ∷ y ∷ z ∷ []) → Wrote l m p q (groupBytes a b c d)
   unfolding groupBytes
-  group-3 eu ev e f w = simp (ne-eqb c 61 e, ne-eqb d 61 f, ← es, ← et, ← eu, ← ev) w
+  group-3 eu ev ey ez e f w = simp (ne-eqb c 61 e, ne-eqb d 61 f, ← es, ← et, ← eu, ← ev, ← ex, ← ey, ← ez) w
 
 pub ruleset groups = (group-1, group-2, group-3)
 
@@ -173,10 +172,10 @@ module _ (a b c d : ℕ) (h : groupHolds false a b c d ≡ true) where
   pub full-room : (p n : ℕ) → p + length (groupBytes a b c d) ≤ n → p + 3 ≤ n
   full-room p n r = room-3 p n a b c d r (eqb-false c 61 third-letter) (eqb-false d 61 fourth-letter)
 
-  pub full-group : (l m : List ℕ) (p q s t u v : ℕ) → s ≡ valueOf a → t ≡ valueOf b → u ≡ valueOf c → v ≡ valueOf d →
-      Wrote l m p q ((s * 4 + t / 16) ∷ (t % 16 * 16 + u / 4) ∷ (u % 4 * 64 + v) ∷ []) → Wrote l m p q (groupBytes a b c d)
-  full-group l m p q s t u v es et eu ev w =
-      group-3 l m p q a b c d s t u v es et eu ev (eqb-false c 61 third-letter) (eqb-false d 61 fourth-letter) w
+  pub full-group : (l m : List ℕ) (p q s t u v x y z : ℕ) → s ≡ valueOf a → t ≡ valueOf b → u ≡ valueOf c → v ≡ valueOf d →
+      x ≡ firstByte s t → y ≡ secondByte t u → z ≡ thirdByte u v → Wrote l m p q (x ∷ y ∷ z ∷ []) → Wrote l m p q (groupBytes a b c d)
+  full-group l m p q s t u v x y z es et eu ev ex ey ez w =
+      group-3 l m p q a b c d s t u v x y z es et ex eu ev ey ez (eqb-false c 61 third-letter) (eqb-false d 61 fourth-letter) w
 
 pub ruleset four-letters = (letter-1, letter-2, letter-3, letter-4)
 

@@ -69,12 +69,22 @@ isBase64 (a ∷ b ∷ []) = false
 isBase64 (a ∷ b ∷ c ∷ []) = false
 isBase64 (a ∷ b ∷ c ∷ d ∷ t) = groupHolds (isEmpty t) a b c d && isBase64 t
 
+-- three bytes, each by two of a group's four values
+abbrev pub firstByte : ℕ → ℕ → ℕ
+firstByte s t = s * 4 + t / 16
+
+abbrev pub secondByte : ℕ → ℕ → ℕ
+secondByte t u = t % 16 * 16 + u / 4
+
+abbrev pub thirdByte : ℕ → ℕ → ℕ
+thirdByte u v = u % 4 * 64 + v
+
 -- the bytes of a group
 unfoldable pub groupBytes : ℕ → ℕ → ℕ → ℕ → List ℕ
 groupBytes a b c d =
-    cond (eqb c pad) ((valueOf a * 4 + valueOf b / 16) ∷ []) (
-    cond (eqb d pad) ((valueOf a * 4 + valueOf b / 16) ∷ (valueOf b % 16 * 16 + valueOf c / 4) ∷ [])
-    ((valueOf a * 4 + valueOf b / 16) ∷ (valueOf b % 16 * 16 + valueOf c / 4) ∷ (valueOf c % 4 * 64 + valueOf d) ∷ []))
+    cond (eqb c pad) (firstByte (valueOf a) (valueOf b) ∷ []) (
+    cond (eqb d pad) (firstByte (valueOf a) (valueOf b) ∷ secondByte (valueOf b) (valueOf c) ∷ [])
+    (firstByte (valueOf a) (valueOf b) ∷ secondByte (valueOf b) (valueOf c) ∷ thirdByte (valueOf c) (valueOf d) ∷ []))
 
 -- the bytes that a text stands for
 abbrev pub decode : List ℕ → List ℕ

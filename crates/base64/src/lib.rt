@@ -5,7 +5,7 @@ ghost use mathlib.Core.List.{[], _∷_};
 ghost use Prim.Native.Nat.{_+_, _*_, _≤_, _<_};
 ghost use lib.ListN.{length};
 ghost use Rattle.place.specs.Place.{Wrote};
-ghost use Rattle.base64.specs.Base64.{letter, three, two, one, encode, isLetter, valueOf, groupHolds, groupBytes, isBase64, decode};
+ghost use Rattle.base64.specs.Base64.{letter, three, two, one, encode, isLetter, valueOf, groupHolds, firstByte, secondByte, thirdByte, groupBytes, isBase64, decode};
 use place::Place;
 
 // One of two numbers. Both are worked out before, so that the compiler needs no jump: those on a message's bytes can't be foreseen.
@@ -179,6 +179,28 @@ fn put_triple(p: Place, out: &mut [u8], x: u8, y: u8, z: u8) -> Place
     Place { at: at + 3 }
 }
 
+// The bytes of a group, each by two of its four values.
+fn first_byte(s: u8, t: u8) -> u8
+    requires { ⌜ (s < 64) × (t < 64) ⌝ }
+    ensures { λ r. ⌜ r ≡ firstByte s t ⌝ }
+{
+    s * 4 + t / 16
+}
+
+fn second_byte(t: u8, u: u8) -> u8
+    requires { ⌜ u < 64 ⌝ }
+    ensures { λ r. ⌜ r ≡ secondByte t u ⌝ }
+{
+    t % 16 * 16 + u / 4
+}
+
+fn third_byte(u: u8, v: u8) -> u8
+    requires { ⌜ v < 64 ⌝ }
+    ensures { λ r. ⌜ r ≡ thirdByte u v ⌝ }
+{
+    u % 4 * 64 + v
+}
+
 // The bytes of a group before the last.
 fn put_full(p: Place, out: &mut [u8], a: u8, b: u8, c: u8, d: u8) -> Place
     requires { ⌜ (groupHolds false a b c d ≡ true) × (p .at + length (groupBytes a b c d) ≤ length (now out)) ⌝ }
@@ -188,7 +210,13 @@ fn put_full(p: Place, out: &mut [u8], a: u8, b: u8, c: u8, d: u8) -> Place
     let t = letter_value(b);
     let u = letter_value(c);
     let v = letter_value(d);
-    put_triple(p, out, s * 4 + t / 16, t % 16 * 16 + u / 4, u % 4 * 64 + v)
+    put_triple(
+        p,
+        out,
+        first_byte(s, t),
+        second_byte(t, u),
+        third_byte(u, v),
+    )
 }
 
 // The bytes of the last group, by its padding.
@@ -200,13 +228,15 @@ fn put_last(p: Place, out: &mut [u8], a: u8, b: u8, c: u8, d: u8) -> Place
     let t = value_of(b);
     let u = value_of(c);
     let v = value_of(d);
+    let x = first_byte(s, t);
     if c == b'=' {
-        return p.put_u8(out, s * 4 + t / 16);
+        return p.put_u8(out, x);
     }
+    let y = second_byte(t, u);
     if d == b'=' {
-        return put_pair(p, out, s * 4 + t / 16, t % 16 * 16 + u / 4);
+        return put_pair(p, out, x, y);
     }
-    put_triple(p, out, s * 4 + t / 16, t % 16 * 16 + u / 4, u % 4 * 64 + v)
+    put_triple(p, out, x, y, third_byte(u, v))
 }
 
 // Writes the bytes that a text in base64 stands for.

@@ -8,6 +8,6 @@ pub put-full-spec : {M : Type 1} → statement M
 put-full-spec =
     tie.close
     (tie.spec
-    (λ c κs. search four-letters) (λ c κs. search four-letters) (λ c κs. search four-letters) (λ c κs. search four-letters) (λ c. search needs) (λ c. search needs)
-    (λ c. search needs) (λ c. search needs) (λ c. search needs) (λ c. search needs) (λ c κs. search full-room) (λ c. search needs)
+    (λ c κs. search four-letters) (λ c κs. search four-letters) (λ c κs. search four-letters) (λ c κs. search four-letters)
+    (λ c κs. search needs) (λ c κs. search needs) (λ c κs. search needs) (λ c κs. search full-room) (λ c. search needs)
     (λ c. search full-group depth 8 fits 100000))
