@@ -20,6 +20,8 @@ use Rattle.read_negotiate.specs.declared.Reading.the-variants.{Taken as NegoTak
 use Rattle.read_nl_auth.specs.declared.NlAuth.{NlAuth}
 use Rattle.read_nl_auth.specs.declared.Reading.{Reading as NlReading}
 use Rattle.read_nl_auth.specs.declared.Reading.the-variants.{Taken as NlTaken, Refused as NlRefused}
+use Rattle.read_authenticate.specs.Authenticate.{readAuthenticate}
+use Rattle.read_challenge.specs.Challenge.{readChallenge}
 use Rattle.c_number.specs.Number.{bit}
 use Rattle.c_number.specs.Outcome.{Outcome, numbers, refused}
 
@@ -110,6 +112,13 @@ authenticateOutcome (Refused e) = refused e
 abbrev pub challengeOutcome : ChalReading → Outcome
 challengeOutcome (ChalTaken c) = numbers (challengeNumbers c)
 challengeOutcome (ChalRefused e) = refused e
+
+-- of a message's bytes
+abbrev pub authenticateFound : List ℕ → Outcome
+authenticateFound s = authenticateOutcome (readAuthenticate s .reading)
+
+abbrev pub challengeFound : List ℕ → Outcome
+challengeFound s = challengeOutcome (readChallenge s .reading)
 
 abbrev pub timestampOutcome : TimestampReading → Outcome
 timestampOutcome (TimeTaken t) = numbers (timestampNumbers t)

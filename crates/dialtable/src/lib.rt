@@ -28,7 +28,7 @@ ghost use Rattle.write_canonical.specs.Canonical.{canonicalAnswer, canonicalOut
 ghost use Rattle.c_number.specs.Number.{verdictNumber, writtenNumber};
 ghost use Rattle.c_number.specs.Outcome.{callNumber, callOut, twoArrayNumber, twoArrayOut, twoArrayBytes};
 ghost use Rattle.c_read.specs.FieldCopy.{fieldCopyAnswer, fieldCopyOut};
-ghost use Rattle.c_read.specs.Numbers.{negotiateOutcome, authenticateOutcome, challengeOutcome, timestampOutcome, serverNamesOutcome, nlAuthOutcome};
+ghost use Rattle.c_read.specs.Numbers.{negotiateOutcome, authenticateFound, challengeFound, timestampOutcome, serverNamesOutcome, nlAuthOutcome};
 ghost use Rattle.c_mic.specs.Numbers.{micOutcome, checkingNumber};
 ghost use Rattle.mic.specs.Mic.{workOut, checkMic};
 ghost use Rattle.c_pairs.specs.Pairs.{countOutcome, searchOutcome, askedOutcome};
@@ -61,18 +61,20 @@ pub extern "C" fn dialtable_read_authenticate(
     numbers: &mut [u64],
     mic: &mut [u8],
 ) -> u64
-    ensures answer { λ r. ⌜ r ≡ twoArrayNumber 20 16 (authenticateOutcome (readAuthenticate (now (msg .entry)) .reading)) (length (now (numbers .entry))) (length (now (mic .entry))) ⌝ }
-    ensures content { λ _. ⌜ now (numbers .exit) ≡ twoArrayOut 20 16 (authenticateOutcome (readAuthenticate (now (msg .entry)) .reading)) (now (numbers .entry)) (length (now (mic .entry))) ⌝ }
-    ensures beside { λ _. ⌜ now (mic .exit) ≡ twoArrayBytes 20 16 (authenticateOutcome (readAuthenticate (now (msg .entry)) .reading)) (readAuthenticate (now (msg .entry)) .mic) (length (now (numbers .entry))) (now (mic .entry)) ⌝ }
+    ensures answer { λ r. ⌜ r ≡ twoArrayNumber 20 16 (authenticateFound (now (msg .entry))) (length (now (numbers .entry))) (length (now (mic .entry))) ⌝ }
+    ensures content { λ _. ⌜ now (numbers .exit) ≡ twoArrayOut 20 16 (authenticateFound (now (msg .entry))) (now (numbers .entry)) (length (now (mic .entry))) ⌝ }
+    ensures beside { λ _. ⌜ now (mic .exit) ≡ twoArrayBytes 20 16 (authenticateFound (now (msg .entry)))
+        (readAuthenticate (now (msg .entry)) .mic) (length (now (numbers .entry))) (now (mic .entry)) ⌝ }
 {
     c_read::read_authenticate(msg, numbers, mic)
 }
 
 #[no_mangle]
 pub extern "C" fn dialtable_read_challenge(msg: &[u8], numbers: &mut [u64], out: &mut [u8]) -> u64
-    ensures answer { λ r. ⌜ r ≡ twoArrayNumber 7 8 (challengeOutcome (readChallenge (now (msg .entry)) .reading)) (length (now (numbers .entry))) (length (now (out .entry))) ⌝ }
-    ensures content { λ _. ⌜ now (numbers .exit) ≡ twoArrayOut 7 8 (challengeOutcome (readChallenge (now (msg .entry)) .reading)) (now (numbers .entry)) (length (now (out .entry))) ⌝ }
-    ensures beside { λ _. ⌜ now (out .exit) ≡ twoArrayBytes 7 8 (challengeOutcome (readChallenge (now (msg .entry)) .reading)) (readChallenge (now (msg .entry)) .«server_challenge») (length (now (numbers .entry))) (now (out .entry)) ⌝ }
+    ensures answer { λ r. ⌜ r ≡ twoArrayNumber 7 8 (challengeFound (now (msg .entry))) (length (now (numbers .entry))) (length (now (out .entry))) ⌝ }
+    ensures content { λ _. ⌜ now (numbers .exit) ≡ twoArrayOut 7 8 (challengeFound (now (msg .entry))) (now (numbers .entry)) (length (now (out .entry))) ⌝ }
+    ensures beside { λ _. ⌜ now (out .exit) ≡ twoArrayBytes 7 8 (challengeFound (now (msg .entry)))
+        (readChallenge (now (msg .entry)) .«server_challenge») (length (now (numbers .entry))) (now (out .entry)) ⌝ }
 {
     c_read::read_challenge(msg, numbers, out)
 }
@@ -398,8 +400,10 @@ pub extern "C" fn dialtable_write_authenticate(
     workstation: &[u8],
     key: &[u8],
 ) -> u64
-    ensures answer { λ r. ⌜ r ≡ writtenNumber (writeAnswer (length (now (out .entry))) (record { bits = flags }) (now (version .entry)) (now (mic .entry)) (now (lm .entry)) (now (nt .entry)) (now (domain .entry)) (now (user .entry)) (now (workstation .entry)) (now (key .entry))) ⌝ }
-    ensures content { λ _. ⌜ now (out .exit) ≡ writeOut (now (out .entry)) (record { bits = flags }) (now (version .entry)) (now (mic .entry)) (now (lm .entry)) (now (nt .entry)) (now (domain .entry)) (now (user .entry)) (now (workstation .entry)) (now (key .entry)) ⌝ }
+    ensures answer { λ r. ⌜ r ≡ writtenNumber (writeAnswer (length (now (out .entry))) (record { bits = flags }) (now (version .entry)) (now (mic .entry))
+        (now (lm .entry)) (now (nt .entry)) (now (domain .entry)) (now (user .entry)) (now (workstation .entry)) (now (key .entry))) ⌝ }
+    ensures content { λ _. ⌜ now (out .exit) ≡ writeOut (now (out .entry)) (record { bits = flags }) (now (version .entry)) (now (mic .entry))
+        (now (lm .entry)) (now (nt .entry)) (now (domain .entry)) (now (user .entry)) (now (workstation .entry)) (now (key .entry)) ⌝ }
 {
     let flags = NegotiateFlags { bits: flags };
     written_number(write(
@@ -426,8 +430,10 @@ pub extern "C" fn dialtable_write_nl_auth_request(
     d: &[u8],
     e: &[u8],
 ) -> u64
-    ensures answer { λ r. ⌜ r ≡ writtenNumber (requestAnswer (length (now (out .entry))) (known (record { bits = flags })) (now (a .entry)) (now (b .entry)) (now (c .entry)) (now (d .entry)) (now (e .entry))) ⌝ }
-    ensures content { λ _. ⌜ now (out .exit) ≡ requestOut (now (out .entry)) (known (record { bits = flags })) (now (a .entry)) (now (b .entry)) (now (c .entry)) (now (d .entry)) (now (e .entry)) ⌝ }
+    ensures answer { λ r. ⌜ r ≡ writtenNumber (requestAnswer (length (now (out .entry))) (known (record { bits = flags }))
+        (now (a .entry)) (now (b .entry)) (now (c .entry)) (now (d .entry)) (now (e .entry))) ⌝ }
+    ensures content { λ _. ⌜ now (out .exit) ≡ requestOut (now (out .entry)) (known (record { bits = flags }))
+        (now (a .entry)) (now (b .entry)) (now (c .entry)) (now (d .entry)) (now (e .entry)) ⌝ }
 {
     let flags = NlAuthFlags { bits: flags };
     written_number(write_request(out, flags, a, b, c, d, e))
@@ -449,7 +455,8 @@ pub extern "C" fn dialtable_write_response_pairs(
     unverified: u32,
     bindings: &[u8; 16],
 ) -> u64
-    ensures answer { λ r. ⌜ r ≡ writtenNumber (pairsAnswer (length (now (out .entry))) (now (challenge .entry)) (now («target_name» .entry)) (not (eqb unverified 0)) (now (bindings .entry))) ⌝ }
+    ensures answer { λ r. ⌜ r ≡ writtenNumber (pairsAnswer (length (now (out .entry)))
+        (now (challenge .entry)) (now («target_name» .entry)) (not (eqb unverified 0)) (now (bindings .entry))) ⌝ }
     ensures content { λ _. ⌜ now (out .exit) ≡ pairsOut (now (out .entry)) (now (challenge .entry)) (now («target_name» .entry)) (not (eqb unverified 0)) (now (bindings .entry)) ⌝ }
 {
     written_number(write_response_pairs::write(
@@ -485,8 +492,10 @@ pub extern "C" fn dialtable_mic(
     authenticate: &[u8],
     mic: &mut [u8],
 ) -> u64
-    ensures answer { λ r. ⌜ r ≡ callNumber 16 (micOutcome (workOut (now (key .entry)) (now (negotiate .entry)) (now (challenge .entry)) (now (authenticate .entry)))) (length (now (mic .entry))) ⌝ }
-    ensures content { λ _. ⌜ now (mic .exit) ≡ callOut 16 (micOutcome (workOut (now (key .entry)) (now (negotiate .entry)) (now (challenge .entry)) (now (authenticate .entry)))) (now (mic .entry)) ⌝ }
+    ensures answer { λ r. ⌜ r ≡ callNumber 16 (micOutcome (workOut (now (key .entry)) (now (negotiate .entry)) (now (challenge .entry)) (now (authenticate .entry))))
+        (length (now (mic .entry))) ⌝ }
+    ensures content { λ _. ⌜ now (mic .exit) ≡ callOut 16 (micOutcome (workOut (now (key .entry)) (now (negotiate .entry)) (now (challenge .entry)) (now (authenticate .entry))))
+        (now (mic .entry)) ⌝ }
 {
     c_mic::work_out(key, negotiate, challenge, authenticate, mic)
 }

@@ -29,7 +29,8 @@ pub extern "C" fn md5_of(m: &[u8], out: &mut [u8]) -> u64
 #[no_mangle]
 pub extern "C" fn hmac_md5_of(key: &[u8], m: &[u8], out: &mut [u8]) -> u64
     ensures answer { λ r. ⌜ r ≡ callAnswer (fits (length (now (m .entry))) (length (now (key .entry))) (length (now (out .entry)))) ⌝ }
-    ensures content { λ _. ⌜ now (out .exit) ≡ callAfter (fits (length (now (m .entry))) (length (now (key .entry))) (length (now (out .entry)))) (hmac (now (key .entry)) (now (m .entry))) (now (out .entry)) ⌝ }
+    ensures content { λ _. ⌜ now (out .exit) ≡ callAfter (fits (length (now (m .entry))) (length (now (key .entry))) (length (now (out .entry))))
+        (hmac (now (key .entry)) (now (m .entry))) (now (out .entry)) ⌝ }
 {
     if fits(m.len(), key.len(), out.len()) {
         let mac = hmac_md5::mac(key, m);

@@ -2,7 +2,8 @@
 ghost use mathlib.Core.Path.{_≡_};
 ghost use Prim.Native.Nat.{_≤_};
 ghost use lib.ListN.{length};
-ghost use Rattle.read_challenge.specs.Challenge.{fieldsAt, checkEnds, checkBegins, checkNames, checkFields, fieldsOf, readInfo, readingOf, readingRefusal, fullReadingOf, fullRefusal, serverChallenge, readChallenge, timestampOf, serverNamesOf};
+ghost use Rattle.read_challenge.specs.Challenge.{fieldsAt, checkEnds, checkBegins, checkNames, checkFields, fieldsOf, readInfo, readingOf, readingRefusal};
+ghost use Rattle.read_challenge.specs.Challenge.{fullReadingOf, fullRefusal, serverChallenge, readChallenge, timestampOf, serverNamesOf};
 use field::Field;
 use field::field_at;
 use head::Head;
