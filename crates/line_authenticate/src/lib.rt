@@ -65,8 +65,9 @@ fn kind_size(nt: u16) -> usize
     8
 }
 
-// At least what a line has besides the names: 25 for the start, 20 for the names' labels, 28 for the lengths (13 for the labels and
-// five digits each), 6 for the MIC's word, 10 for the kind's and 12 for the last word and the line's end.
+// The most bytes that a line has besides its names: 25 for the start, 20 for the names' labels, 13 for the lengths' labels and 15 for
+// their digits, 6 for the MIC's word, 10 for the kind's, 12 for the last word and the line's end. It is the same for all lengths:
+// they are here for the contract alone.
 fn most_besides_names(lm: u16, nt: u16, key: u16) -> u16
     ensures { λ r. ⌜ 73 + length (authLengths lm nt key) ≤ r ⌝ }
 {

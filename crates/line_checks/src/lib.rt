@@ -111,8 +111,8 @@ fn lines_fit(checks: &[u8], f: Figures, room: usize) -> Checked
     Checked::Held
 }
 
-// Check 33. The failed check's line has at most 111 bytes and any other at most 22: where there is room for thirteen such lines,
-// they aren't measured.
+// Check 33. The line of the check that failed has at most 111 bytes, and every other line at most 22. So thirteen lines have at most
+// 12 * 22 + 111 bytes: with that much room they aren't measured.
 fn fits(checks: &[u8], f: Figures, room: usize) -> Checked
     ensures { λ r. ⌜ r ≡ roomHolds (length (checkLines f (now (checks .entry)))) room ⌝ }
 {
