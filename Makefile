@@ -36,19 +36,19 @@ help:
 	@echo '                    needs Debian packages, which it names, and root'
 
 run:
-	@tools/depot run "$$MESSAGES"
+	@exec tools/depot run "$$MESSAGES"
 
 example:
 	@tools/example
 
 explain:
-	@tools/depot explain "$$FILE"
+	@exec tools/depot explain "$$FILE"
 
 night:
-	@tools/depot night "$$FILE"
+	@exec tools/depot night "$$FILE"
 
 canonical:
-	@tools/depot canonical "$$FILE" "$$OUT"
+	@exec tools/depot canonical "$$FILE" "$$OUT"
 
 capture:
 	@tools/depot capture "$$FILE" "$$OUT"
@@ -71,19 +71,19 @@ install:
 	@tools/install "$$PREFIX" "$$TARGET"
 
 dist:
-	@tools/dist
+	@exec tools/dist
 
 compare:
-	@tools/need rt cargo cc && tools/build-programs compare ntlm_line nl_auth_line ntlm_explain && tools/compare
+	@exec tools/compare
 
 wide:
-	@tools/need rt cargo cc && tools/wide
+	@exec tools/wide
 
 bench:
-	@tools/need rt cargo cc && tools/bench
+	@exec tools/bench
 
 test:
-	@tools/gate
+	@exec tools/gate
 
 test-firmware:
 	@tools/test-firmware
