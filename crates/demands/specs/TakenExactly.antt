@@ -13,13 +13,14 @@ use Rattle.wire.specs.Refusal.{numberOf, fieldOf, placeOf}
 use Rattle.av_pairs.specs.declared.Count.{Count}
 use Rattle.av_pairs.specs.declared.Count.the-variants.{Pairs, Refused as Uncounted}
 use Rattle.av_pairs.specs.AvPairs.{countPairs}
-use Rattle.head.specs.declared.Kind.the-variants.{Negotiate, Challenge, Authenticate}
+use Rattle.read_negotiate.specs.Negotiate.{readNegotiate}
+use Rattle.read_authenticate.specs.Authenticate.{readAuthenticate}
 use Rattle.read_challenge.specs.declared.Reading.the-variants.{Refused as ChallengeRefused}
 use Rattle.read_challenge.specs.Challenge.{readChallenge}
 use Rattle.read_nl_auth.specs.declared.Reading.{Reading as NlReading}
 use Rattle.read_nl_auth.specs.declared.Reading.the-variants.{Taken as NlTaken, Refused as NlRefused}
 use Rattle.read_nl_auth.specs.NlAuth.{readNlAuth}
-use Rattle.verdict.specs.Verdict.{readAs}
+use Rattle.verdict.specs.Verdict.{negoVerdict, chalVerdict, authVerdict}
 use Rattle.demands.specs.NlAuth.{NlFails, NlFirst}
 use Rattle.demands.specs.Order.{First}
 use Rattle.demands.specs.Message.{Fails, negotiate, authenticate, challenge, Nonempty, lenOf, offsetOf}
@@ -55,10 +56,12 @@ FirstFails F n i p = First F n i × (p ≡ 0)
 -- ---- AUTHENTICATE and NEGOTIATE: no check fails at any field, or the first failure in document 01's order
 
 abbrev pub AuthenticateJudged : Type 0
-AuthenticateJudged = (s : List ℕ) → Judged (readAs Authenticate s) (NoneFails (Fails authenticate s)) (FirstFails (Fails authenticate s))
+AuthenticateJudged =
+    (s : List ℕ) →
+    Judged (authVerdict (readAuthenticate s .reading)) (NoneFails (Fails authenticate s)) (FirstFails (Fails authenticate s))
 
 abbrev pub NegotiateJudged : Type 0
-NegotiateJudged = (s : List ℕ) → Judged (readAs Negotiate s) (NoneFails (Fails negotiate s)) (FirstFails (Fails negotiate s))
+NegotiateJudged = (s : List ℕ) → Judged (negoVerdict (readNegotiate s)) (NoneFails (Fails negotiate s)) (FirstFails (Fails negotiate s))
 
 -- document 02, 3/12: "with 0 for every other number" than 10 to 13
 abbrev pub PlaceOfPairsOnly : Type 0
@@ -107,7 +110,7 @@ PlaceInMessage = (s : List ℕ) (e : Refusal) → readChallenge s .reading ≡ C
 
 -- CHALLENGE is taken, or refused with a number, a field and a place, if and only if so
 abbrev pub ChallengeJudged : Type 0
-ChallengeJudged = (s b : List ℕ) → InfoBytes s b → Judged (readAs Challenge s) (ChallengeHolds s b) (ChallengeFails s b)
+ChallengeJudged = (s b : List ℕ) → InfoBytes s b → Judged (chalVerdict (readChallenge s .reading)) (ChallengeHolds s b) (ChallengeFails s b)
 
 -- ---- NL_AUTH: no check fails, or the first that does; it has no pairs, so the place is 0
 
