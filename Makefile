@@ -32,8 +32,9 @@ help:
 	@echo '                    seed; SEED=number for other messages, N=number for how many are drawn after those at the boundaries'
 	@echo 'make wide           the part of it that holds every call of the library against the second reader; SEED= and N= too'
 	@echo 'make bench          how fast the library is beside the second reader, its instructions, its size and its stack'
-	@echo 'make sign-in        a box signs in to Samba and gss-ntlmssp, sound and with faults, and a file goes to a share and back;'
-	@echo '                    needs Debian packages, which it names, and root'
+	@echo 'make sign-in        a box signs in to Samba, gss-ntlmssp and Apache, sound and with faults, and a file'
+	@echo '                    goes to a share and back; needs root and Debian packages: it names those that are missing, and leaves their'
+	@echo '                    servers out'
 
 run:
 	@exec tools/depot run "$$MESSAGES"

@@ -1,4 +1,4 @@
-"""The box: the program sign_in at the other end of a pipe, and what may happen to its messages on the way."""
+"""The box: the program sign_in or upload at the other end of a pipe, and what may happen to its messages on the way."""
 import os
 import subprocess
 
@@ -35,23 +35,40 @@ class Box:
         self.program, self.key, self.lines = None, None, []
         self.first = self.challenge = self.sent = b""
 
-    def negotiate(self):
+    def start(self, program, target, *more):
+        """program: sign_in or upload; more: its words behind those of the settings"""
         self.end()
-        command = [PROGRAMS + "/sign_in", self.user, self.domain, "BOX7", "cifs/localhost", hex(self.wanted),
-                   str(self.settings)]
+        command = [PROGRAMS + "/" + program, self.user, self.domain, "BOX7", target, hex(self.wanted), str(self.settings),
+                   *more]
         self.program = subprocess.Popen(command, stdin=subprocess.PIPE, stdout=subprocess.PIPE, stderr=subprocess.PIPE)
         self._say(self.password)
-        self.first = self._hear("negotiate")
-        return self.first
+
+    def negotiate(self):
+        self.start("sign_in", "cifs/localhost")
+        return self.note_first(self._hear("negotiate"))
 
     def answer(self, challenge):
-        """The AUTHENTICATE that goes to the server. self.challenge is what the server sent."""
-        self.challenge = challenge
-        self._say(self.relay(challenge).hex())
+        """The AUTHENTICATE that goes to the server."""
+        self._say(self.note_challenge(challenge).hex())
         answer = self._hear("authenticate")
-        self.key = self._hear("key")
-        self.lines = self.program.stderr.read().decode().splitlines()
+        self.hear_key()
         self.end()
+        return self.note_sent(answer)
+
+    def hear_key(self):
+        self.key = self._hear("key")
+
+    def note_first(self, negotiate):
+        self.first = negotiate
+        return negotiate
+
+    def note_challenge(self, challenge):
+        """What the server sent -> what the box has of it"""
+        self.challenge = challenge
+        return self.relay(challenge)
+
+    def note_sent(self, answer):
+        """What the box sent -> what the server has of it"""
         self.sent = self.spoil(self, answer)
         return self.sent
 
@@ -65,11 +82,13 @@ class Box:
         return int.from_bytes(self.sent[response + 24:response + 32], "little")
 
     def end(self):
-        if self.program:
-            for pipe in (self.program.stdin, self.program.stdout, self.program.stderr):
-                pipe.close()
-            self.program.wait()
-            self.program = None
+        """Ends its program, which has nothing more to read. -> what it still said"""
+        if not self.program:
+            return ""
+        program, self.program = self.program, None
+        said, log = program.communicate()
+        self.lines = log.decode().splitlines()
+        return said.decode().strip()
 
     def _say(self, line):
         self.program.stdin.write(line.encode() + b"\n")
@@ -78,7 +97,6 @@ class Box:
     def _hear(self, word):
         line = self.program.stdout.readline().decode().strip()
         if not line.startswith(word + " "):
-            self.lines = self.program.stderr.read().decode().splitlines()
             self.end()
             raise BoxRefused(line)
         return bytes.fromhex(line[len(word) + 1:])

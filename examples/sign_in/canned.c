@@ -15,7 +15,7 @@ dialtable_len exchange(const uint8_t *msg, dialtable_len msg_len, uint8_t *in, d
 {
     if (in_len == 0) {
         return msg_len == sizeof canned_authenticate && memcmp(msg, canned_authenticate, sizeof canned_authenticate) == 0
-                   ? 0 : NOT_SENT;
+                   ? 0 : NOT_TAKEN;
     }
     if (in_len < sizeof canned_challenge) return 0;
     memcpy(in, canned_challenge, sizeof canned_challenge);

@@ -13,7 +13,7 @@ SESSION_KEY = raw.OID.from_int_seq("1.2.840.113554.1.2.2.5.5")
 
 
 class Gss:
-    name, domain, knows_users = "gss-ntlmssp", "DEPOT", True
+    name, kind, domain, knows_users = "gss-ntlmssp", "NTLM", "DEPOT", True
 
     def __init__(self, folder):
         users = os.path.join(folder, "users")
@@ -27,6 +27,9 @@ class Gss:
     def version(self):
         return "gss-ntlmssp " + subprocess.run(["dpkg-query", "-W", "-f", "${Version}", "gss-ntlmssp"],
                                                capture_output=True, text=True).stdout
+
+    def end(self, logs):
+        """It is a library, and nothing of it runs."""
 
     def sign_in(self, box, timestamp=True):
         """-> (taken, what is wrong all the same or why it is refused). Where it is taken the session key is compared and bytes

@@ -19,13 +19,16 @@ CONF = """[global]
 
 
 class NtlmAuth:
-    name, domain, knows_users = "ntlm_auth", "DEPOT", False
+    name, kind, domain, knows_users = "ntlm_auth", "NTLM", "DEPOT", False
 
     def __init__(self, folder):
         self.folder = folder
 
     def version(self):
         return "Samba " + subprocess.run(["ntlm_auth", "--version"], capture_output=True, text=True).stdout.split()[-1]
+
+    def end(self, logs):
+        """Nothing of it runs on: each sign-in has a helper of its own."""
 
     def _start(self, timestamp):
         conf = os.path.join(self.folder, "smb.conf")

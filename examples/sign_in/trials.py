@@ -1,6 +1,9 @@
-"""Signs the box in to three acceptors that know nothing of this project, and prints in a table what each answered. Their files
-stand in a temporary folder; the messages that were seen, and smbd's logs, are kept in the folder of the programs, which
-SIGN_IN_PROGRAMS names. The status is 0 only where every trial went as expected."""
+"""Signs the box in to servers that know nothing of this project, and prints in a table what each answered. A word of the command
+is a column that is run, or COLUMN=PACKAGES for one that is left out since Debian's packages are missing. The servers' files stand
+in a temporary folder; the messages that were seen, and the servers' logs, are kept in the folder of the programs, which
+SIGN_IN_PROGRAMS names. The status is 0 only where every column was run and every trial went as expected, 3 where a column was
+left out and the others went as expected, and else 1."""
+import importlib
 import json
 import os
 import shutil
@@ -10,9 +13,6 @@ import tempfile
 
 import box as client
 from box import Box, BoxRefused
-from gss import Gss
-from ntlm_auth import NtlmAuth
-from smbd import Smbd
 
 NO_128 = client.WANTED & ~client.BITS_128
 OEM = client.WANTED & ~client.UNICODE | client.OEM
@@ -20,14 +20,16 @@ UNSENT = "a name can't be sent whole"
 
 
 class Trial:
-    """expected: "taken", "refused" by the acceptor, or what the box itself says. mic: what the bench's check of the MIC says
-    over the messages that the server saw; None where no MIC is due. shows: what the box's log lines must have, besides the
+    """A sign-in. expected: "taken", "refused" by the acceptor, or what the box itself says. mic: what the bench's check of the
+    MIC says over the messages that the server saw; None where no MIC is due. shows: what the box's log lines must have, besides the
     name. by_list: only a list of users can tell the fault. slug: its messages are kept under this name."""
+    kind = "NTLM"
 
     def __init__(self, what, expected, mic, user=client.LONG, shows="", slug=None, timestamp=True, domain=None,
                  by_list=False, **box):
         self.what, self.expected, self.mic, self.user, self.timestamp = what, expected, mic, user, timestamp
         self.shows, self.domain, self.by_list, self.box, self.slug = shows, domain, by_list, box, slug
+        self.bench = mic or ("none due" if expected == "taken" else "nothing sent")
 
     def box_for(self, acceptor):
         return Box(self.user, acceptor.domain if self.domain is None else self.domain, **self.box)
@@ -41,6 +43,35 @@ class Trial:
             return "logged: %s" % box.lines
         times = [word[5:] for word in box.lines[1].split() if word.startswith("time=")]
         return "another time than the server's" if times and "%016X" % box.response_time() not in times else ""
+
+    def run(self, acceptor, kept):
+        """-> (what happened, as a cell of the table; did it go as expected)"""
+        if self.by_list and not acceptor.knows_users:
+            return "not tried: it has no list of users", True
+        box = self.box_for(acceptor)
+        try:
+            cell, good = self.sign_in(box, acceptor)
+        finally:
+            kept.sign_in(self, acceptor, box)
+        return cell, good
+
+    def sign_in(self, box, acceptor):
+        try:
+            taken, why = acceptor.sign_in(box, self.timestamp)
+        except BoxRefused as refusal:
+            return "the box: %s" % refusal, str(refusal) == self.expected
+        mic = client.bench(box, "check") if box.mic_is_there() else None
+        cell, good = verdict(self.expected, taken, why)
+        if mic != self.mic:
+            cell += "; MIC on the bench: %s" % mic
+        fault = self.fault_of(box)
+        return cell + ("; " + fault if fault else ""), good and mic == self.mic and not fault
+
+
+def verdict(expected, taken, why):
+    """-> (what the server did, as a cell of the table; did it go as expected). A server that takes has nothing to say."""
+    word = "taken" if taken else "refused"
+    return word + (": " + why if why else ""), word == expected and not (taken and why)
 
 
 TRIALS = (
@@ -66,54 +97,51 @@ TRIALS = (
 )
 
 
-def try_one(trial, acceptor):
-    """-> (what happened, as a cell of the table; did it go as expected; the box)"""
-    box = trial.box_for(acceptor)
-    try:
-        taken, why = acceptor.sign_in(box, trial.timestamp)
-    except BoxRefused as refusal:
-        return "the box: %s" % refusal, str(refusal) == trial.expected, box
-    except Exception as error:
-        return "broke off: %r" % error, False, box
-    mic = client.bench(box, "check") if box.mic_is_there() else None
-    word = "taken" if taken else "refused"
-    good = word == trial.expected and mic == trial.mic and not (taken and why)
-    cell = word + (": " + why if why else "")
-    if mic != trial.mic:
-        cell += "; MIC on the bench: %s" % mic
-    fault = trial.fault_of(box)
-    return cell + ("; " + fault if fault else ""), good and not fault, box
+class Kept:
+    """The folder of the messages that were seen, as the servers saw them, with the sign-ins' session keys."""
+
+    def __init__(self, folder):
+        self.folder, self.keys = folder, {}
+        shutil.rmtree(folder, ignore_errors=True)
+        os.makedirs(folder)
+
+    def message(self, name, message):
+        with open(os.path.join(self.folder, name + ".bin"), "wb") as file:
+            file.write(message)
+
+    def sign_in(self, trial, acceptor, box):
+        if trial.slug and box.sent:
+            handshake = "%s-%s" % (acceptor.name, trial.slug)
+            self.keys[handshake] = box.key.hex()
+            for kind, message in (("negotiate", box.first), ("challenge", box.challenge), ("authenticate", box.sent)):
+                self.message("%s-%s" % (kind, handshake), message)
+        if trial.slug == "long":
+            print("\n".join(["%s's sign-in with a name of 60 characters:" % acceptor.name]
+                            + ["    " + line for line in box.lines]))
+
+    def end(self):
+        with open(os.path.join(self.folder, "keys.json"), "w") as file:
+            json.dump(self.keys, file, indent=1)
 
 
-def keep(messages, trial, acceptor, box, keys):
-    """Keeps what the server saw, and notes its session key."""
-    if trial.slug and box.sent:
-        handshake = "%s-%s" % (acceptor.name, trial.slug)
-        keys[handshake] = box.key.hex()
-        for kind, message in (("negotiate", box.first), ("challenge", box.challenge), ("authenticate", box.sent)):
-            with open(os.path.join(messages, "%s-%s.bin" % (kind, handshake)), "wb") as file:
-                file.write(message)
-
-
-def run(acceptors, messages):
+def run(acceptors, kept):
     """-> the rows of the table, and how many trials went other than expected"""
-    rows, bad, keys = [["Trial", "MIC on the bench"] + [acceptor.name for acceptor in acceptors]], 0, {}
+    rows, bad = [["Trial", "MIC on the bench"] + [acceptor.name for acceptor in acceptors]], 0
     for trial in TRIALS:
-        row = [trial.what, trial.mic or ("none due" if trial.expected == "taken" else "nothing sent")]
+        if all(acceptor.kind != trial.kind for acceptor in acceptors):
+            continue
+        row = [trial.what, trial.bench]
         for acceptor in acceptors:
-            if trial.by_list and not acceptor.knows_users:
-                row.append("not tried: it has no list of users")
+            if acceptor.kind != trial.kind:
+                row.append("-")
                 continue
-            cell, good, box = try_one(trial, acceptor)
+            try:
+                cell, good = trial.run(acceptor, kept)
+            except Exception as error:
+                cell, good = "broke off: %s: %s" % (type(error).__name__, error), False
             row.append(cell if good else cell + " (NOT AS EXPECTED)")
             bad += not good
-            keep(messages, trial, acceptor, box, keys)
-            if trial.slug == "long":
-                print("\n".join(["%s's sign-in with a name of 60 characters:" % acceptor.name]
-                                + ["    " + line for line in box.lines]))
         rows.append(row)
-    with open(os.path.join(messages, "keys.json"), "w") as file:
-        json.dump(keys, file, indent=1)
     return rows, bad
 
 
@@ -125,9 +153,12 @@ def show(rows):
 
 
 LEGEND = """taken: ntlm_auth has the box's name and session key; gss-ntlmssp has them too, and bytes went sealed both ways;
-through smbd a file was written to the share and read back, and is the user's.
+through smbd a file was written to the share and read back, and is the user's; to Apache a file went up by PUT, which it has whole
+and logged as the user's.
 MIC on the bench: what dialtable_check_mic says to the messages as the server saw them."""
-LIMIT = 300  # seconds; a run takes two
+COLUMNS = {"ntlm_auth": ("ntlm_auth", "NtlmAuth"), "gss-ntlmssp": ("gss", "Gss"), "smbd": ("smbd", "Smbd"),
+           "Apache": ("apache", "Apache")}
+LIMIT = 300  # seconds; a run takes ten
 
 
 def on_signals(action):
@@ -140,27 +171,43 @@ def stop(number, frame):
     sys.exit("ended by signal %d" % number)
 
 
-def main(programs):
+def run_ended(acceptors, kept):
+    """As run; from then on no signal ends what is left to do."""
+    try:
+        return run(acceptors, kept)
+    finally:
+        on_signals(signal.SIG_IGN)
+
+
+def acceptor_of(column, folder):
+    module, name = COLUMNS[column]
+    return getattr(importlib.import_module(module), name)(folder)
+
+
+def main(programs, words):
     on_signals(stop)
     signal.alarm(LIMIT)
-    messages = os.path.join(programs, "messages")
-    shutil.rmtree(messages, ignore_errors=True)
-    os.makedirs(messages)
+    left_out = ["%s (%s)" % tuple(word.split("=", 1)) for word in words if "=" in word]
+    kept = Kept(os.path.join(programs, "messages"))
     with tempfile.TemporaryDirectory(prefix="sign-in.") as folder:
         os.chmod(folder, 0o755)  # the users of the share go through it
-        smbd = Smbd(os.path.join(folder, "smbd"))
-        acceptors = (NtlmAuth(folder), Gss(folder), smbd)
+        acceptors = [acceptor_of(column, folder) for column in words if "=" not in column]
         try:
-            rows, bad = run(acceptors, messages)
+            rows, bad = run_ended(acceptors, kept)
         finally:
-            smbd.end(programs)
+            for acceptor in acceptors:
+                acceptor.end(programs)
+        kept.end()
     print()
     show(rows)
     print(LEGEND)
     print("; ".join("%s: %s" % (acceptor.name, acceptor.version()) for acceptor in acceptors))
-    print("%d went other than expected; smbd's logs are in %s" % (bad, programs) if bad else "every trial went as expected")
-    return bad != 0
+    if left_out:
+        print("left out, since Debian's packages are missing: " + ", ".join(left_out))
+    print("%d went other than expected; the servers' logs are in %s" % (bad, programs) if bad
+          else "every trial of the others went as expected, and the status is 3" if left_out else "every trial went as expected")
+    return 1 if bad else 3 if left_out else 0
 
 
 if __name__ == "__main__":
-    sys.exit(main(os.environ["SIGN_IN_PROGRAMS"]))
+    sys.exit(main(os.environ["SIGN_IN_PROGRAMS"], sys.argv[1:]))
