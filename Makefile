@@ -32,7 +32,7 @@ help:
 	@echo '                    seed; SEED=number for other messages, N=number for how many are drawn after those at the boundaries'
 	@echo 'make wide           the part of it that holds every call of the library against the second reader; SEED= and N= too'
 	@echo 'make bench          how fast the library is beside the second reader, its instructions, its size and its stack'
-	@echo 'make sign-in        a box signs in to Samba, gss-ntlmssp and Apache, sound and with faults, and a file'
+	@echo 'make sign-in        a box signs in to Samba, gss-ntlmssp, Apache and a domain controller, sound and with faults, and a file'
 	@echo '                    goes to a share and back; needs root and Debian packages: it names those that are missing, and leaves their'
 	@echo '                    servers out'
 

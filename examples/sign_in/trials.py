@@ -6,6 +6,7 @@ left out and the others went as expected, and else 1."""
 import importlib
 import json
 import os
+import re
 import shutil
 import signal
 import sys
@@ -17,6 +18,7 @@ from box import Box, BoxRefused
 NO_128 = client.WANTED & ~client.BITS_128
 OEM = client.WANTED & ~client.UNICODE | client.OEM
 UNSENT = "a name can't be sent whole"
+DNS_DOMAIN, DNS_HOST = "depot.example.com", "box7.depot.example.com"
 
 
 class Trial:
@@ -68,6 +70,23 @@ class Trial:
         return cell + ("; " + fault if fault else ""), good and mic == self.mic and not fault
 
 
+class NlTrial:
+    """A secure channel. names: strings A to E of the NL_AUTH request, None for one that isn't there."""
+    kind, bench = "NL_AUTH", "-"
+
+    def __init__(self, what, expected, names):
+        self.what, self.expected, self.names = "NL_AUTH: " + what, expected, names
+
+    def run(self, acceptor, kept):
+        """-> (what happened, as a cell of the table; did it go as expected)"""
+        try:
+            taken, why, request = acceptor.bind(self.names)
+        except BoxRefused as refusal:
+            return "the box: %s" % refusal, False
+        kept.message("nl-request-" + "-".join(re.findall("[a-z0-9]+", self.what.lower())[2:]), request)
+        return verdict(self.expected, taken, why)
+
+
 def verdict(expected, taken, why):
     """-> (what the server did, as a cell of the table; did it go as expected). A server that takes has nothing to say."""
     word = "taken" if taken else "refused"
@@ -94,6 +113,17 @@ TRIALS = (
     Trial("one bit of the MIC changed", "refused", "no", spoil=client.turn_mic_bit),
     Trial("challenge altered by a relay: SEAL taken out", "refused", "no", relay=client.drop_seal, slug="relayed"),
     Trial("wrong password", "refused", "yes", password=client.PASSWORD + "?"),
+    NlTrial("A and B", "taken", ("DEPOT", "BOX7", None, None, None)),
+    NlTrial("A to E", "taken", ("DEPOT", "BOX7", DNS_DOMAIN, DNS_HOST, "BOX7")),
+    NlTrial("C and E", "taken", (None, None, DNS_DOMAIN, None, "BOX7")),
+    NlTrial("C, D and E, another host in D", "taken", (None, None, DNS_DOMAIN, "box8.depot.example.com", "BOX7")),
+    NlTrial("A to E, another domain in C, another computer in E", "taken",
+            ("DEPOT", "BOX7", "other.example.com", DNS_HOST, "BOX8")),
+    NlTrial("A and B, another domain in A", "refused", ("OTHER", "BOX7", None, None, None)),
+    NlTrial("A and B, another computer in B", "refused", ("DEPOT", "BOX8", None, None, None)),
+    NlTrial("C and E, another domain in C", "refused", (None, None, "other.example.com", None, "BOX7")),
+    NlTrial("C and E, another computer in E", "refused", (None, None, DNS_DOMAIN, None, "BOX8")),
+    NlTrial("A alone, no computer", "refused", ("DEPOT", None, None, None, None)),
 )
 
 
@@ -154,10 +184,10 @@ def show(rows):
 
 LEGEND = """taken: ntlm_auth has the box's name and session key; gss-ntlmssp has them too, and bytes went sealed both ways;
 through smbd a file was written to the share and read back, and is the user's; to Apache a file went up by PUT, which it has whole
-and logged as the user's.
-MIC on the bench: what dialtable_check_mic says to the messages as the server saw them."""
+and logged as the user's; with the domain controller a secure channel was bound, and a sealed call answered.
+-: the server has no such messages. MIC on the bench: what dialtable_check_mic says to the messages as the server saw them."""
 COLUMNS = {"ntlm_auth": ("ntlm_auth", "NtlmAuth"), "gss-ntlmssp": ("gss", "Gss"), "smbd": ("smbd", "Smbd"),
-           "Apache": ("apache", "Apache")}
+           "Apache": ("apache", "Apache"), "domain-controller": ("domain_controller", "DomainController")}
 LIMIT = 300  # seconds; a run takes ten
 
 
@@ -202,6 +232,9 @@ def main(programs, words):
     show(rows)
     print(LEGEND)
     print("; ".join("%s: %s" % (acceptor.name, acceptor.version()) for acceptor in acceptors))
+    for acceptor in acceptors:
+        if hasattr(acceptor, "tell"):
+            print(acceptor.tell(kept))
     if left_out:
         print("left out, since Debian's packages are missing: " + ", ".join(left_out))
     print("%d went other than expected; the servers' logs are in %s" % (bad, programs) if bad
