@@ -1,5 +1,6 @@
 # make help lists the targets.
-.PHONY: help run example explain night canonical capture lib lib-small lib-thumb install dist test test-firmware compare wide bench
+.PHONY: help run example explain night canonical capture report lib lib-small lib-thumb install dist test test-firmware test-report compare \
+	wide bench
 
 MESSAGES ?= messages
 PREFIX ?= /usr/local
@@ -18,6 +19,8 @@ help:
 	@echo '                    OUT=file, which only you may read, since it holds secrets'
 	@echo 'make capture        the messages of a capture, for make run MESSAGES=folder: FILE=x.pcapng, to the new folder OUT=folder, which'
 	@echo '                    only you may read; needs tshark. A server on a port that is not its own: DECODE_AS=tcp.port==8080,http'
+	@echo 'make report         the same as make run, as a page to look at in a browser: MESSAGES=folder, to OUT=page.html, which only'
+	@echo '                    you may read; secrets are masked on it'
 	@echo 'make lib            the library for C and Rust: target/staticlib/libdialtable.a, whose header is include/dialtable.h'
 	@echo 'make lib-small      the same with less code: target/small/libdialtable.a'
 	@echo 'make lib-thumb      the same for a small box: target/TARGET/libdialtable.a; TARGET=thumbv7m-none-eabi is understood,'
@@ -28,6 +31,7 @@ help:
 	@echo 'make test           every proof and every test; the last line is "N passed, 0 failed"'
 	@echo 'make test-firmware  every call on an emulated Cortex-M3 and Cortex-M0 and on this machine, with the same answers;'
 	@echo '                    needs qemu-system-arm and gcc-arm-none-eabi'
+	@echo 'make test-report    the page of messages/ looked at in Chromium, light and dark, narrow and wide; needs chromium'
 	@echo 'make compare        the part of make test that holds the three programs against the second reader, on messages from a'
 	@echo '                    seed; SEED=number for other messages, N=number for how many are drawn after those at the boundaries'
 	@echo 'make wide           the part of it that holds every call of the library against the second reader; SEED= and N= too'
@@ -53,6 +57,9 @@ canonical:
 
 capture:
 	@tools/depot capture "$$FILE" "$$OUT"
+
+report:
+	@exec tools/depot report "$$MESSAGES" "$$OUT"
 
 lib:
 	@tools/build-lib
@@ -88,6 +95,9 @@ test:
 
 test-firmware:
 	@tools/test-firmware
+
+test-report:
+	@tools/test-report
 
 .PHONY: sign-in
 sign-in:

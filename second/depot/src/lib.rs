@@ -1,6 +1,6 @@
 //! What the depot bench reads and runs: the message files of a folder and the message
 //! that each holds, a night's messages, and programs that print a line; a refusal in words,
-//! the summary of a run, and messages out of a capture.
+//! the summary of a run, a page of it, and messages out of a capture.
 
 #![forbid(unsafe_code)]
 
@@ -10,6 +10,7 @@ pub mod folder;
 pub mod form;
 pub mod night;
 pub mod program;
+pub mod report;
 pub mod secret_file;
 pub mod summary;
 pub mod words;

@@ -17,6 +17,7 @@ use depot::folder::{Content, Folder, MessageFile, NoFolder, NotRead};
 use depot::form::{self, Kind};
 use depot::night::{index_of, read_index, NoNight};
 use depot::program::{Answer, CannotRun, Program, Text};
+use depot::report::{self, NoPage, Programs};
 use depot::summary::{Found, Outcome, Summary};
 use depot::words::{self, ReadAs};
 
@@ -25,7 +26,9 @@ const USAGE: &str =
                      | depot look explain FILE | depot explain FILE NTLM_EXPLAIN NL_AUTH_LINE SECOND \
                      | depot look night FILE | depot night FILE LINKED SECOND \
                      | depot look canonical FILE \
-                     | depot look capture FILE | depot capture FILE OUT TSHARK";
+                     | depot look capture FILE | depot capture FILE OUT TSHARK \
+                     | depot look report FOLDER \
+                     | depot report FOLDER OUT NTLM_LINE NL_AUTH_LINE NTLM_EXPLAIN SECOND LINKED";
 
 fn main() -> ExitCode {
     let args: Vec<OsString> = env::args_os().skip(1).collect();
@@ -54,6 +57,10 @@ fn main() -> ExitCode {
         [command, file, out, tshark] if command == "capture" => {
             capture_file([file, out, tshark].map(Path::new))
         }
+        [command, folder, out, ntlm, nl_auth, explain, second, linked] if command == "report" => {
+            let programs = [ntlm, nl_auth, explain, second, linked].map(Path::new);
+            report(Path::new(folder), Path::new(out), programs)
+        }
         _ => return fail(2, &USAGE),
     };
     match done {
@@ -80,6 +87,7 @@ enum Failure {
     NoBuffer(PathBuf, NotRead),
     NoNight(NoNight),
     CannotRun(CannotRun),
+    NoPage(NoPage),
     Print(io::Error),
 }
 
@@ -142,6 +150,7 @@ impl fmt::Display for Failure {
             Self::NoNight(why) => why.fmt(f),
             Self::NotCaptured(why) => why.fmt(f),
             Self::CannotRun(why) => write!(f, "{why}; make run builds it, or make night"),
+            Self::NoPage(why) => why.fmt(f),
             Self::Print(error) => write!(f, "what the bench found can't be printed: {error}"),
         }
     }
@@ -152,7 +161,7 @@ impl fmt::Display for Failure {
 /// anything is proved. None where there is no such command.
 fn needs(command: &OsStr, input: &Path) -> Option<Result<Vec<&'static str>, Failure>> {
     match command.to_str()? {
-        "run" => Some(
+        "run" | "report" => Some(
             Folder::list(input)
                 .map_err(Failure::from)
                 .map(|folder| Needs::of(&folder).names()),
@@ -279,6 +288,15 @@ fn capture_file([file, out, tshark]: [&Path; 3]) -> Result<bool, Failure> {
         );
     }
     Ok(captured.broke_off.is_none())
+}
+
+/// Writes the page of a folder's messages. True where all were read and no two programs
+/// differ.
+fn report(folder: &Path, out: &Path, programs: [&Path; 5]) -> Result<bool, Failure> {
+    let programs = Programs::new(programs);
+    let counts = report::write(folder, out, &programs).map_err(Failure::NoPage)?;
+    writeln!(io::stdout(), "{}: {counts}", out.display())?;
+    Ok(counts.is_good())
 }
 
 /// A night's messages: the buffer, and the file that lists them.
