@@ -338,6 +338,51 @@ fn an_overlap_shows_no_secret() {
     assert!(!page.contains("Flags <code>"));
 }
 
+/// Two faults at once: the NT response's head is lost, and a name's points at its bytes,
+/// or a name runs over other fields while the flags are at fault.
+#[test]
+fn a_name_in_doubt_shows_no_secret() {
+    let (message, secrets) = with_secrets(FLAGS);
+    let mut moved = message.clone();
+    moved.copy_within(24..28, 40);
+    moved[20..28].fill(0);
+    for (place, value) in [(8, 7), (3, b'X')] {
+        let mut damaged = moved.clone();
+        damaged[place] = value;
+        assert_no_secret(&page_of(&damaged), &secrets, &format!("{place} is {value}"));
+    }
+    for name in [28, 36, 44] {
+        for len in [20, 60, 76, 88, 100] {
+            let mut damaged = message.clone();
+            damaged[60] &= !3;
+            damaged[name] = len;
+            assert_no_secret(
+                &page_of(&damaged),
+                &secrets[..4],
+                &format!("{name} has {len}"),
+            );
+        }
+    }
+    let mut over = message;
+    over[60] &= !3;
+    over[28] = 88;
+    assert_no_secret(&page_of(&over), &secrets, "the domain over a gap");
+}
+
+/// What is no message at all, and a message that is read as a string of NL_AUTH.
+#[test]
+fn what_is_of_no_kind_shows_no_secret() {
+    let (message, secrets) = with_secrets(FLAGS);
+    for len in [20, 44, 60, 90] {
+        let blob = marked(129, len);
+        let page = page_of(&blob);
+        assert_no_secret(&page, &[blob[12..].to_vec()], "of no kind");
+    }
+    let string = [b"\0\0\0\0\x08\0\0\0".to_vec(), message].concat();
+    assert_eq!(item("", &string).state(), Outcome::Refused);
+    assert_no_secret(&page_of(&string), &secrets, "string D");
+}
+
 /// A key that doesn't count stands in no field.
 #[test]
 fn a_key_that_does_not_count_is_masked() {
