@@ -66,11 +66,7 @@ impl Folder {
     /// itself. A folder inside is kept as a file that can't be read, so that
     /// nothing in it is left out without a word.
     pub fn list(path: &Path) -> Result<Self, NoFolder> {
-        let failed = |error: io::Error| match error.kind() {
-            io::ErrorKind::NotFound => NoFolder::Missing(path.to_owned()),
-            io::ErrorKind::NotADirectory => NoFolder::NotAFolder(path.to_owned()),
-            _ => NoFolder::Unreadable(path.to_owned(), error),
-        };
+        let failed = |error: io::Error| NoFolder::of(path, error);
         let mut names: Vec<OsString> = Vec::new();
         for entry in fs::read_dir(path).map_err(failed)? {
             names.push(entry.map_err(failed)?.file_name());
@@ -84,18 +80,26 @@ impl Folder {
         Ok(Self {
             messages: messages
                 .into_iter()
-                .map(|name| MessageFile {
-                    path: path.join(&name),
-                    name: printable(&name),
-                })
+                .map(|name| MessageFile::in_folder(path, &name))
                 .collect(),
             passed_over: passed_over.iter().map(|name| printable(name)).collect(),
         })
     }
 }
 
+impl NoFolder {
+    /// Why the folder at a path can't be gone through.
+    pub(crate) fn of(path: &Path, error: io::Error) -> Self {
+        match error.kind() {
+            io::ErrorKind::NotFound => Self::Missing(path.to_owned()),
+            io::ErrorKind::NotADirectory => Self::NotAFolder(path.to_owned()),
+            _ => Self::Unreadable(path.to_owned(), error),
+        }
+    }
+}
+
 /// Whether a name is that of a file beside the messages.
-fn tells_about(name: &OsStr) -> bool {
+pub(crate) fn tells_about(name: &OsStr) -> bool {
     let hidden = name.as_encoded_bytes().starts_with(b".");
     let extension = Path::new(name).extension().unwrap_or_default();
     let beside = ["md", "json", "night", "index"];
@@ -103,7 +107,7 @@ fn tells_about(name: &OsStr) -> bool {
 }
 
 /// A name without characters that would upset a terminal or a line.
-fn printable(name: &OsStr) -> String {
+pub(crate) fn printable(name: &OsStr) -> String {
     name.to_string_lossy()
         .chars()
         .map(|c| if c.is_control() { '?' } else { c })
@@ -116,6 +120,14 @@ impl MessageFile {
         Self {
             name: printable(path.as_os_str()),
             path: path.to_owned(),
+        }
+    }
+
+    /// The file of a name in a folder.
+    pub(crate) fn in_folder(folder: &Path, name: &OsStr) -> Self {
+        Self {
+            name: printable(name),
+            path: folder.join(name),
         }
     }
 

@@ -6,10 +6,13 @@
 
 pub mod capture;
 pub mod dump;
+pub mod files;
 pub mod folder;
 pub mod form;
+pub mod many;
 pub mod night;
 pub mod program;
+pub mod progress;
 pub mod report;
 pub mod secret_file;
 pub mod summary;

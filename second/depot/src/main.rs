@@ -9,14 +9,19 @@ use std::env;
 use std::ffi::{OsStr, OsString};
 use std::fmt;
 use std::io::{self, BufWriter, Write};
+use std::num::NonZero;
 use std::path::{Path, PathBuf};
 use std::process::ExitCode;
+use std::thread;
 
 use depot::capture::{self, NotCaptured};
-use depot::folder::{Content, Folder, MessageFile, NoFolder, NotRead};
+use depot::files::{self, About, Files};
+use depot::folder::{Content, MessageFile, NoFolder, NotRead};
 use depot::form::{self, Kind};
+use depot::many;
 use depot::night::{index_of, read_index, NoNight};
 use depot::program::{Answer, CannotRun, Program, Text};
+use depot::progress::Progress;
 use depot::report::{self, NoPage, Programs};
 use depot::summary::{Found, Outcome, Summary};
 use depot::words::{self, ReadAs};
@@ -162,9 +167,10 @@ impl fmt::Display for Failure {
 fn needs(command: &OsStr, input: &Path) -> Option<Result<Vec<&'static str>, Failure>> {
     match command.to_str()? {
         "run" | "report" => Some(
-            Folder::list(input)
-                .map_err(Failure::from)
-                .map(|folder| Needs::of(&folder).names()),
+            refused_fails()
+                .and_then(|_| Ok(files::about(input)?))
+                .and_then(|_| Ok(Needs::of(input)?))
+                .map(|needs| needs.names()),
         ),
         "explain" => Some(read(input).map(|message| match Kind::of(&message) {
             Kind::NlAuth => vec!["nl_auth_line"],
@@ -193,10 +199,10 @@ struct Needs {
 
 impl Needs {
     /// A header line's message isn't known before it is imported, so that it may be of any kind.
-    fn of(folder: &Folder) -> Self {
+    fn of(folder: &Path) -> Result<Self, NoFolder> {
         let mut needs = Self::default();
-        for file in &folder.messages {
-            let kind = match file.read_all() {
+        for file in Files::of(folder) {
+            let kind = match file?.read_all() {
                 Ok(Content::Message(_, message)) => Kind::of(&message),
                 Ok(Content::HeaderTexts(..)) => {
                     needs.import = true;
@@ -207,7 +213,7 @@ impl Needs {
             needs.ntlm |= kind != Kind::NlAuth;
             needs.nl_auth |= kind != Kind::Ntlm;
         }
-        needs
+        Ok(needs)
     }
 
     fn names(&self) -> Vec<&'static str> {
@@ -408,28 +414,35 @@ impl Bench {
         }
     }
 
-    /// Runs every message. True where all were read and no two lines differ, and with
-    /// `refused_fails` none was refused.
+    /// Runs every message, over all cores, and prints in the order of their names. True where all
+    /// were read and no two lines differ, and with `refused_fails` none was refused. What is held of
+    /// them doesn't grow with their number.
     fn run(&self, folder: &Path, refused_fails: bool) -> Result<bool, Failure> {
-        let folder = Folder::list(folder)?;
-        self.try_programs(&Needs::of(&folder))?;
+        let about = files::about(folder)?;
+        self.try_programs(&Needs::of(folder)?)?;
         let mut out = BufWriter::new(io::stdout().lock());
         let mut summary = Summary::default();
-        for file in &folder.messages {
-            for found in self.run_file(file, &mut out)? {
-                summary.add(&found);
+        let mut progress = Progress::of(about.messages);
+        let work = |file: MessageFile| {
+            let mut text = Vec::new();
+            let found = self.run_file(&file, &mut text)?;
+            Ok((text, found))
+        };
+        let take = |(text, found): (Vec<u8>, Vec<Found>)| {
+            out.write_all(&text)?;
+            found.iter().for_each(|found| summary.add(found));
+            if progress.add() {
+                out.flush()?;
+                progress.tell();
             }
-        }
-        if !folder.passed_over.is_empty() {
-            writeln!(out, "passed over: {}", folder.passed_over.join(", "))?;
-            if folder
-                .passed_over
-                .iter()
-                .any(|name| name.ends_with(".night"))
-            {
-                writeln!(out, "a night is run by itself, as make night FILE=file")?;
-            }
-        }
+            Ok(())
+        };
+        let cores = thread::available_parallelism().map_or(1, NonZero::get);
+        let files = Files::of(folder).map(|file| file.map_err(Failure::from));
+        let done = many::in_order(files, cores, work, take);
+        progress.end();
+        done?;
+        write_passed_over(&about, &mut out)?;
         writeln!(out, "{summary}")?;
         out.flush()?;
         match summary.refused() {
@@ -586,6 +599,22 @@ impl Bench {
         }
         Ok(failed.is_some())
     }
+}
+
+/// Names the files that were passed over.
+fn write_passed_over(about: &About, out: &mut impl Write) -> io::Result<()> {
+    if about.passed_over == 0 {
+        return Ok(());
+    }
+    write!(out, "passed over: {}", about.named.join(", "))?;
+    match about.passed_over - about.named.len() {
+        0 => writeln!(out)?,
+        more => writeln!(out, " and {more} more")?,
+    }
+    if about.has_night {
+        writeln!(out, "a night is run by itself, as make night FILE=file")?;
+    }
+    Ok(())
 }
 
 /// The message that an import printed in hex; none where it is refused.

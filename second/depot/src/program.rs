@@ -7,8 +7,11 @@ use std::ffi::{OsStr, OsString};
 use std::fmt;
 use std::io::{self, Write};
 use std::path::{Path, PathBuf};
-use std::process::{Command, ExitStatus, Output, Stdio};
+use std::process::{ChildStdin, Command, ExitStatus, Output, Stdio};
 use std::thread;
+
+/// What every pipe has room for.
+const ONE_PAGE: usize = 4096;
 
 /// A program and the words that it is called with.
 #[derive(Clone, Debug)]
@@ -85,15 +88,20 @@ impl Program {
             .stderr(Stdio::piped())
             .spawn()?;
         let input = child.stdin.take();
-        // A thread of its own writes the message, since a program may print
+        let write = |input: Option<ChildStdin>| {
+            if let Some(mut input) = input {
+                // A program that stops reading is judged by what it prints.
+                let _ = input.write_all(message);
+            }
+        };
+        if message.len() <= ONE_PAGE {
+            write(input);
+            return child.wait_with_output();
+        }
+        // A thread of its own writes a longer message, since a program may print
         // before it has read all of it, and a pipe holds only so much.
         thread::scope(|scope| {
-            scope.spawn(move || {
-                if let Some(mut input) = input {
-                    // A program that stops reading is judged by what it prints.
-                    let _ = input.write_all(message);
-                }
-            });
+            scope.spawn(move || write(input));
             child.wait_with_output()
         })
     }

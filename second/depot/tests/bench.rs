@@ -24,9 +24,10 @@ const WORDS_ALONE: &str = "shorter than its fixed part";
 /// file still open for writing can't be run.
 fn program(name: &str) -> PathBuf {
     static FOLDER: OnceLock<PathBuf> = OnceLock::new();
-    let folder = FOLDER.get_or_init(|| {
-        let folder = fresh_folder("programs");
-        let scripts = [
+    let folder =
+        FOLDER.get_or_init(|| {
+            let folder = fresh_folder("programs");
+            let scripts = [
             ("refuses", "echo 'refused 2 field=0 at=0'"),
             ("refuses_otherwise", "echo 'refused 3 field=0 at=0'"),
             ("takes", "echo 'nl type=0 flags=00000001 a=LINE'"),
@@ -42,6 +43,8 @@ fn program(name: &str) -> PathBuf {
             ),
             ("refuses_its_line", "echo 'refused 33 field=0 at=0'"),
             ("refuses_a_string", "echo 'refused 15 field=1 at=0'"),
+            // Longer messages take longer, by tenths of a second.
+            ("takes_its_time", "n=$(wc -c); sleep \"$((n / 10)).$((n % 10))\"; echo taken"),
             ("explains", EXPLAIN),
             (
                 "explains_otherwise",
@@ -63,28 +66,28 @@ fn program(name: &str) -> PathBuf {
                 "case \"$1\" in ntlm) echo refused 2 field=0 at=0 ;; *) echo check 1 held ;; esac",
             ),
         ];
-        for (name, script) in scripts {
-            let path = folder.join(name);
-            // The second program prints checks too.
-            let explain = format!("if [ \"$1\" = explain ]; then {EXPLAIN}; exit; fi\n");
-            let import = format!("if [ \"$1\" = import ]; then {IMPORT}; exit; fi\n");
-            let text = if script.starts_with("wc") {
-                format!("#!/bin/sh\n{script}\n")
-            } else if script.starts_with("case") {
-                format!("#!/bin/sh\ncat >/dev/null\n{script}\n")
-            } else {
-                let import = if name.starts_with("imports") {
-                    ""
+            for (name, script) in scripts {
+                let path = folder.join(name);
+                // The second program prints checks too.
+                let explain = format!("if [ \"$1\" = explain ]; then {EXPLAIN}; exit; fi\n");
+                let import = format!("if [ \"$1\" = import ]; then {IMPORT}; exit; fi\n");
+                let text = if script.contains("wc -c") {
+                    format!("#!/bin/sh\n{script}\n")
+                } else if script.starts_with("case") {
+                    format!("#!/bin/sh\ncat >/dev/null\n{script}\n")
                 } else {
-                    &import
+                    let import = if name.starts_with("imports") {
+                        ""
+                    } else {
+                        &import
+                    };
+                    format!("#!/bin/sh\ncat >/dev/null\n{explain}{import}{script}\n")
                 };
-                format!("#!/bin/sh\ncat >/dev/null\n{explain}{import}{script}\n")
-            };
-            fs::write(&path, text).expect("a script");
-            fs::set_permissions(&path, fs::Permissions::from_mode(0o755)).expect("its mode");
-        }
-        folder
-    });
+                fs::write(&path, text).expect("a script");
+                fs::set_permissions(&path, fs::Permissions::from_mode(0o755)).expect("its mode");
+            }
+            folder
+        });
     folder.join(name)
 }
 
@@ -353,6 +356,12 @@ fn a_refusal_is_a_failure_where_that_is_asked_for() {
         assert_eq!((status, out.as_str()), (Some(1), ""), "{word}");
         assert!(err.starts_with("REFUSED=") && err.contains(" is not understood: REFUSED=fail "));
         assert_eq!(err.lines().count(), 1);
+        // It is told before anything is proved.
+        let looked = Command::new(env!("CARGO_BIN_EXE_depot"))
+            .args([Path::new("look"), Path::new("run"), &folder])
+            .env("REFUSED", word)
+            .output();
+        assert_eq!(told(&looked.expect("the bench runs")), (status, out, err));
     }
 }
 
@@ -820,4 +829,58 @@ fn a_capture_in_a_folder_is_told() {
     let (status, _, err) = look("capture", &folder.join("none"));
     assert!(err.starts_with("there is no file ") && err.contains("make capture FILE="));
     assert_eq!((status, err.lines().count()), (Some(1), 1));
+}
+
+/// Runs a folder by programs that take as many tenths of a second as a message has bytes.
+fn run_slowly(folder: &Path) -> (Option<i32>, String, String) {
+    let slow = "takes_its_time";
+    run_all(folder, [slow, slow, slow, slow])
+}
+
+#[test]
+fn what_is_printed_keeps_its_order() {
+    let long = b"\xFF\xFF\xFF\xFF\xFF";
+    let names: Vec<String> = (0..200).map(|number| format!("{number:03}")).collect();
+    let content = |number: usize| {
+        if number.is_multiple_of(50) {
+            &long[..]
+        } else {
+            b"\xFF"
+        }
+    };
+    let files: Vec<(&str, &[u8])> = names
+        .iter()
+        .enumerate()
+        .map(|(number, name)| (name.as_str(), content(number)))
+        .collect();
+    let folder = folder_of("order", &files);
+    let (status, out, _) = run_all(&folder, ["counts"; 4]);
+    let told: Vec<&str> = out.lines().filter(|line| line.contains("bytes")).collect();
+    let expected: Vec<String> = files
+        .iter()
+        .map(|(name, content)| {
+            let len = content.len();
+            format!("{name}: raw, {len} bytes, begins like no message, read as NTLM and as NL_AUTH")
+        })
+        .collect();
+    assert_eq!(told, expected);
+    assert_eq!(status, Some(0));
+    // The first takes longest.
+    let files: [(&str, &[u8]); 4] = [("a", long), ("b", b"\xFF"), ("c", b"\xFF"), ("d", b"\xFF")];
+    let (status, out, _) = run_slowly(&folder_of("order_slowly", &files));
+    let told = out.lines().filter(|line| line.contains("bytes"));
+    let first: Vec<&str> = told.filter_map(|line| line.get(..1)).collect();
+    assert_eq!(first, ["a", "b", "c", "d"]);
+    assert_eq!(status, Some(0));
+}
+
+#[test]
+fn a_long_run_tells_how_far_it_is() {
+    let files: [(&str, &[u8]); 2] = [("a", &[0xFF; 14]), ("b", b"\xFF")];
+    let (status, out, err) = run_slowly(&folder_of("progress", &files));
+    // Four programs of 1.4 seconds each, one after the other.
+    assert!(err.starts_with("1 of 2 files, about "), "{err}");
+    assert!(err.ends_with(" s more\n"), "{err}");
+    assert!(out.starts_with("a: raw, 14 bytes, ") && out.contains("\nb: raw, 1 bytes, "));
+    assert_eq!(status, Some(0));
 }
