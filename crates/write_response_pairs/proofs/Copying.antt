@@ -10,7 +10,7 @@ use lib.Bits.{bitOr}
 use lib.Dec.{eqb}
 use lib.ListN.{length, take, drop, length-append, length-take, length-drop}
 use Rattle.av_id.specs.declared.AvId.{AvId}
-use Rattle.av_id.specs.AvId.{isFlags}
+use Rattle.av_id.specs.AvId.{isFlags, isTimestamp}
 use Rattle.av_pairs.specs.declared.AvPair.{AvPair}
 use Rattle.av_pairs.specs.declared.Found.{Found}
 use Rattle.av_pairs.specs.declared.Found.the-variants.{At, Nothing}
@@ -26,13 +26,14 @@ use Rattle.write_response_pairs.proofs.Fits.{four, length-pair, bytes-a
 
 -- ---- the walk for the size: what was seen, and what is left
 
-pub record Seeing (s : List ℕ) (at n : ℕ) (f : Bool) : Type 0 where
+pub record Seeing (s : List ℕ) (at n : ℕ) (t f : Bool) : Type 0 where
   pub size : min 65536 (n + length (bytesOf (kept (valuesAt s at)))) ≡ min 65536 (length (bytesOf (kept (valuesOf s))))
   pub few : n ≤ 65536
+  pub timestamp : t || hasPair isTimestamp (valuesAt s at) ≡ hasPair isTimestamp (valuesOf s)
   pub flags : f || hasPair isFlags (valuesAt s at) ≡ hasPair isFlags (valuesOf s)
 
-pub see-none : (s : List ℕ) → Seeing s 0 0 false
-see-none s = record { size = simp (values-start s) (ap (λ (n : ℕ). min 65536 n) (zero-add _)); few = omega arith; flags = simp (values-start s) }
+pub see-none : (s : List ℕ) → Seeing s 0 0 false false
+see-none s = record { size = simp (values-start s) (ap (λ (n : ℕ). min 65536 n) (zero-add _)); few = omega arith; timestamp = simp (values-start s); flags = simp (values-start s) }
 
 or-assoc : (a b c : Bool) → (a || b) || c ≡ a || (b || c)
 or-assoc true b c = refl
@@ -50,14 +51,14 @@ one-size p ps = go (leftOut (p .0)) where
   go true = sym (zero-add (length (bytesOf (kept ps))))
   go false = simp (length-append, length-pair)
 
-module _ (s : List ℕ) (at n : ℕ) (f : Bool) (w : Seeing s at n f) where
+module _ (s : List ℕ) (at n : ℕ) (t f : Bool) (w : Seeing s at n t f) where
   pub see-few : n ≤ 65536
   see-few = w .few
 
   module _ (r : Found) (e : r ≡ pairAt s at) where
-    pub see-one : (p : AvPair) (z m : ℕ) (b : Bool) → r ≡ At p → z ≡ cond (leftOut (p .id)) 0 (4 + p .len) → m ≡ min 65536 (n + z) →
-        b ≡ isFlags (p .id) → Seeing s (p .at + p .len) m (f || b)
-    see-one p z m b h g d y =
+    pub see-one : (p : AvPair) (z m : ℕ) (a b : Bool) → r ≡ At p → z ≡ cond (leftOut (p .id)) 0 (4 + p .len) → m ≡ min 65536 (n + z) →
+        a ≡ isTimestamp (p .id) → b ≡ isFlags (p .id) → Seeing s (p .at + p .len) m (t || a) (f || b)
+    see-one p z m a b h g d x y =
         let v = more-values s at r e p h in
         let long : length (valueIn s p) ≡ p .len = value-long s p (there-inside s at r e p h) in
         let l : length (bytesOf (kept (valuesAt s at))) ≡ z + length (bytesOf (kept (valuesAt s (endOf p)))) =
@@ -65,11 +66,15 @@ module _ (s : List ℕ) (at n : ℕ) (f : Bool) (w : Seeing s at n f) where
         record {
           size = omega (arith, d, l, w .size);
           few = omega (arith, d);
+          timestamp = or-assoc t a _ ∙ simp x (simp v at (w .timestamp));
           flags = or-assoc f b _ ∙ simp y (simp v at (w .flags));
         }
 
     pub see-size : r ≡ Nothing → n ≡ min 65536 (length (bytesOf (kept (valuesOf s))))
     see-size h = let l : length (bytesOf (kept (valuesAt s at))) ≡ 0 = ap (λ (ps : List Valued). length (bytesOf (kept ps))) (no-values s at r e h) in omega (arith, l, w .size, w .few)
+
+    pub see-timestamp : r ≡ Nothing → t ≡ hasPair isTimestamp (valuesOf s)
+    see-timestamp h = sym (or-none t) ∙ simp (no-values s at r e h) at (w .timestamp)
 
     pub see-flags : r ≡ Nothing → f ≡ hasPair isFlags (valuesOf s)
     see-flags h = sym (or-none f) ∙ simp (no-values s at r e h) at (w .flags)

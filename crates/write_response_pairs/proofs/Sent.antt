@@ -1,23 +1,19 @@
 -- Laws of the added pairs, of the list's size and of the whole writing.
 use Prim.Native.Nat.{ℕ, _+_, _%_, _≤_, min}
 use mathlib.Core.Path.{_≡_, refl, sym, ap, _∙_}
-use mathlib.Core.Bool.{Bool, true, false, _||_, _&&_, not, cond}
+use mathlib.Core.Bool.{Bool, true, false, _&&_, not, cond}
 use mathlib.Core.List.{List, [], _∷_, _++_, append-nil, append-assoc}
 use native.Mathlib.Omega.{arith}
 use borrow.Author.Tests.{eqb-true, eqb-false, eq-eqb, ne-eqb, leb-true, leb-false, lt-leb}
 use lib.Dec.{eqb, leb}
 use lib.ListN.{length, length-append}
 use Rattle.av_id.specs.AvId.{isFlags, isTimestamp}
-use Rattle.av_pairs.specs.declared.AvPair.{AvPair}
-use Rattle.av_pairs.specs.declared.Found.the-variants.{At}
-use Rattle.av_pairs.specs.AvPairs.{checkPairs, pairsOf, Valued, withValues, valuesOf}
-use Rattle.target_info.specs.declared.Contents.{Contents}
-use Rattle.target_info.specs.TargetInfo.{firstBy, timeOf, timestampIn}
+use Rattle.av_pairs.specs.AvPairs.{checkPairs, Valued, valuesOf}
 use Rattle.read_challenge.specs.declared.FullChallenge.{FullChallenge}
 use Rattle.read_challenge.specs.declared.FullReading.{FullReading}
 use Rattle.read_challenge.specs.declared.FullReading.the-variants.{Taken, Refused as Unread}
 use Rattle.read_challenge.specs.Challenge.{fullReadingOf, fullRefusal, infoOf}
-use Rattle.read_challenge.proofs.Laws.{full-reads, full-holds, full-there, refusal-alone, info-clear}
+use Rattle.read_challenge.proofs.Laws.{full-reads, full-there, refusal-alone, info-clear}
 use Rattle.place.specs.declared.written.Written.{Written}
 use Rattle.place.specs.declared.written.Written.the-variants.{Length, Refused}
 use Rattle.place.specs.Place.{Wrote, le32}
@@ -31,7 +27,7 @@ use Rattle.wire.specs.declared.refusal.Refusal.{Refusal}
 use Rattle.wire.specs.declared.refusal.Refusal.the-variants.{TooLongToWrite, OddNameToWrite, NoRoom}
 use Rattle.wire.specs.Check.{checked, after, verdictRefusal}
 use Rattle.wire.proofs.Laws.{after-clear}
-use Rattle.write_response_pairs.specs.ResponsePairs.{isTime, pairWith, hasPair, isNone, kept, dueBits, bitsDue, withBits, addsFlags, addedPairs, pairsBack, pairsFor, pairBytes, bytesOf, listBytes, listWith, listFor, checkList, listAnswer, listOut, writeAnswer, writeOut}
+use Rattle.write_response_pairs.specs.ResponsePairs.{pairWith, hasPair, isNone, kept, dueBits, bitsDue, withBits, addsFlags, addedPairs, pairsBack, pairsFor, pairBytes, bytesOf, listBytes, listWith, listFor, checkList, listAnswer, listOut, writeAnswer, writeOut}
 use Rattle.write_response_pairs.proofs.Fits.{values-fit, kept-fit, length-pair, bytes-append, bits-size}
 
 -- ---- the added pairs
@@ -298,19 +294,3 @@ module _ (s name bind : List ℕ) (unverified : Bool) (a : FullReading) (e : a �
 pub taken-clear : (s : List ℕ) (a : FullReading) (f : FullChallenge) (l : List ℕ) →
     a ≡ fullReadingOf s → a ≡ Taken f → l ≡ infoOf s (f .challenge) → checkPairs l ≡ Clear
 taken-clear s a f l e h i = info-clear s l (f .challenge) (full-reads s a e f h) i
-
--- and its timestamp was looked for
-there-by : (s : List ℕ) (ps : List AvPair) → isTime (timeOf s (firstBy isTimestamp ps)) ≡ hasPair isTimestamp (withValues s ps)
-there-by s [] = refl
-there-by s (p ∷ ps) = go (isTimestamp (p .id)) (there-by s ps) where
-  go : (b : Bool) → isTime (timeOf s (firstBy isTimestamp ps)) ≡ hasPair isTimestamp (withValues s ps) →
-      isTime (timeOf s (cond b (At p) (firstBy isTimestamp ps))) ≡ b || hasPair isTimestamp (withValues s ps)
-  go true h = refl
-  go false h = h
-
-pub time-there : (s : List ℕ) (a : FullReading) (f : FullChallenge) (l : List ℕ) (t : Bool) →
-    a ≡ fullReadingOf s → a ≡ Taken f → l ≡ infoOf s (f .challenge) → t ≡ isTime (f .contents .timestamp) → t ≡ hasPair isTimestamp (valuesOf l)
-unfolding timestampIn valuesOf
-time-there s a f l t e h i q =
-    let same : f .contents .timestamp ≡ timestampIn l = ap (λ (x : Contents). x .timestamp) (full-holds s a e f h) ∙ ap timestampIn (sym i) in
-    q ∙ ap isTime same ∙ there-by l (pairsOf l)

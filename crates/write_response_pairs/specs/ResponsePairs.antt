@@ -9,8 +9,6 @@ use Rattle.av_id.specs.declared.AvId.{AvId}
 use Rattle.av_id.specs.AvId.{endId, flagsId, targetNameId, channelBindingsId, isFlags, isTimestamp, isTargetName, isChannelBindings}
 use Rattle.av_pairs.specs.declared.AvPair.{AvPair}
 use Rattle.av_pairs.specs.AvPairs.{Valued, valueIn, valuesOf}
-use Rattle.target_info.specs.declared.Timestamp.{Timestamp}
-use Rattle.target_info.specs.declared.Timestamp.the-variants.{Time, Nothing as NoTime}
 use Rattle.read_challenge.specs.Challenge.{readingOf, onTaken, infoOf}
 use Rattle.place.specs.declared.written.Written.{Written}
 use Rattle.place.specs.declared.written.Written.the-variants.{Refused}
@@ -22,11 +20,6 @@ use Rattle.wire.specs.declared.check.Verdict.the-variants.{Clear, Refused as No
 use Rattle.wire.specs.declared.refusal.Refusal.the-variants.{TooLongToWrite, OddNameToWrite, NoRoom}
 use Rattle.wire.specs.Check.{checked, after}
 use Rattle.wire.specs.Number.{u32At}
-
--- whether a reading found a timestamp
-abbrev pub isTime : Timestamp → Bool
-isTime (Time t) = true
-isTime NoTime = false
 
 abbrev pub pairWith : ℕ → List ℕ → Valued
 pairWith id value = (record { id = id }, value)

@@ -11,7 +11,7 @@ ghost use Rattle.av_id.specs.AvId.{endId, flagsId, isFlags, isTimestamp};
 ghost use Rattle.wire.specs.declared.check.Verdict.the-variants.{Clear};
 ghost use Rattle.av_pairs.specs.AvPairs.{checkPairs, valuesOf};
 ghost use Rattle.place.specs.Place.{Wrote, le32};
-ghost use Rattle.write_response_pairs.specs.ResponsePairs.{isTime, pairWith, hasPair, leftOut, kept, bitsDue, withBits, addsFlags, addedPairs};
+ghost use Rattle.write_response_pairs.specs.ResponsePairs.{pairWith, hasPair, leftOut, kept, bitsDue, withBits, addsFlags, addedPairs};
 ghost use Rattle.write_response_pairs.specs.ResponsePairs.{pairBytes, bytesOf, backBytes, listBytes, listWith, checkList, listAnswer, listOut, writeAnswer, writeOut};
 use crate::av_flags::AvFlags;
 use av_id::AvId;
@@ -24,7 +24,6 @@ use place::written::room_holds;
 use place::written::size_holds;
 use read_challenge::FullReading;
 use read_challenge::read_full;
-use target_info::Timestamp;
 use target_info::pair_at;
 use target_info::value_of;
 use wire::check::Checked;
@@ -33,10 +32,11 @@ use wire::check::check;
 use wire::number::u32_at;
 use wire::refusal::Refusal;
 
-// What the walk over a list finds: the size of the pairs that are kept, as it is counted for check 30, and whether a flags pair is
-// there.
+// What the walk over a list finds: the size of the pairs that are kept, as it is counted for check 30, and whether a timestamp
+// and a flags pair are there.
 struct Seen {
     pub size: usize,
+    pub timestamp: bool,
     pub flags: bool,
 }
 
@@ -68,19 +68,23 @@ fn kept_size(id: AvId, len: u16) -> usize
 fn look_over(list: &[u8]) -> Seen
     requires { ⌜ checkPairs (now list) ≡ Clear ⌝ }
     ensures size { λ r. ⌜ r .size ≡ min 65536 (length (bytesOf (kept (valuesOf (now (list .entry)))))) ⌝ }
+    ensures timestamp { λ r. ⌜ r .timestamp ≡ hasPair isTimestamp (valuesOf (now (list .entry))) ⌝ }
     ensures flags { λ r. ⌜ r .flags ≡ hasPair isFlags (valuesOf (now (list .entry))) ⌝ }
 {
     let mut at: usize = 0;
     let mut size: usize = 0;
+    let mut timestamp = false;
     let mut flags = false;
     let seen = loop {
         let Found::At(p) = pair_at(list, at) else {
             break Seen {
                 size: size,
+                timestamp: timestamp,
                 flags: flags,
             };
         };
         size = add_capped(size, kept_size(p.id, p.len));
+        timestamp = timestamp | p.id.is_timestamp();
         flags = flags | p.id.is_flags();
         at = p.at + p.len as usize;
     };
@@ -224,15 +228,15 @@ fn list_size(list: &[u8], size: usize, adds: bool, name: &[u8], bindings: &[u8])
     add_capped(add_capped(n, name.len()), bindings.len())
 }
 
-// What the list for TargetInfo's bytes will be, with whether these hold a timestamp.
-fn plan_for(list: &[u8], timestamp: bool, name: &[u8], unverified: bool, bindings: &[u8]) -> Plan
-    requires { ⌜ (checkPairs (now list) ≡ Clear) × (timestamp ≡ hasPair isTimestamp (valuesOf (now list))) ⌝ }
+// What the list for TargetInfo's bytes will be.
+fn plan_for(list: &[u8], name: &[u8], unverified: bool, bindings: &[u8]) -> Plan
+    requires { ⌜ checkPairs (now list) ≡ Clear ⌝ }
     ensures bits { λ r. ⌜ r .bits ≡ bitsDue (now (list .entry)) (now (name .entry)) unverified ⌝ }
     ensures adds { λ r. ⌜ r .adds ≡ addsFlags (r .bits) (valuesOf (now (list .entry))) ⌝ }
     ensures size { λ r. ⌜ r .size ≡ min 65536 (length (listWith (r .bits) (now (list .entry)) (now (name .entry)) (now (bindings .entry)))) ⌝ }
 {
     let seen = look_over(list);
-    let due = AvFlags::due(timestamp, unverified & !(name.len() == 0));
+    let due = AvFlags::due(seen.timestamp, unverified & !(name.len() == 0));
     let adds = !(due.bits == 0) & !seen.flags;
     Plan {
         size: list_size(list, seen.size, adds, name, bindings),
@@ -282,31 +286,21 @@ fn put_list(
 fn write_list(
     out: &mut [u8],
     list: &[u8],
-    timestamp: bool,
     name: &[u8],
     unverified: bool,
     bindings: &[u8],
 ) -> Written
-    requires { ⌜ (checkPairs (now list) ≡ Clear) × (timestamp ≡ hasPair isTimestamp (valuesOf (now list))) ⌝ }
+    requires { ⌜ checkPairs (now list) ≡ Clear ⌝ }
     ensures answer { λ r. ⌜ r ≡ listAnswer (length (now (out .entry))) (now (list .entry)) (now (name .entry)) unverified (now (bindings .entry)) ⌝ }
     ensures content { λ _. ⌜ now (out .exit) ≡ listOut (now (out .entry)) (now (list .entry)) (now (name .entry)) unverified (now (bindings .entry)) ⌝ }
 {
-    let plan = plan_for(list, timestamp, name, unverified, bindings);
+    let plan = plan_for(list, name, unverified, bindings);
     let verdict = check_list(out.len(), name, plan.size);
     let Verdict::Clear = verdict else {
         return Written::Refused(verdict.refusal());
     };
     let end = put_list(out, list, plan.adds, plan.bits, name, bindings);
     Written::Length(end.at)
-}
-
-fn is_there(timestamp: Timestamp) -> bool
-    ensures { λ r. ⌜ r ≡ isTime timestamp ⌝ }
-{
-    match timestamp {
-        Timestamp::Time(_) => true,
-        Timestamp::Nothing => false,
-    }
 }
 
 // Writes the pair list that goes back for a challenge; refuses as reading does, and then by checks 31, 30 and 33.
@@ -325,12 +319,9 @@ pub fn write(
         return Written::Refused(reading.refusal());
     };
     let c = f.challenge;
-    let contents = f.contents;
-    let timestamp = contents.timestamp;
     write_list(
         out,
         c.fields.target_info.bytes(challenge),
-        is_there(timestamp),
         target_name,
         unverified,
         bindings,
