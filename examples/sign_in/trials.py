@@ -185,7 +185,7 @@ def show(rows):
 LEGEND = """taken: ntlm_auth has the box's name and session key; gss-ntlmssp has them too, and bytes went sealed both ways;
 through smbd a file was written to the share and read back, and is the user's; to Apache a file went up by PUT, which it has whole
 and logged as the user's; with the domain controller a secure channel was bound, and a sealed call answered.
--: the server has no such messages. MIC on the bench: what dialtable_check_mic says to the messages as the server saw them."""
+-: the server isn't tried with such messages. MIC on the bench: what dialtable_check_mic says to the messages as the server saw them."""
 COLUMNS = {"ntlm_auth": ("ntlm_auth", "NtlmAuth"), "gss-ntlmssp": ("gss", "Gss"), "smbd": ("smbd", "Smbd"),
            "Apache": ("apache", "Apache"), "domain-controller": ("domain_controller", "DomainController")}
 LIMIT = 300  # seconds; a run takes ten
