@@ -220,9 +220,13 @@ pub fn write(folder: &Path, out: &Path, programs: &Programs) -> Result<Counts, N
     if is_in(out, folder).unwrap_or(false) {
         return Err(NoPage::Among(out.to_owned()));
     }
+    let too_many = |messages| NoPage::TooMany(folder.to_owned(), messages);
+    if listed.messages.len() > MOST {
+        return Err(too_many(listed.messages.len()));
+    }
     let items = gather::items(&listed, programs).map_err(NoPage::CannotRun)?;
     if items.len() > MOST {
-        return Err(NoPage::TooMany(folder.to_owned(), items.len()));
+        return Err(too_many(items.len()));
     }
     let page = page(&folder.to_string_lossy(), &items);
     secret_file::write(out, folder, page.as_bytes()).map_err(NoPage::NotWritten)?;

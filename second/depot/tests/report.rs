@@ -10,7 +10,7 @@ use compare::cases;
 use depot::folder::{Content, Folder};
 use depot::form::Kind;
 use depot::program::Answer;
-use depot::report::{page, Found, Item, Said};
+use depot::report::{page, Found, Item, Said, MOST};
 use depot::summary::Outcome;
 use depot::words::ReadAs;
 use reader::{import_header, Program, LINE_LIMIT};
@@ -669,6 +669,22 @@ fn its_owner_alone_may_read_it() {
     assert_eq!(output.status.code(), Some(1));
     let page = fs::read_to_string(&out).expect("a page");
     assert!(page.contains("2 messages: 1 taken, 0 refused, 0 different, 1 not read"));
+}
+
+#[test]
+fn more_messages_than_a_page_holds_are_told() {
+    let folder = fresh_folder("report-many");
+    let (messages, out) = (folder.join("messages"), folder.join("page.html"));
+    fs::create_dir(&messages).expect("a folder");
+    for number in 0..=MOST {
+        fs::write(messages.join(number.to_string()), P12).expect("a file");
+    }
+    let output = report(&messages, &out, NL_AUTH);
+    let told = String::from_utf8(output.stderr).expect("text");
+    assert_eq!(output.status.code(), Some(1), "{told}");
+    assert!(told.contains("holds 2001 messages, and a page has room for 2000"));
+    assert_eq!(told.lines().count(), 1, "{told}");
+    assert!(!out.exists());
 }
 
 #[test]
