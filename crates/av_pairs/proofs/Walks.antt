@@ -11,17 +11,14 @@ use mir.Val.{Fits}
 use borrow.Author.Tests.{eq-eqb, ne-eqb}
 use types.Run.{OneOf}
 use denote.Enum.Declared.{tagOf}
-use Rattle.wire.specs.declared.check.Verdict.{Verdict}
 use Rattle.wire.specs.declared.check.Verdict.the-variants.{Clear, Refused as Not}
 use Rattle.wire.specs.declared.refusal.Refusal.{Refusal}
 use Rattle.av_id.specs.AvId.{isEnd}
-use Rattle.wire.specs.Check.{onClear}
 use Rattle.wire.specs.Number.{u16At}
 use Rattle.wire.specs.Refusal.{placeOf}
 use Rattle.av_pairs.specs.declared.AvPair.{AvPair}
 use Rattle.av_pairs.specs.declared.Step.{Step}
 use Rattle.av_pairs.specs.declared.Step.the-variants.{Pair, End, Refused}
-use Rattle.av_pairs.specs.declared.Count.{Count}
 use Rattle.av_pairs.specs.declared.Count.the-variants.{Pairs, Refused as Uncounted}
 use Rattle.av_pairs.specs.declared.Found.{Found}
 use Rattle.av_pairs.specs.declared.Found.the-variants.{At, Nothing}
@@ -171,8 +168,6 @@ module _ (s : List ℕ) (at : ℕ) (r : Step) (e : r ≡ stepAt s at) where
   pub gives-fault : (f : Refusal) → r ≡ Refused f → Nothing ≡ pairAt s at
   unfolding pairAt
   gives-fault f h = simp (← e, h)
-
-pub ruleset giving = (gives-pair, gives-end, gives-fault)
 
 -- where the checks hold from a place on, what `pair_at` reads is there, and it answers as with the checks
 pub gives-none : (s : List ℕ) (at : ℕ) → length s ≡ 0 → Nothing ≡ pairAt s at

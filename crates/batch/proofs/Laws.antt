@@ -15,7 +15,7 @@ use Rattle.wire.specs.declared.check.Verdict.{Verdict}
 use Rattle.wire.specs.declared.check.Verdict.the-variants.{Clear, Refused as Not}
 use Rattle.wire.specs.declared.refusal.Refusal.{Refusal}
 use Rattle.wire.specs.declared.refusal.Refusal.the-variants.{WrongType, PlaceOutside}
-use Rattle.wire.specs.Check.{checked, after}
+use Rattle.wire.specs.Check.{checked}
 use Rattle.wire.specs.Refusal.{numberOf, fieldOf, placeOf}
 use Rattle.wire.proofs.Laws.{held-true}
 use Rattle.wire.proofs.Places.{of-after}

@@ -1,8 +1,7 @@
 -- Laws of what the MIC's calls hand out, by what is known of their answers.
 use Prim.Native.Nat.{ℕ}
-use mathlib.Core.Path.{_≡_, refl}
+use mathlib.Core.Path.{_≡_}
 use mathlib.Core.Bool.{Bool}
-use mathlib.Core.List.{List}
 use Rattle.wire.specs.declared.check.Verdict.the-variants.{Clear, Refused as Not}
 use Rattle.wire.specs.declared.refusal.Refusal.{Refusal}
 use Rattle.wire.specs.Check.{verdictRefusal}

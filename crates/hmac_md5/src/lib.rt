@@ -2,7 +2,7 @@
 ghost use mathlib.Core.Path.{_≡_};
 ghost use Prim.Native.Nat.{_+_, _≤_};
 ghost use lib.ListN.{length, getD};
-ghost use Rattle.md5.specs.State.{fresh, taken, finished};
+ghost use Rattle.md5.specs.State.{fresh, taken};
 ghost use Rattle.hmac_md5.specs.Hmac.{keyBlock, xored, begun, ended, hmac};
 use md5::state::State;
 

@@ -4,7 +4,6 @@ use mathlib.Core.List.{List}
 use lib.ListN.{length}
 use Rattle.wire.specs.declared.refusal.Refusal.the-variants.{NoRoom}
 use Rattle.wire.specs.Check.{after}
-use Rattle.negotiate_flags.specs.Flags.{unicode}
 use Rattle.place.specs.Written.{roomHolds}
 use Rattle.head.specs.declared.Kind.{Kind}
 use Rattle.head.specs.declared.Kind.the-variants.{Negotiate, Challenge, Authenticate}

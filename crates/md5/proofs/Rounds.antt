@@ -1,18 +1,14 @@
 -- Laws of a block's 64 steps.
 use Prim.Native.Nat.{ℕ, zero, suc, _+_, _-_, _*_, _/_, _%_, _≤_, _<_}
 use mathlib.Core.Path.{_≡_, refl, sym, ap, _∙_}
-use mathlib.Core.Bool.{Bool, _&&_}
-use mathlib.Core.List.{List, [], _∷_}
-use native.Mathlib.Numerals.{add-one}
+use mathlib.Core.List.{List}
 use native.Mathlib.Omega.{arith}
-use lib.Dec.{T, leb, ltb, leb→le}
 use lib.ListN.{getD}
 use borrow.Author.Tests.{lt-ltb, le-ltb}
 use Rattle.wire.specs.Number.{u32At}
 use Rattle.md5.specs.Words.{f, g, h, i, plus, rotated, sines}
 use Rattle.md5.specs.Block.{turnOf, turns, step, steppedBy, stepped, steps, round, added, blockTaken}
 use Rattle.md5.specs.declared.block.Buffer.{Buffer}
-use Rattle.md5.proofs.Table.{at}
 
 -- n is none of the numbers below k, as the last arm of a `match` on them tells
 abbrev None : ℕ → ℕ → Type 0

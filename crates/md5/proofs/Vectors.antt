@@ -1,7 +1,6 @@
 -- The test suite of RFC 1321 (appendix A.5), computed from the definition.
-use Prim.Native.Nat.{ℕ}
 use mathlib.Core.Path.{_≡_, refl}
-use mathlib.Core.List.{List, [], _∷_}
+use mathlib.Core.List.{[], _∷_}
 use Rattle.wire.specs.Text.{ascii}
 use Rattle.md5.specs.Words.{sines}
 use Rattle.md5.specs.Block.{step, steppedBy, turns, round, added, blockTaken}

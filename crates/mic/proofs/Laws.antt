@@ -1,7 +1,7 @@
 -- Laws of the MIC's checks, and of the three messages that are taken one after the other.
 use Prim.Native.Nat.{ℕ, _+_, _-_, _≤_}
 use mathlib.Core.Path.{_≡_, refl, sym, ap, _∙_}
-use mathlib.Core.Bool.{Bool, true, false}
+use mathlib.Core.Bool.{Bool}
 use mathlib.Core.List.{List, _++_}
 use native.Mathlib.Omega.{arith}
 use borrow.Author.Tests.{eqb-true}
@@ -21,9 +21,8 @@ use Rattle.head.specs.Head.{readHead, onFlags}
 use Rattle.head.proofs.Heads.{head-short}
 use Rattle.negotiate_flags.specs.declared.NegotiateFlags.{NegotiateFlags}
 use Rattle.read_negotiate.specs.declared.Reading.{Reading as NegotiateReading}
-use Rattle.read_negotiate.specs.declared.Reading.the-variants.{Taken as NegotiateTaken, Refused as NegotiateRefused}
+use Rattle.read_negotiate.specs.declared.Reading.the-variants.{Refused as NegotiateRefused}
 use Rattle.read_negotiate.specs.Negotiate.{layout as negotiateLayout, readNegotiate}
-use Rattle.read_challenge.specs.declared.Answer.{Answer as ChallengeAnswer}
 use Rattle.read_challenge.specs.declared.Challenge.{Challenge}
 use Rattle.read_challenge.specs.declared.Reading.{Reading as ChallengeReading}
 use Rattle.read_challenge.specs.declared.Reading.the-variants.{Taken as ChallengeTaken, Refused as ChallengeRefused}
@@ -44,7 +43,7 @@ use Rattle.hmac_md5.proofs.Laws.{of-pieces}
 use Rattle.mic.specs.declared.Worked.{Worked}
 use Rattle.mic.specs.declared.Checking.the-variants.{Compared}
 use Rattle.verdict.specs.Verdict.{negoVerdict, chalVerdict}
-use Rattle.mic.specs.Mic.{zeroed, micOf, authenticateVerdict, checkMessages, workOut, checkMic}
+use Rattle.mic.specs.Mic.{zeroed, micOf, authenticateVerdict, checkMessages, workOut}
 
 -- ---- the AUTHENTICATE's verdict, by what its reading is known to be
 

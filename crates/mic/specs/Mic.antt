@@ -1,6 +1,5 @@
 -- The MIC (MS-NLMP 2.2.1.3, source document 004), worked out and checked as document 02's request 10/12 says.
 use Prim.Native.Nat.{ℕ}
-use mathlib.Core.Bool.{Bool}
 use mathlib.Core.List.{List, _++_}
 use lib.Dec.{eqb}
 use lib.ListN.{length, take, drop, replicate}

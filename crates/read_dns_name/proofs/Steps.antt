@@ -1,5 +1,5 @@
 -- Laws of one step: what each check's answer tells, and how the cursor moves.
-use Prim.Native.Nat.{ℕ, _+_, _-_, _≤_, _<_}
+use Prim.Native.Nat.{ℕ, _+_, _≤_, _<_}
 use mathlib.Core.Path.{_≡_, sym, _∙_}
 use mathlib.Core.Bool.{cond}
 use mathlib.Core.List.{List}
@@ -9,7 +9,7 @@ use lib.ListN.{length}
 use borrow.Author.Tests.{leb-true, lt-ltb, le-ltb, ne-eqb}
 use Rattle.wire.specs.declared.check.Checked.{Checked}
 use Rattle.wire.specs.declared.check.Checked.the-variants.{Held}
-use Rattle.wire.specs.Check.{checked, after}
+use Rattle.wire.specs.Check.{checked}
 use Rattle.wire.proofs.Laws.{held-true, chain, branches}
 use Rattle.read_dns_name.specs.declared.Cursor.{Cursor}
 use Rattle.read_dns_name.specs.declared.Step.{Step}

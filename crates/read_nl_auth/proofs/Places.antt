@@ -11,7 +11,6 @@ use Rattle.nl_auth_flags.specs.declared.NlAuthFlags.{NlAuthFlags}
 use Rattle.nl_auth_flags.specs.Flags.{nbDomain, nbComputer, dnsDomain, dnsHost, utf8Computer, stringsHold}
 use Rattle.read_dns_name.specs.declared.Fault.{Fault}
 use Rattle.read_dns_name.specs.declared.Fault.the-variants.{CutShort, WrongTopBits, PlaceNotBefore as NotBefore, TooManyJumps as ManyJumps, NameTooLong as LongName}
-use Rattle.read_dns_name.specs.declared.Name.{Name}
 use Rattle.read_dns_name.specs.declared.Reading.{Reading as NameReading}
 use Rattle.read_dns_name.specs.declared.Reading.the-variants.{Taken as Read, Refused as Faulty}
 use Rattle.read_dns_name.specs.DnsName.{readName}

@@ -14,7 +14,6 @@ use Rattle.wire.specs.declared.check.Verdict.{Verdict}
 use Rattle.wire.specs.declared.check.Verdict.the-variants.{Clear}
 use Rattle.wire.specs.declared.refusal.Refusal.{Refusal}
 use Rattle.wire.specs.declared.refusal.Refusal.the-variants.{TooLong}
-use Rattle.wire.specs.Check.{onClear}
 use Rattle.wire.specs.Number.{u64At}
 use Rattle.av_id.specs.AvId.{sameId, isTimestamp, sizeAllowed}
 use Rattle.wire.proofs.Bools.{and-left}
@@ -26,14 +25,13 @@ use Rattle.av_pairs.specs.declared.Found.the-variants.{At, Nothing}
 use Rattle.av_pairs.specs.AvPairs.{stepAt, endOf, onStep, pairAt, pairsFrom, pairsOf, checkPairs, isThere}
 use Rattle.av_pairs.proofs.Steps.{Gave, gave}
 use Rattle.av_pairs.proofs.Walks.{pairsAt, pairs-start, pairs-pair, at-end, ahead-end, ahead-fault, no-pairs, more-pairs, Counted, count-none, count-fits, count-one}
-use Rattle.target_info.specs.declared.Search.{Search}
-use Rattle.target_info.specs.declared.Search.the-variants.{Done, Refused as Unsearched}
+use Rattle.target_info.specs.declared.Search.the-variants.{Done}
 use Rattle.target_info.specs.declared.Timestamp.{Timestamp}
 use Rattle.target_info.specs.declared.Timestamp.the-variants.{Time, Nothing as NoTime}
 use Rattle.target_info.specs.declared.Contents.{Contents}
 use Rattle.target_info.specs.declared.ListReading.{ListReading}
 use Rattle.target_info.specs.declared.ListReading.the-variants.{Taken, Refused as Unread}
-use Rattle.target_info.specs.TargetInfo.{firstBy, firstPair, findPair, timeOf, timestampIn, timeWith, readList, listRefusal, serverNamesIn}
+use Rattle.target_info.specs.TargetInfo.{firstBy, firstPair, timeOf, timestampIn, timeWith, readList, listRefusal, serverNamesIn}
 
 -- ---- the loop: what is left decides
 

@@ -1,14 +1,13 @@
 -- Document 02, 11/12: AUTHENTICATE_MESSAGE (MS-NLMP 2.2.1.3) is read, and what it means is written by document 01's layout.
 use Prim.Native.Nat.{ℕ}
 use mathlib.Core.List.{List}
-use lib.ListN.{length, replicate}
+use lib.ListN.{replicate}
 use Rattle.wire.specs.declared.refusal.Refusal.{Refusal}
 use Rattle.field.specs.Field.{fieldBytes}
 use Rattle.negotiate_flags.specs.declared.NegotiateFlags.{NegotiateFlags}
 use Rattle.place.specs.declared.written.Written.{Written}
 use Rattle.place.specs.declared.written.Written.the-variants.{Refused}
 use Rattle.read_authenticate.specs.declared.Authenticate.{Authenticate}
-use Rattle.read_authenticate.specs.declared.Answer.{Answer}
 use Rattle.read_authenticate.specs.declared.Reading.{Reading}
 use Rattle.read_authenticate.specs.declared.Reading.the-variants.{Taken, Refused as NotTaken}
 use Rattle.read_authenticate.specs.Authenticate.{readAuthenticate}

@@ -1,5 +1,5 @@
 -- A name that was written reads back: the same labels and no jump, whatever stands before and after it.
-use Prim.Native.Nat.{ℕ, suc, _+_, _-_, _≤_}
+use Prim.Native.Nat.{ℕ, suc, _+_, _≤_}
 use mathlib.Core.Path.{_≡_, refl, sym, ap, _∙_, subst}
 use mathlib.Core.Bool.{Bool, true, false, _&&_, cond}
 use mathlib.Core.List.{List, [], _∷_, _++_, append-assoc}
@@ -17,7 +17,6 @@ use Rattle.read_dns_name.specs.DnsName.{readName, labelsAt}
 use Rattle.read_dns_name.specs.Rfc1035.{EndAt, LabelAt, NameFrom, end, label, codedLength}
 use Rattle.read_dns_name.proofs.Exact.{is-taken}
 use Rattle.write_dns_name.specs.Writing.{onFirst, pieces, labelsOf, labelBytes, coded, nameBytes, labelsHold, textHolds, codedHolds, beforeStop}
-use Rattle.write_dns_name.proofs.Pieces.{last-piece}
 
 -- labels that hold have 1 to 63 bytes
 record First (l : List ℕ) (ls : List (List ℕ)) : Type 0 where

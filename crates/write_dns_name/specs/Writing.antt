@@ -1,5 +1,5 @@
 -- Writing a name: text split at its full stops into labels, and no jumps. Empty text is the zero byte alone.
-use Prim.Native.Nat.{ℕ, suc, _+_}
+use Prim.Native.Nat.{ℕ, suc}
 use mathlib.Core.Bool.{_&&_, cond}
 use mathlib.Core.List.{List, [], _∷_, _++_}
 use lib.Dec.{leb, eqb}

@@ -1,8 +1,8 @@
 -- Pairs that may stand in a list, and their sizes.
 use Prim.Native.Nat.{ℕ, zero, suc, _+_}
-use mathlib.Core.Path.{_≡_, refl, sym, ap, _∙_}
+use mathlib.Core.Path.{_≡_, refl, sym}
 use mathlib.Core.Bool.{Bool, true, false, _&&_, not, cond}
-use mathlib.Core.List.{List, [], _∷_, _++_, append-nil, append-assoc}
+use mathlib.Core.List.{List, [], _∷_, _++_, append-assoc}
 use native.Mathlib.Omega.{arith}
 use borrow.Author.Tests.{eqb-true}
 use lib.Bits.{bitOr}
@@ -10,13 +10,12 @@ use lib.Dec.{eqb}
 use lib.ListN.{length, length-append}
 use Rattle.av_id.specs.declared.AvId.{AvId}
 use Rattle.av_id.specs.AvId.{isEnd, isFlags, sizeAllowed}
-use Rattle.av_pairs.specs.declared.AvPair.{AvPair}
 use Rattle.av_pairs.specs.declared.Step.{Step}
 use Rattle.av_pairs.specs.declared.Step.the-variants.{Pair, End, Refused}
 use Rattle.av_pairs.specs.AvPairs.{stepAt, endOf, onStep, pairsFrom, pairsOf, Valued, withValues, valuesOf}
 use Rattle.av_pairs.proofs.Steps.{gave}
 use Rattle.av_pairs.proofs.Walks.{value-long}
-use Rattle.place.specs.Place.{le16, le32}
+use Rattle.place.specs.Place.{le32}
 use Rattle.place.proofs.Numbers.{length-le16, length-le32}
 use Rattle.wire.specs.Number.{u32At}
 use Rattle.wire.proofs.Bools.{and-left, and-right, and-both}

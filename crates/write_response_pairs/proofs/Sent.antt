@@ -8,7 +8,7 @@ use borrow.Author.Tests.{eqb-true, eqb-false, eq-eqb, ne-eqb, leb-true, leb-fals
 use lib.Dec.{eqb, leb}
 use lib.ListN.{length, length-append}
 use Rattle.av_id.specs.AvId.{isFlags, isTimestamp}
-use Rattle.av_pairs.specs.AvPairs.{checkPairs, Valued, valuesOf}
+use Rattle.av_pairs.specs.AvPairs.{checkPairs, valuesOf}
 use Rattle.read_challenge.specs.declared.FullChallenge.{FullChallenge}
 use Rattle.read_challenge.specs.declared.FullReading.{FullReading}
 use Rattle.read_challenge.specs.declared.FullReading.the-variants.{Taken, Refused as Unread}
@@ -17,7 +17,6 @@ use Rattle.read_challenge.proofs.Laws.{full-reads, full-there, refusal-alone, i
 use Rattle.place.specs.declared.written.Written.{Written}
 use Rattle.place.specs.declared.written.Written.the-variants.{Length, Refused}
 use Rattle.place.specs.Place.{Wrote, le32}
-use Rattle.place.specs.Written.{answered, outAfter}
 use Rattle.place.proofs.Laws.{and-then, nothing, kept as same-length}
 use Rattle.place.proofs.Numbers.{length-le32}
 use Rattle.place.proofs.Writings.{written, stored, refused, untouched}
@@ -25,7 +24,7 @@ use Rattle.wire.specs.declared.check.Verdict.{Verdict}
 use Rattle.wire.specs.declared.check.Verdict.the-variants.{Clear, Refused as Not}
 use Rattle.wire.specs.declared.refusal.Refusal.{Refusal}
 use Rattle.wire.specs.declared.refusal.Refusal.the-variants.{TooLongToWrite, OddNameToWrite, NoRoom}
-use Rattle.wire.specs.Check.{checked, after, verdictRefusal}
+use Rattle.wire.specs.Check.{verdictRefusal}
 use Rattle.wire.proofs.Laws.{after-clear}
 use Rattle.write_response_pairs.specs.ResponsePairs.{pairWith, hasPair, isNone, kept, dueBits, bitsDue, withBits, addsFlags, addedPairs, pairsBack, pairsFor, pairBytes, bytesOf, listBytes, listWith, listFor, checkList, listAnswer, listOut, writeAnswer, writeOut}
 use Rattle.write_response_pairs.proofs.Fits.{values-fit, kept-fit, length-pair, bytes-append, bits-size}

@@ -2,7 +2,7 @@
 use borrow.Author.Needs.{needs}
 use Rattle.write_dns_name.proofs.pieces_hold.Statement.{statement}
 use Rattle.write_dns_name.proofs.pieces_hold.Tie as tie
-use Prim.Native.Nat.{suc, _-_}
+use Prim.Native.Nat.{_-_}
 use lib.ListN.{length}
 use Rattle.write_dns_name.proofs.Holding.{Holding, hold-start, hold-inside, hold-fails, hold-last, hold-next}
 
