@@ -8,6 +8,7 @@ use native.Mathlib.Omega.{arith}
 use borrow.Author.Tests.{eq-eqb, ne-eqb}
 use lib.Dec.{eqb}
 use lib.ListN.{length, getD, drop, length-drop}
+use Rattle.wire.proofs.Bools.{and-assoc, and-true, and-false}
 use Rattle.base64.specs.Base64.{isLetter, valueOf, groupHolds, isBase64}
 use Rattle.base64.proofs.Writing.{at-four, more}
 
@@ -16,10 +17,6 @@ use Rattle.base64.proofs.Writing.{at-four, more}
 or-false : (a b : Bool) → a ≡ (a || false) || false
 or-false true b = refl
 or-false false b = refl
-
-and-assoc : (a b c : Bool) → (a && b) && c ≡ a && (b && c)
-and-assoc true b c = refl
-and-assoc false b c = refl
 
 four-held : (a b c d : ℕ) → groupHolds false a b c d ≡ (isLetter a && isLetter b) && (isLetter c && isLetter d)
 unfolding groupHolds
@@ -39,17 +36,9 @@ lettersTo zero t = true
 lettersTo (suc k) [] = true
 lettersTo (suc k) (c ∷ t) = isLetter c && lettersTo k t
 
-and-true : (a : Bool) → a ≡ a && true
-and-true true = refl
-and-true false = refl
-
-and-false : (a : Bool) → a && false ≡ false
-and-false true = refl
-and-false false = refl
-
 one-more : (k : ℕ) (t : List ℕ) → k < length t → lettersTo (suc k) t ≡ lettersTo k t && isLetter (getD t k 0)
 one-more k [] h = absurd (omega arith)
-one-more zero (c ∷ t) h = sym (and-true (isLetter c))
+one-more zero (c ∷ t) h = and-true (isLetter c)
 one-more (suc k) (c ∷ t) h =
     ap (λ (b : Bool). isLetter c && b) (one-more k t (omega arith)) ∙ sym (and-assoc (isLetter c) (lettersTo k t) (isLetter (getD t k 0)))
 
@@ -69,7 +58,7 @@ module _ (a b c d : ℕ) where
   -- k letters before the last group are whole groups exactly where four divides k
   by-groups : (k : ℕ) (t : List ℕ) → drop k t ≡ a ∷ b ∷ c ∷ d ∷ [] →
       (eqb (k % 4) 0 && lettersTo k t) && groupHolds true a b c d ≡ isBase64 t
-  by-groups zero t e = and-true (groupHolds true a b c d) ∙ sym (ap isBase64 e)
+  by-groups zero t e = sym (and-true (groupHolds true a b c d)) ∙ sym (ap isBase64 e)
   by-groups (suc k) [] e = absurd (omega (arith, ap length e))
   by-groups (suc zero) (x ∷ t) e = sym (ap (λ (s : List ℕ). isBase64 (x ∷ s)) e ∙ and-false (groupHolds false x a b c))
   by-groups (suc (suc k)) (x ∷ []) e = absurd (omega (arith, ap length e))
@@ -90,7 +79,7 @@ pub record Tested (t : List ℕ) (ok : Bool) (i : ℕ) : Type 0 where
   pub so-far : ok ≡ eqb (length t % 4) 0 && lettersTo i t
 
 pub tested-none : (t : List ℕ) (n : ℕ) → n ≡ length t → Tested t (eqb (n % 4) 0) 0
-tested-none t n e = record { so-far = and-true (eqb (n % 4) 0) ∙ ap (λ (m : ℕ). eqb (m % 4) 0 && true) e }
+tested-none t n e = record { so-far = sym (and-true (eqb (n % 4) 0)) ∙ ap (λ (m : ℕ). eqb (m % 4) 0 && true) e }
 
 pub tested-next : (t : List ℕ) (ok r : Bool) (i : ℕ) → Tested t ok i → i < length t - 4 → r ≡ isLetter (getD t i 0) → Tested t (ok && r) (i + 1)
 tested-next t ok r i d h e =

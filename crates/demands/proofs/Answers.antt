@@ -18,7 +18,7 @@ use Rattle.wire.specs.declared.check.Verdict.{Verdict}
 use Rattle.wire.specs.declared.check.Verdict.the-variants.{Clear, Refused as Not}
 use Rattle.wire.specs.declared.refusal.Refusal.the-variants.{NoRoom}
 use Rattle.wire.specs.Check.{checked, after}
-use Rattle.wire.proofs.Bools.{and-both}
+use Rattle.wire.proofs.Bools.{and-both, and-false}
 use Rattle.place.specs.declared.written.Written.{Written}
 use Rattle.place.specs.declared.written.Written.the-variants.{Length, Refused}
 use Rattle.place.specs.Place.{le16, le32}
@@ -82,10 +82,6 @@ two-arrays-tell c room room′ =
       λ l. w .0 (⊎-elim (λ a. rw (lt-leb (numberCount c) room a)) (λ b. rw (lt-leb (byteCount c) room′ b) (and-false (leb (numberCount c) room))) l),
       λ a b. w .1 (and-both (leb (numberCount c) room) (leb (byteCount c) room′) (le-leb (numberCount c) room a) (le-leb (byteCount c) room′ b)),
     )
-  where
-    and-false : (t : Bool) → (t && false) ≡ false
-    and-false true = refl
-    and-false false = refl
 
 pub check-pairs-tells : CheckPairsTells
 check-pairs-tells s = go (checkPairs s) (pairs-small s) where

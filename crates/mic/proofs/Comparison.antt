@@ -1,14 +1,15 @@
 -- Sixteen bytes that are compared one by one.
 use Prim.Native.Nat.{ℕ, _+_, _≤_, _<_}
-use mathlib.Core.Path.{_≡_, refl, sym, ap, _∙_}
-use mathlib.Core.Bool.{Bool, true, false, _&&_}
-use mathlib.Core.List.{List, [], _∷_}
+use mathlib.Core.Path.{_≡_, sym, ap, _∙_}
+use mathlib.Core.Bool.{Bool, true, _&&_}
+use mathlib.Core.List.{List, _∷_}
 use native.Mathlib.Nat.{add-zero, add-assoc}
 use native.Mathlib.Numerals.{add-one}
 use native.Mathlib.Omega.{arith}
 use lib.Dec.{T, eqb, leb, leb→le}
 use lib.ListN.{length, getD, drop, drop-of-length-le}
 use lib.Seq.{drop-cons}
+use Rattle.wire.proofs.Bools.{and-assoc, and-true}
 use Rattle.wire.specs.Number.{standsAt}
 
 -- sixteen bytes, of which i have been compared
@@ -17,14 +18,6 @@ pub record Compared (s : List ℕ) (at : ℕ) (xs : List ℕ) (same : Bool) (i :
 
 pub stands-start : (s : List ℕ) (at : ℕ) (xs : List ℕ) → Compared s at xs true 0
 stands-start s at xs = record { rest = simp (add-zero at) }
-
-and-assoc : (a b c : Bool) → (a && b) && c ≡ a && (b && c)
-and-assoc true b c = refl
-and-assoc false b c = refl
-
-and-true : (a : Bool) → a && true ≡ a
-and-true true = refl
-and-true false = refl
 
 pub stands-next : (s : List ℕ) (at : ℕ) (xs : List ℕ) (same : Bool) (i n : ℕ) → Compared s at xs same i → length xs ≡ 16 → i < n → T (leb n 16) →
     Compared s at xs (same && eqb (getD s (at + i) 0) (getD xs i 0)) (i + 1)

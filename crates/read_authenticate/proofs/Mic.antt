@@ -13,6 +13,7 @@ use Rattle.field.specs.declared.Field.{Field}
 use Rattle.wire.specs.declared.refusal.Refusal.the-variants.{PastEnd}
 use Rattle.wire.specs.Check.{overAll}
 use Rattle.field.specs.Field.{isEmpty, endsInside, begins}
+use Rattle.wire.proofs.Bools.{and-assoc, and-true, or-assoc, or-false}
 use Rattle.wire.proofs.Laws.{after-clear}
 use Rattle.read_authenticate.specs.declared.Authenticate.{Authenticate}
 use Rattle.read_authenticate.specs.declared.Fields.{Fields}
@@ -55,22 +56,6 @@ lowest k (f ∷ fs) n = go (isEmpty (f .1)) (lowest k fs n) (lowest k fs (f .1 .
       leb-min k (f .1 .offset) (lowestOffset fs (f .1 .offset))
       ∙ ap (λ (b : Bool). leb k (f .1 .offset) && b) q
       ∙ absorb (leb k (f .1 .offset)) (room k fs) (some fs)
-
-and-true : (b : Bool) → (b && true) ≡ b
-and-true true = refl
-and-true false = refl
-
-or-false : (b : Bool) → (b || false) ≡ b
-or-false true = refl
-or-false false = refl
-
-and-assoc : (a b c : Bool) → ((a && b) && c) ≡ (a && (b && c))
-and-assoc true b c = refl
-and-assoc false b c = refl
-
-or-assoc : (a b c : Bool) → ((a || b) || c) ≡ (a || (b || c))
-or-assoc true b c = refl
-or-assoc false b c = refl
 
 -- the six fields' test is the definition's
 pub mic-is : (n : ℕ) (f : Fields) {a b c d e g : Bool} →

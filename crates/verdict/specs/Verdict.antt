@@ -5,7 +5,7 @@ use mathlib.Core.Bool.{Bool, true, _&&_, not}
 use mathlib.Core.List.{List}
 use lib.Dec.{leb, eqb}
 use Rattle.wire.specs.declared.refusal.Refusal.{Refusal}
-use Rattle.wire.specs.Refusal.{numberOf, fieldOf, placeOf}
+use Rattle.wire.specs.Refusal.{numberOf, placeOf}
 use Rattle.wire.specs.declared.check.Verdict.{Verdict}
 use Rattle.wire.specs.declared.check.Verdict.the-variants.{Clear, Refused as Not}
 use Rattle.head.specs.declared.Kind.{Kind}
@@ -42,7 +42,7 @@ abbrev pub placeIn : Verdict → ℕ
 placeIn Clear = 0
 placeIn (Not e) = placeOf e
 
--- ---- what is known of a refusal of a message of n bytes
+-- ---- a refusal of a message of n bytes
 
 -- the fixed part of each kind
 abbrev pub fixedOf : Kind → ℕ
@@ -62,7 +62,3 @@ hasPair number = leb 10 number && leb number 13 && not (eqb number 11)
 pub record Placed (e : Refusal) (n : ℕ) : Type 0 where
   pub short : placeOf e < 2 ^ 32
   pub there : hasPair (numberOf e) ≡ true → placeOf e + 4 ≤ n
-
-pub record Known (fixed : ℕ) (e : Refusal) (n : ℕ) : Type 0 where
-  pub fixed-part : FixedPart fixed (fieldOf e) n
-  pub placed : Placed e n

@@ -91,13 +91,6 @@ no-place e n h m = go (place e) where
   go (none e out same z) = h ∙ sym z
   go (some e there moved tagged) = absurd (tagged m)
 
--- a place moves by no more
-pub moved-place : (n : ℕ) (e : Refusal) → placeOf (movedBy n e) ≤ n + placeOf e
-moved-place n e = go (place e) where
-  go : Place e → placeOf (movedBy n e) ≤ n + placeOf e
-  go (none e out same z) = rw (same n) (omega arith)
-  go (some e there moved tagged) = omega (arith, moved n .0)
-
 -- its number and field stay
 pub moved-number : (n : ℕ) (e : Refusal) → (numberOf (movedBy n e) ≡ numberOf e) × (fieldOf (movedBy n e) ≡ fieldOf e)
 moved-number n e = go (place e) where
@@ -119,24 +112,25 @@ placeless-number e h = go (place e) where
   go (none e out same z) = z
   go (some e there moved tagged) = absurd (h there)
 
--- ---- refusals without a place
+-- ---- what holds of every refusal that may be given
 
-abbrev pub Placeless : Verdict → Type 0
-Placeless Clear = Unit
-Placeless (Refused e) = placeOf e ≡ 0
+abbrev pub Refuses : (Refusal → Type 0) → Verdict → Type 0
+Refuses Q Clear = Unit
+Refuses Q (Refused e) = Q e
 
 -- what holds of a refusal and of what follows holds of both together
 pub of-after : {A : Type 0} (P : A → Type 0) (c : Checked) (e x : A) → P e → P x → P (after c e x)
 of-after P Held e x p q = q
 of-after P Failed e x p q = p
 
-pub of-group : {A : Type 0} (P : A → Type 0) (f : Refusal → A) (v : Verdict) (x : A) → Placeless v → ((e : Refusal) → placeOf e ≡ 0 → P (f e)) → P x →
-    P (onClear f v x)
-of-group P f Clear x h p q = q
-of-group P f (Refused e) x h p q = p e h
+-- so it is of a group of checks and of what follows it
+pub of-group : {A : Type 0} (Q : Refusal → Type 0) (P : A → Type 0) (f : Refusal → A) (v : Verdict) (x : A) → Refuses Q v →
+    ((e : Refusal) → Q e → P (f e)) → P x → P (onClear f v x)
+of-group Q P f Clear x h p q = q
+of-group Q P f (Refused e) x h p q = p e h
 
--- one check over all fields, whose refusal has none at any of them
-pub of-all : {A : Type 0} (ok : A → Checked) (refusal : ℕ → Refusal) (fs : List (ℕ × A)) → ((i : ℕ) → placeOf (refusal i) ≡ 0) →
-    Placeless (overAll ok refusal fs)
-of-all ok refusal [] h = tt
-of-all ok refusal (f ∷ fs) h = of-after Placeless (ok (f .1)) (Refused (refusal (f .0))) (overAll ok refusal fs) (h (f .0)) (of-all ok refusal fs h)
+-- and of one check over all fields
+pub of-all : {A : Type 0} (Q : Refusal → Type 0) (ok : A → Checked) (refusal : ℕ → Refusal) (fs : List (ℕ × A)) → ((i : ℕ) → Q (refusal i)) →
+    Refuses Q (overAll ok refusal fs)
+of-all Q ok refusal [] h = tt
+of-all Q ok refusal (f ∷ fs) h = of-after (Refuses Q) (ok (f .1)) (Refused (refusal (f .0))) (overAll ok refusal fs) (h (f .0)) (of-all Q ok refusal fs h)

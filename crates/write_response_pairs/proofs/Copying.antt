@@ -20,7 +20,7 @@ use Rattle.place.specs.Place.{Wrote, le16, le32}
 use Rattle.place.proofs.Laws.{and-then, nothing, kept as same-length}
 use Rattle.place.proofs.Numbers.{length-le32}
 use Rattle.wire.specs.Number.{u32At}
-use Rattle.wire.proofs.Bools.{and-left}
+use Rattle.wire.proofs.Bools.{and-left, or-assoc, or-false}
 use Rattle.write_response_pairs.specs.ResponsePairs.{pairWith, hasPair, leftOut, kept, flagsSet, withBits, pairBytes, bytesOf}
 use Rattle.write_response_pairs.proofs.Fits.{four, length-pair, bytes-append}
 
@@ -34,14 +34,6 @@ pub record Seeing (s : List ℕ) (at n : ℕ) (t f : Bool) : Type 0 where
 
 pub see-none : (s : List ℕ) → Seeing s 0 0 false false
 see-none s = record { size = simp (values-start s) (ap (λ (n : ℕ). min 65536 n) (zero-add _)); few = omega arith; timestamp = simp (values-start s); flags = simp (values-start s) }
-
-or-assoc : (a b c : Bool) → (a || b) || c ≡ a || (b || c)
-or-assoc true b c = refl
-or-assoc false b c = refl
-
-or-none : (a : Bool) → a || false ≡ a
-or-none true = refl
-or-none false = refl
 
 -- the bytes of a pair that is kept, or none
 one-size : (p : Valued) (ps : List Valued) →
@@ -74,10 +66,10 @@ module _ (s : List ℕ) (at n : ℕ) (t f : Bool) (w : Seeing s at n t f) where
     see-size h = let l : length (bytesOf (kept (valuesAt s at))) ≡ 0 = ap (λ (ps : List Valued). length (bytesOf (kept ps))) (no-values s at r e h) in omega (arith, l, w .size, w .few)
 
     pub see-timestamp : r ≡ Nothing → t ≡ hasPair isTimestamp (valuesOf s)
-    see-timestamp h = sym (or-none t) ∙ simp (no-values s at r e h) at (w .timestamp)
+    see-timestamp h = sym (or-false t) ∙ simp (no-values s at r e h) at (w .timestamp)
 
     pub see-flags : r ≡ Nothing → f ≡ hasPair isFlags (valuesOf s)
-    see-flags h = sym (or-none f) ∙ simp (no-values s at r e h) at (w .flags)
+    see-flags h = sym (or-false f) ∙ simp (no-values s at r e h) at (w .flags)
 
 -- ---- one pair as it goes back
 

@@ -18,8 +18,7 @@ use Rattle.field.specs.Field.{isEmpty, fieldAt, evenName, fieldBytes}
 use Rattle.negotiate_flags.specs.Flags.{unicode, requestTarget, targetInfo}
 use Rattle.head.specs.Head.{flagsAt, readHead, onFlags}
 use Rattle.wire.specs.Refusal.{numberOf, fieldOf, placeOf}
-use Rattle.wire.proofs.Places.{moved-number, moved-at}
-use Rattle.line.proofs.Places.{PlacelessC, fields-placeless}
+use Rattle.wire.proofs.Places.{moved-number, moved-at, placeless-number}
 use Rattle.av_pairs.specs.declared.Count.the-variants.{Pairs, Refused as Uncounted}
 use Rattle.av_pairs.specs.AvPairs.{checkPairs, countPairs, pairsOf}
 use Rattle.read_challenge.specs.declared.Challenge.{Challenge}
@@ -35,7 +34,7 @@ use Rattle.demands.proofs.Order.{Free, only-first, next-check, skip}
 use Rattle.demands.proofs.Message.{Stands, even-failed, even-held}
 use Rattle.demands.proofs.Message.Fields.{AllStand, Link, ends-judged, begins-judged}
 use Rattle.demands.proofs.Message as fields
-use Rattle.demands.proofs.Message.Chain.{JudgedV, JudgedH, over-judged, head-judged, then, beyond}
+use Rattle.demands.proofs.Message.Chain.{JudgedV, JudgedH, over-judged, head-judged, then, beyond, up-to-9}
 use Rattle.demands.proofs.Judged.{By, judged-by}
 use Rattle.demands.proofs.OwnBytes.{own-field}
 use Rattle.demands.proofs.PairList.{JudgedC, count-judged, holds-or-fault, one-first, first-number}
@@ -147,7 +146,7 @@ module _ (s b : List ℕ) (info : InfoBytes s b) where
 
   pub judged : Judged (readChallenge s .reading)
   unfolding readChallenge readingOf checkInfo
-  judged = go (fieldsOf s) (fields-of-judged s) (fields-placeless s) where
+  judged = go (fieldsOf s) (fields-of-judged s) where
     last : (c : Challenge) (v : Verdict) → ((n i : ℕ) → Fails challenge s n i → ⊥) → JudgedP b v → Judged (onClear Refused (inMessage field v) (Taken c))
     last c Clear none j = record { fields = none; count = j .0; list = j .1 }
     last c (Not e) none j =
@@ -155,11 +154,11 @@ module _ (s b : List ℕ) (info : InfoBytes s b) where
         let moved = moved-at (field .offset) e (first-number b (j .2)) in
         rw (same .0, same .1) (in-list none j (moved ∙ ap (λ (x : ℕ). x + placeOf e) (offset-is (j .0))))
 
-    go : (r : Reading) → JudgedF s r → PlacelessC r →
+    go : (r : Reading) → JudgedF s r →
         Judged (onTaken Refused r (λ c. onClear Refused (inMessage (c .fields .«target_info») (checkPairs (infoOf s c))) (Taken c)))
-    go (Taken c) j z =
+    go (Taken c) j =
         rw (j .1, info-is s b info (j .0)) (last (record { flags = flagsAt s 20; fields = fieldsAt s (flagsAt s 20) }) (checkPairs b) (j .0) (pairs-judged b))
-    go (Refused e) j z = in-fields z j
+    go (Refused e) j = in-fields (placeless-number e (λ b. omega (arith, b .0, up-to-9 challenge s (numberOf e) (fieldOf e) (j .fails)))) j
 
 -- not both; and there is one reason only
 pub holds-or-fails : (s b : List ℕ) (n i p : ℕ) → ChallengeHolds s b → ChallengeFails s b n i p → ⊥

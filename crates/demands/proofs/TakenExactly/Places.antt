@@ -1,6 +1,5 @@
 -- Only pairs have a place, and in a message it has 16 bits.
 use Rattle.wire.proofs.Places.{placeless-number}
-use Rattle.read_challenge.specs.Challenge.{readChallenge}
 use Rattle.line.proofs.Places.{chal-place}
 use Rattle.demands.specs.TakenExactly.{PlaceOfPairsOnly, PlaceInMessage}
 
@@ -8,5 +7,4 @@ pub place-of-pairs-only : PlaceOfPairsOnly
 place-of-pairs-only = placeless-number
 
 pub place-in-message : PlaceInMessage
-unfolding readChallenge
 place-in-message s e h = chal-place s e h
