@@ -15,7 +15,6 @@ use Rattle.read_negotiate.specs.Negotiate.{readNegotiate}
 use Rattle.read_authenticate.specs.declared.Answer.{Answer}
 use Rattle.read_authenticate.specs.declared.Reading.the-variants.{Refused as AuthRefused}
 use Rattle.read_authenticate.specs.Authenticate.{readAuthenticate}
-use Rattle.read_challenge.specs.declared.Challenge.{Challenge}
 use Rattle.read_challenge.specs.declared.FullReading.{FullReading}
 use Rattle.read_challenge.specs.declared.FullReading.the-variants.{Refused as FullRefused}
 use Rattle.read_challenge.specs.declared.Reading.the-variants.{Refused as ChalRefused}
