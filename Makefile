@@ -82,10 +82,10 @@ dist:
 	@exec tools/dist
 
 compare:
-	@exec tools/compare
+	@exec tools/compare programs
 
 wide:
-	@exec tools/wide
+	@exec tools/compare library
 
 bench:
 	@exec tools/bench
