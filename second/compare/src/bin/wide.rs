@@ -38,7 +38,7 @@ fn messages(folder: &Path) -> Result<Vec<Vec<u8>>, String> {
     for file in &folder.messages {
         match file.read_all() {
             Ok(Content::Message(_, message)) => messages.push(message),
-            Ok(Content::HeaderTexts(texts)) => {
+            Ok(Content::HeaderTexts(texts, _)) => {
                 messages.extend(texts.iter().filter_map(|(_, text)| carried(text)));
             }
             Err(error) => return Err(format!("{}: {error}", file.name)),
