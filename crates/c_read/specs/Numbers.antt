@@ -114,11 +114,11 @@ challengeOutcome (ChalTaken c) = numbers (challengeNumbers c)
 challengeOutcome (ChalRefused e) = refused e
 
 -- of a message's bytes
-abbrev pub authenticateFound : List ℕ → Outcome
-authenticateFound s = authenticateOutcome (readAuthenticate s .reading)
+abbrev pub authenticateOutcomeOf : List ℕ → Outcome
+authenticateOutcomeOf s = authenticateOutcome (readAuthenticate s .reading)
 
-abbrev pub challengeFound : List ℕ → Outcome
-challengeFound s = challengeOutcome (readChallenge s .reading)
+abbrev pub challengeOutcomeOf : List ℕ → Outcome
+challengeOutcomeOf s = challengeOutcome (readChallenge s .reading)
 
 abbrev pub timestampOutcome : TimestampReading → Outcome
 timestampOutcome (TimeTaken t) = numbers (timestampNumbers t)

@@ -4,7 +4,7 @@ ghost use Prim.Native.Nat.{_≤_};
 ghost use lib.ListN.{length};
 ghost use Rattle.place.specs.Written.{atFront};
 ghost use Rattle.c_read.specs.Numbers.{negotiateNumbers, authenticateNumbers, challengeNumbers, timestampNumbers, serverNamesNumbers, nlAuthNumbers};
-ghost use Rattle.c_read.specs.Numbers.{negotiateOutcome, authenticateFound, challengeFound, timestampOutcome, serverNamesOutcome, nlAuthOutcome};
+ghost use Rattle.c_read.specs.Numbers.{negotiateOutcome, authenticateOutcomeOf, challengeOutcomeOf, timestampOutcome, serverNamesOutcome, nlAuthOutcome};
 ghost use Rattle.read_authenticate.specs.Authenticate.{readAuthenticate};
 ghost use Rattle.read_challenge.specs.Challenge.{readChallenge, timestampOf, serverNamesOf};
 ghost use Rattle.read_negotiate.specs.Negotiate.{readNegotiate};
@@ -186,9 +186,9 @@ fn give_authenticate(numbers: &mut [u64], mic: &mut [u8], a: Authenticate, bytes
 
 // Reads AUTHENTICATE.
 pub fn read_authenticate(msg: &[u8], numbers: &mut [u64], mic: &mut [u8]) -> u64
-    ensures answer { λ r. ⌜ r ≡ twoArrayNumber 20 16 (authenticateFound (now (msg .entry))) (length (now (numbers .entry))) (length (now (mic .entry))) ⌝ }
-    ensures content { λ _. ⌜ now (numbers .exit) ≡ twoArrayOut 20 16 (authenticateFound (now (msg .entry))) (now (numbers .entry)) (length (now (mic .entry))) ⌝ }
-    ensures beside { λ _. ⌜ now (mic .exit) ≡ twoArrayBytes 20 16 (authenticateFound (now (msg .entry)))
+    ensures answer { λ r. ⌜ r ≡ twoArrayNumber 20 16 (authenticateOutcomeOf (now (msg .entry))) (length (now (numbers .entry))) (length (now (mic .entry))) ⌝ }
+    ensures content { λ _. ⌜ now (numbers .exit) ≡ twoArrayOut 20 16 (authenticateOutcomeOf (now (msg .entry))) (now (numbers .entry)) (length (now (mic .entry))) ⌝ }
+    ensures beside { λ _. ⌜ now (mic .exit) ≡ twoArrayBytes 20 16 (authenticateOutcomeOf (now (msg .entry)))
         (readAuthenticate (now (msg .entry)) .mic) (length (now (numbers .entry))) (now (mic .entry)) ⌝ }
 {
     let Checked::Held = rooms_hold(20, numbers.len(), 16, mic.len()) else {
@@ -216,9 +216,9 @@ fn give_challenge(numbers: &mut [u64], out: &mut [u8], c: Challenge, bytes: &[u8
 
 // Reads CHALLENGE; `out` is for ServerChallenge.
 pub fn read_challenge(msg: &[u8], numbers: &mut [u64], out: &mut [u8]) -> u64
-    ensures answer { λ r. ⌜ r ≡ twoArrayNumber 7 8 (challengeFound (now (msg .entry))) (length (now (numbers .entry))) (length (now (out .entry))) ⌝ }
-    ensures content { λ _. ⌜ now (numbers .exit) ≡ twoArrayOut 7 8 (challengeFound (now (msg .entry))) (now (numbers .entry)) (length (now (out .entry))) ⌝ }
-    ensures beside { λ _. ⌜ now (out .exit) ≡ twoArrayBytes 7 8 (challengeFound (now (msg .entry)))
+    ensures answer { λ r. ⌜ r ≡ twoArrayNumber 7 8 (challengeOutcomeOf (now (msg .entry))) (length (now (numbers .entry))) (length (now (out .entry))) ⌝ }
+    ensures content { λ _. ⌜ now (numbers .exit) ≡ twoArrayOut 7 8 (challengeOutcomeOf (now (msg .entry))) (now (numbers .entry)) (length (now (out .entry))) ⌝ }
+    ensures beside { λ _. ⌜ now (out .exit) ≡ twoArrayBytes 7 8 (challengeOutcomeOf (now (msg .entry)))
         (readChallenge (now (msg .entry)) .«server_challenge») (length (now (numbers .entry))) (now (out .entry)) ⌝ }
 {
     let Checked::Held = rooms_hold(7, numbers.len(), 8, out.len()) else {

@@ -13,7 +13,8 @@ use Rattle.wire.proofs.Bools.{and-left, and-right, and-both}
 use Rattle.head.specs.declared.Kind.{Kind}
 use Rattle.head.specs.declared.Kind.the-variants.{Negotiate, Challenge, Authenticate}
 use Rattle.head.specs.Head.{hasType, kindOf}
-use Rattle.demands.specs.Kind.{TypeIs, KindByType, KindIs}
+use Rattle.line.specs.Line.{ntlmLine}
+use Rattle.demands.specs.Kind.{TypeIs, KindByType, KindIs, ReadAsKind, LineAsKind}
 use Rattle.demands.proofs.Bools.{true-not-false}
 
 -- kinds of different numbers differ
@@ -60,3 +61,10 @@ kind-is s = go (hasType 1 s) (hasType 2 s) refl refl where
         challenge = (λ h. absurd (omega (arith, ap number (sym k ∙ h))), λ t. absurd (not 2 q t));
         authenticate = (λ h. ⊎-elim (not 1 p) (not 2 q), λ t. k);
       }
+
+pub read-as-kind : ReadAsKind
+read-as-kind s = record { nego = refl; chal = refl; auth = refl }
+
+pub line-as-kind : LineAsKind
+unfolding ntlmLine
+line-as-kind s = record { nego = refl; chal = refl; auth = refl; ntlm = refl }

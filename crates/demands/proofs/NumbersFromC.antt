@@ -52,8 +52,11 @@ use Rattle.demands.specs.Answering.{TimestampIs}
 use Rattle.demands.specs.Asking.{AskedAt}
 use Rattle.demands.specs.FromC.{Call, read-negotiate, read-timestamp, read-server-names, read-nl-auth, count-pairs, find-pair, next-pair, decide, work-out-mic, outcome, TwoArrayCall, read-authenticate, read-challenge, twoArrayOutcome, bytesBeside}
 use Rattle.demands.specs.Message.{Format}
-use Rattle.demands.specs.NumbersFromC.{numberAt, YesOrNo, FieldNumbers, TimestampNumbers, PlainNumbers, NameNumbers, RequestNumbers, NlAuthNumbers, NumbersSay, TwoArraysSay, CallNumbersOwn, TwoArrayNumbersOwn}
+use Rattle.demands.specs.NumbersFromC.{numberAt, YesOrNo, FieldNumbers, TimestampNumbers, PlainNumbers, NameNumbers, RequestNumbers, NlAuthNumbers, NumbersSay, TwoArraysSay, CallNumbersOwn, TwoArrayNumbersOwn, outcomeVerdict, ReadingsFromC}
 use Rattle.demands.specs.OwnBytes.{OwnField, OwnString, OwnName, OwnRequest, OwnResponse}
+use Rattle.verdict.specs.Verdict.{negoVerdict, chalVerdict, authVerdict}
+use Rattle.demands.specs.SearchedExactly.{timestampVerdict, serverNamesVerdict}
+use Rattle.demands.specs.TakenExactly.{nlVerdict}
 use Rattle.demands.proofs.Answering.Deciding.{decision-taken}
 use Rattle.demands.proofs.Asking.{pair-or-stop, asking-gives}
 use Rattle.demands.proofs.Bools.{true-not-false}
@@ -225,3 +228,40 @@ two-say (read-challenge s) = go (readChallenge s .reading) refl where
 
 pub two-array-numbers-own : TwoArrayNumbersOwn
 two-array-numbers-own c xs h = subst (OnNumbers (λ xs. TwoArraysSay c xs (bytesBeside c))) h (two-say c)
+
+-- ---- taken and refused from C as the readers take and refuse
+
+nego-judged : (r : NegotiateReading) → outcomeVerdict (negotiateOutcome r) ≡ negoVerdict r
+nego-judged (NegotiateTaken m) = refl
+nego-judged (NegotiateRefused e) = refl
+
+chal-judged : (r : ChallengeReading) → outcomeVerdict (challengeOutcome r) ≡ chalVerdict r
+chal-judged (ChallengeTaken c) = refl
+chal-judged (ChallengeRefused e) = refl
+
+auth-judged : (r : Reading) → outcomeVerdict (authenticateOutcome r) ≡ authVerdict r
+auth-judged (Taken a) = refl
+auth-judged (Refused e) = refl
+
+nl-judged : (r : NlReading) → outcomeVerdict (nlAuthOutcome r) ≡ nlVerdict r
+nl-judged (NlTaken m) = refl
+nl-judged (NlRefused e) = refl
+
+timestamp-judged : (r : TimestampReading) → outcomeVerdict (timestampOutcome r) ≡ timestampVerdict r
+timestamp-judged (TimeTaken t) = refl
+timestamp-judged (TimeRefused e) = refl
+
+names-judged : (r : ServerNamesReading) → outcomeVerdict (serverNamesOutcome r) ≡ serverNamesVerdict r
+names-judged (NamesTaken names) = refl
+names-judged (NamesRefused e) = refl
+
+pub readings-from-c : ReadingsFromC
+readings-from-c s =
+    record {
+      nego = nego-judged (readNegotiate s);
+      chal = chal-judged (readChallenge s .reading);
+      auth = auth-judged (readAuthenticate s .reading);
+      nl-auth = nl-judged (readNlAuth s);
+      timestamp = timestamp-judged (timestampOf s);
+      server-names = names-judged (serverNamesOf s);
+    }

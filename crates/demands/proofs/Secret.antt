@@ -24,6 +24,7 @@ use Rattle.line_authenticate.specs.Auth.{authNames, authText}
 use Rattle.line.specs.Line.{authLine, authenticateLine}
 use Rattle.place.specs.declared.written.Written.the-variants.{Length}
 use Rattle.place.specs.Written.{bytesAnswer, bytesAfter}
+use Rattle.c_read.specs.Numbers.{authenticateOutcome}
 use Rattle.demands.specs.Bench.{p1, userOffset}
 use Rattle.demands.specs.Ignored.{SameBytes}
 use Rattle.demands.specs.Message.{authenticate, lenOf, offsetOf, Nonempty, Covers, Fails}
@@ -116,6 +117,7 @@ pub secret-read : SecretRead
 secret-read s t d =
     record {
       reading = reading-same s t d;
+      from-c = ap authenticateOutcome (reading-same s t d);
       domain = λ a h. names-same s t d a h .0;
       user = λ a h. names-same s t d a h .1;
       workstation = λ a h. names-same s t d a h .2;

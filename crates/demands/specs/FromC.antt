@@ -9,7 +9,7 @@ use Rattle.read_negotiate.specs.Negotiate.{readNegotiate}
 use Rattle.read_nl_auth.specs.NlAuth.{readNlAuth}
 use Rattle.respond.specs.Decision.{decisionOn}
 use Rattle.c_number.specs.Outcome.{Outcome}
-use Rattle.c_read.specs.Numbers.{negotiateOutcome, authenticateOutcome, challengeOutcome, timestampOutcome, serverNamesOutcome, nlAuthOutcome}
+use Rattle.c_read.specs.Numbers.{negotiateOutcome, authenticateOutcomeOf, challengeOutcomeOf, timestampOutcome, serverNamesOutcome, nlAuthOutcome}
 use Rattle.c_pairs.specs.Pairs.{countOutcome, searchOutcome, askedOutcome}
 use Rattle.c_respond.specs.Settings.{settingsOf}
 use Rattle.c_respond.specs.Respond.{decidedOutcome}
@@ -68,8 +68,8 @@ byteCount (read-authenticate msg) = 16
 byteCount (read-challenge msg) = 8
 
 abbrev pub twoArrayOutcome : TwoArrayCall → Outcome
-twoArrayOutcome (read-authenticate msg) = authenticateOutcome (readAuthenticate msg .reading)
-twoArrayOutcome (read-challenge msg) = challengeOutcome (readChallenge msg .reading)
+twoArrayOutcome (read-authenticate msg) = authenticateOutcomeOf msg
+twoArrayOutcome (read-challenge msg) = challengeOutcomeOf msg
 
 abbrev pub bytesBeside : TwoArrayCall → List ℕ
 bytesBeside (read-authenticate msg) = readAuthenticate msg .mic

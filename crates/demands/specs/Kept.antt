@@ -106,15 +106,16 @@ TwoArraysFront =
 
 -- an answer from C: where its array is too short, or where it is refused, array and output are as they were; an answer that
 -- is sent hands out Time and whether a MIC is due, and nothing after its message changes in the output
-pub record KeptFromC (answer : Answered) (out xs : List ℕ) (y : EffectFromC) : Type 0 where
+pub record KeptFromC (answer : Answered) (sent out xs : List ℕ) (y : EffectFromC) : Type 0 where
   pub short : length xs < 2 → (y .numbers ≡ xs) × (y .output ≡ out)
   pub refused : (e : Refusal) → answer ≡ Unanswered e → (y .numbers ≡ xs) × (y .output ≡ out)
   pub number : (x : Answer) → answer ≡ Sent x → 2 ≤ length xs → y .number ≡ x .len
   pub front : (x : Answer) → answer ≡ Sent x → 2 ≤ length xs → Front (x .time ∷ bit (x .«mic_due») ∷ []) xs (y .numbers)
+  pub output : 2 ≤ length xs → y .output ≡ sent
   pub same-length : (x : Answer) → answer ≡ Sent x → length (y .output) ≡ length out
   pub rest : (x : Answer) → answer ≡ Sent x → drop (x .len) (y .output) ≡ drop (x .len) out
 
 abbrev pub RespondedKept : Type 0
 RespondedKept =
     (settings : Settings) (s : List ℕ) (x : Supplied) (xs : List ℕ) → length (x .version) ≡ 8 → length (x .mic) ≡ 16 →
-    KeptFromC (respondTo settings s x .answer) (x .out) xs (respondFromC settings s x xs)
+    KeptFromC (respondTo settings s x .answer) (respondTo settings s x .output) (x .out) xs (respondFromC settings s x xs)

@@ -8,6 +8,11 @@ use lib.ListN.{length}
 use Rattle.wire.specs.Number.{u32At}
 use Rattle.head.specs.declared.Kind.the-variants.{Negotiate, Challenge, Authenticate}
 use Rattle.head.specs.Head.{kindOf}
+use Rattle.read_negotiate.specs.Negotiate.{readNegotiate}
+use Rattle.read_challenge.specs.Challenge.{readChallenge}
+use Rattle.read_authenticate.specs.Authenticate.{readAuthenticate}
+use Rattle.verdict.specs.Verdict.{negoVerdict, chalVerdict, authVerdict, readAs}
+use Rattle.line.specs.Line.{negotiateLine, challengeLine, authenticateLine, lineAs, ntlmLine}
 
 -- the bytes of the type are there, and it is this number
 abbrev pub TypeIs : List ℕ → ℕ → Type 0
@@ -20,3 +25,22 @@ pub record KindByType (s : List ℕ) : Type 0 where
 
 abbrev pub KindIs : Type 0
 KindIs = (s : List ℕ) → KindByType s
+
+-- a message read as a kind has the verdict of that kind's own reader
+pub record OwnVerdict (s : List ℕ) : Type 0 where
+  pub nego : readAs Negotiate s ≡ negoVerdict (readNegotiate s)
+  pub chal : readAs Challenge s ≡ chalVerdict (readChallenge s .reading)
+  pub auth : readAs Authenticate s ≡ authVerdict (readAuthenticate s .reading)
+
+abbrev pub ReadAsKind : Type 0
+ReadAsKind = (s : List ℕ) → OwnVerdict s
+
+-- and that kind's own line; the NTLM program's is that of the kind as which it reads
+pub record OwnLine (s : List ℕ) : Type 0 where
+  pub nego : lineAs Negotiate s ≡ negotiateLine s
+  pub chal : lineAs Challenge s ≡ challengeLine s
+  pub auth : lineAs Authenticate s ≡ authenticateLine s
+  pub ntlm : ntlmLine s ≡ lineAs (kindOf s) s
+
+abbrev pub LineAsKind : Type 0
+LineAsKind = (s : List ℕ) → OwnLine s

@@ -20,6 +20,7 @@ use Rattle.respond.specs.declared.answer.Answered.the-variants.{Sent}
 use Rattle.respond.specs.declared.decision.Settings.{Settings}
 use Rattle.respond.specs.Answer.{Supplied, Effect, respondTo}
 use Rattle.demands.specs.Bench.{p1, userOffset}
+use Rattle.demands.specs.FromC.{read-authenticate, twoArrayOutcome}
 use Rattle.demands.specs.Ignored.{SameBytes}
 use Rattle.demands.specs.Message.{authenticate, Nonempty, Covers, MicThere}
 use Rattle.demands.specs.TakenExactly.{IsTaken, RefusedWith}
@@ -47,10 +48,11 @@ pub record WrittenAlike (line out out′ : List ℕ) : Type 0 where
 abbrev pub LineWrittenAlike : Type 0
 LineWrittenAlike = (line out out′ : List ℕ) → length out ≡ length out′ → WrittenAlike line out out′
 
--- "all but the secrets' and the MIC's own bytes": the same flags, places, MIC presence or refusal, of which C's numbers are made, the
--- same names and the same line
+-- "all but the secrets' and the MIC's own bytes": the same flags, places, MIC presence or refusal, from C too, the same names and the
+-- same line
 pub record SamePublic (s t : List ℕ) : Type 0 where
   pub reading : readAuthenticate s .reading ≡ readAuthenticate t .reading
+  pub from-c : twoArrayOutcome (read-authenticate s) ≡ twoArrayOutcome (read-authenticate t)
   pub domain : (a : Authenticate) → readAuthenticate s .reading ≡ Taken a → SameBytes s t (a .fields .domain)
   pub user : (a : Authenticate) → readAuthenticate s .reading ≡ Taken a → SameBytes s t (a .fields .user)
   pub workstation : (a : Authenticate) → readAuthenticate s .reading ≡ Taken a → SameBytes s t (a .fields .workstation)

@@ -40,11 +40,11 @@ abbrev pub RefusedWith : Verdict → ℕ → ℕ → ℕ → Type 0
 RefusedWith Clear n i p = ⊥
 RefusedWith (Refused e) n i p = RefusalIs e n i p
 
-pub record Judged (verdict : Verdict) (Holds : Type 0) (Fails : ℕ → ℕ → ℕ → Type 0) : Type 0 where
+pub record Judged (verdict : Verdict) (AllHold : Type 0) (FailsFirst : ℕ → ℕ → ℕ → Type 0) : Type 0 where
   -- it is taken if and only if this holds
-  pub taken : IsTaken verdict ↔ Holds
+  pub taken : IsTaken verdict ↔ AllHold
   -- and refused with number n, field i and place p if and only if that is what fails first
-  pub refused : (n i p : ℕ) → RefusedWith verdict n i p ↔ Fails n i p
+  pub refused : (n i p : ℕ) → RefusedWith verdict n i p ↔ FailsFirst n i p
 
 -- checks without a place, of which `F n i` says that check n fails at field i: none fails, and the first that does
 abbrev pub NoneFails : (ℕ → ℕ → Type 0) → Type 0

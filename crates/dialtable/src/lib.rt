@@ -28,7 +28,7 @@ ghost use Rattle.write_canonical.specs.Canonical.{canonicalAnswer, canonicalOut
 ghost use Rattle.c_number.specs.Number.{verdictNumber, writtenNumber};
 ghost use Rattle.c_number.specs.Outcome.{callNumber, callOut, twoArrayNumber, twoArrayOut, twoArrayBytes};
 ghost use Rattle.c_read.specs.FieldCopy.{fieldCopyAnswer, fieldCopyOut};
-ghost use Rattle.c_read.specs.Numbers.{negotiateOutcome, authenticateFound, challengeFound, timestampOutcome, serverNamesOutcome, nlAuthOutcome};
+ghost use Rattle.c_read.specs.Numbers.{negotiateOutcome, authenticateOutcomeOf, challengeOutcomeOf, timestampOutcome, serverNamesOutcome, nlAuthOutcome};
 ghost use Rattle.c_mic.specs.Numbers.{micOutcome, checkingNumber};
 ghost use Rattle.mic.specs.Mic.{workOut, checkMic};
 ghost use Rattle.c_pairs.specs.Pairs.{countOutcome, searchOutcome, askedOutcome};
@@ -61,9 +61,9 @@ pub extern "C" fn dialtable_read_authenticate(
     numbers: &mut [u64],
     mic: &mut [u8],
 ) -> u64
-    ensures answer { λ r. ⌜ r ≡ twoArrayNumber 20 16 (authenticateFound (now (msg .entry))) (length (now (numbers .entry))) (length (now (mic .entry))) ⌝ }
-    ensures content { λ _. ⌜ now (numbers .exit) ≡ twoArrayOut 20 16 (authenticateFound (now (msg .entry))) (now (numbers .entry)) (length (now (mic .entry))) ⌝ }
-    ensures beside { λ _. ⌜ now (mic .exit) ≡ twoArrayBytes 20 16 (authenticateFound (now (msg .entry)))
+    ensures answer { λ r. ⌜ r ≡ twoArrayNumber 20 16 (authenticateOutcomeOf (now (msg .entry))) (length (now (numbers .entry))) (length (now (mic .entry))) ⌝ }
+    ensures content { λ _. ⌜ now (numbers .exit) ≡ twoArrayOut 20 16 (authenticateOutcomeOf (now (msg .entry))) (now (numbers .entry)) (length (now (mic .entry))) ⌝ }
+    ensures beside { λ _. ⌜ now (mic .exit) ≡ twoArrayBytes 20 16 (authenticateOutcomeOf (now (msg .entry)))
         (readAuthenticate (now (msg .entry)) .mic) (length (now (numbers .entry))) (now (mic .entry)) ⌝ }
 {
     c_read::read_authenticate(msg, numbers, mic)
@@ -71,9 +71,9 @@ pub extern "C" fn dialtable_read_authenticate(
 
 #[no_mangle]
 pub extern "C" fn dialtable_read_challenge(msg: &[u8], numbers: &mut [u64], out: &mut [u8]) -> u64
-    ensures answer { λ r. ⌜ r ≡ twoArrayNumber 7 8 (challengeFound (now (msg .entry))) (length (now (numbers .entry))) (length (now (out .entry))) ⌝ }
-    ensures content { λ _. ⌜ now (numbers .exit) ≡ twoArrayOut 7 8 (challengeFound (now (msg .entry))) (now (numbers .entry)) (length (now (out .entry))) ⌝ }
-    ensures beside { λ _. ⌜ now (out .exit) ≡ twoArrayBytes 7 8 (challengeFound (now (msg .entry)))
+    ensures answer { λ r. ⌜ r ≡ twoArrayNumber 7 8 (challengeOutcomeOf (now (msg .entry))) (length (now (numbers .entry))) (length (now (out .entry))) ⌝ }
+    ensures content { λ _. ⌜ now (numbers .exit) ≡ twoArrayOut 7 8 (challengeOutcomeOf (now (msg .entry))) (now (numbers .entry)) (length (now (out .entry))) ⌝ }
+    ensures beside { λ _. ⌜ now (out .exit) ≡ twoArrayBytes 7 8 (challengeOutcomeOf (now (msg .entry)))
         (readChallenge (now (msg .entry)) .«server_challenge») (length (now (numbers .entry))) (now (out .entry)) ⌝ }
 {
     c_read::read_challenge(msg, numbers, out)

@@ -48,6 +48,7 @@ responded-kept settings s x xs v8 m16 =
       refused = λ e h. by-answer (leb 2 (length xs)) a sent e h (kept .refused e h);
       number = λ y h l. rw (le-leb 2 (length xs) l, h);
       front = λ y h l. rw (le-leb 2 (length xs) l, h) (at-front (y .time ∷ bit (y .«mic_due») ∷ []) xs l);
+      output = λ l. rw (le-leb 2 (length xs) l);
       same-length = λ y h. by-length (leb 2 (length xs)) (kept .same-length y h);
       rest = λ y h. by-rest (leb 2 (length xs)) (y .len) (kept .rest y h);
     }
