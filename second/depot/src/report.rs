@@ -77,6 +77,11 @@ impl Said {
         self.number().is_some()
     }
 
+    /// Whether the proved program took the message.
+    pub fn is_taken(&self) -> bool {
+        matches!(self.proved, Answer::Printed(_)) && !self.is_refusal()
+    }
+
     /// The number that the proved program refuses by.
     pub fn number(&self) -> Option<u8> {
         match &self.proved {

@@ -112,11 +112,14 @@ fn pages_tell_nothing_of_secrets() {
         .into_iter()
         .map(|case| case.message)
         .collect();
-    drawn.retain(|message| Kind::of(message) != Kind::NlAuth && message.len() < 2_000);
+    drawn.retain(|message| message.len() < 2_000);
     drawn.dedup();
     for message in drawn {
+        assert_no_payload(&message);
         let mut other = message.clone();
-        if is_read_as_authenticate(&other) {
+        if Kind::of(&message) == Kind::NlAuth {
+            // No secret has a place in it.
+        } else if is_read_as_authenticate(&other) {
             for place in secret_places(&other) {
                 other[place] ^= 0x5A;
             }
@@ -130,6 +133,84 @@ fn pages_tell_nothing_of_secrets() {
         }
     }
     assert!(changed > 300, "{changed}");
+}
+
+/// The places of a page's only message whose bytes the grid shows.
+fn shown_places(page: &str) -> Vec<usize> {
+    let grid = page.split_once("<table class=\"grid\">").expect("a grid").1;
+    let grid = grid.split_once("</table>").expect("its end").0;
+    let mut shown = Vec::new();
+    for row in grid.split("<th scope=\"row\">").skip(1) {
+        let (start, row) = row.split_once("</th>").expect("a place");
+        let Ok(start) = usize::from_str_radix(start, 16) else {
+            continue;
+        };
+        let (hex, beside) = row
+            .split_once("</td><td class=\"x\">")
+            .expect("two columns");
+        let hex = text(&format!("<body>{hex}"));
+        let masked = |byte: &str| byte == "\u{2022}\u{2022}";
+        let bytes = hex.split_whitespace().enumerate();
+        if !hex.contains("bytes masked") {
+            shown.extend(
+                bytes
+                    .filter(|(_, byte)| !masked(byte))
+                    .map(|(at, _)| start + at),
+            );
+        }
+        let beside = beside.split_once("</td>").expect("its end").0;
+        let beside = ["&lt;", "&gt;", "&amp;", "&quot;", "&#39;"]
+            .iter()
+            .fold(beside.to_owned(), |text, escape| text.replace(escape, "x"));
+        let letters = beside.chars().enumerate();
+        shown.extend(
+            letters
+                .filter(|(_, c)| *c != '\u{2022}')
+                .map(|(at, _)| start + at),
+        );
+    }
+    shown
+}
+
+/// Fails where the page of a message that isn't taken shows a byte behind the fixed part,
+/// a name or a pair; or, where the signature or the type is another, one behind them.
+fn assert_no_payload(message: &[u8]) {
+    if item("", message).state() == Outcome::Taken {
+        return;
+    }
+    let page = page_of(message);
+    let sound = message.starts_with(b"NTLMSSP\0") && message.len() >= 12;
+    let fixed = match (Kind::of(message), sound.then(|| number(message, 8, 4))) {
+        (Kind::NlAuth, _) => 8,
+        (_, Some(1)) if message.len() >= 32 => 32,
+        (_, Some(2)) if message.len() >= 48 => 48,
+        (_, Some(3)) if message.len() >= 64 => 64,
+        _ => 12,
+    };
+    let behind = shown_places(&page)
+        .into_iter()
+        .find(|place| *place >= fixed);
+    assert_eq!(behind, None, "{message:02X?}");
+    let body = page.split_once("</header>").expect("a body").1;
+    assert!(body.matches("<bdi").count() <= 1, "{message:02X?}");
+    assert!(!body.contains("<table class=\"pairs\">"), "{message:02X?}");
+}
+
+/// The search for what is shown finds it.
+#[test]
+fn what_a_grid_shows_is_found() {
+    let message = with_user(&utf16("<b>"), 1);
+    let shown = shown_places(&page_of(&message));
+    for place in 0..message.len() {
+        assert_eq!(
+            shown.iter().filter(|at| **at == place).count(),
+            2,
+            "{place}"
+        );
+    }
+    let (message, _) = with_secrets(FLAGS);
+    let shown = shown_places(&page_of(&message));
+    assert!(shown.contains(&112) && !shown.contains(&72) && !shown.contains(&111));
 }
 
 /// Bytes that stand nowhere else.
@@ -188,7 +269,7 @@ fn windows(secrets: &[Vec<u8>], len: usize, text: impl Fn(&[u8]) -> Vec<u8>) -> 
 }
 
 /// Fails where four bytes in a row of a secret stand on a page: as they are, as
-/// characters, in hex or, six of them, in base64.
+/// characters, in hex, as a number in hex or, six of them, in base64.
 fn assert_no_secret(page: &str, secrets: &[Vec<u8>], what: &str) {
     let close: String = text(page).chars().filter(|c| !c.is_whitespace()).collect();
     let upper = close.to_uppercase();
@@ -215,6 +296,12 @@ fn assert_no_secret(page: &str, secrets: &[Vec<u8>], what: &str) {
         &windows(secrets, 4, |bytes| hex(bytes).into()),
         what,
     );
+    let number = |bytes: &[u8]| hex(&bytes.iter().rev().copied().collect::<Vec<u8>>());
+    assert_none(
+        &upper,
+        &windows(secrets, 4, |bytes| number(bytes).into()),
+        what,
+    );
     assert_none(
         &close,
         &windows(secrets, 6, |bytes| base64(bytes).into()),
@@ -223,7 +310,7 @@ fn assert_no_secret(page: &str, secrets: &[Vec<u8>], what: &str) {
 }
 
 fn assert_none(text: &str, windows: &HashSet<Vec<u8>>, what: &str) {
-    let len = windows.iter().map(Vec::len).max().unwrap_or_default();
+    let len = windows.iter().map(Vec::len).max().unwrap_or(1);
     let firsts: HashSet<u8> = windows.iter().map(|window| window[0]).collect();
     let first: Vec<bool> = (0..=255).map(|byte| firsts.contains(&byte)).collect();
     let mut found = text.as_bytes().windows(len);
@@ -250,6 +337,7 @@ fn a_secret_on_a_page_is_found() {
             spaced[2..].join(" ")
         ),
         base64(&secrets[0][1..10]),
+        format!("flags {:08X}", number(&secrets[0], 3, 4)),
         characters,
     ] {
         let page = format!("<body>{planted}");
@@ -369,14 +457,136 @@ fn a_name_in_doubt_shows_no_secret() {
     assert_no_secret(&page_of(&over), &secrets, "the domain over a gap");
 }
 
+/// The message without its NT response's head, with the user name over these bytes.
+fn with_user_over_response(message: &[u8], len: u8) -> Vec<u8> {
+    let mut moved = message.to_vec();
+    moved.copy_within(24..28, 40);
+    moved[36..40].copy_from_slice(&[len, 0, len, 0]);
+    moved[20..28].fill(0);
+    moved
+}
+
+/// Messages with two faults, each of which hides what the other bytes are.
+#[test]
+fn two_faults_that_hide_each_other_show_no_secret() {
+    let (message, secrets) = with_secrets(FLAGS);
+    let refused = |message: &[u8], what: &str| {
+        assert_eq!(item("", message).state(), Outcome::Refused, "{what}");
+        assert_no_payload(message);
+        assert_no_secret(&page_of(message), &secrets, what);
+    };
+    // A CHALLENGE by its type, whose target name is the LM response: one byte is cut off,
+    // or it has no character set. Its flags are the NT response's lengths.
+    let mut typed = message.clone();
+    typed[8] = 2;
+    for length in [0x186_u16, 0x184, 0x0C] {
+        typed[20..22].copy_from_slice(&length.to_le_bytes());
+        typed[22..24].copy_from_slice(&0x80_u16.to_le_bytes());
+        refused(&typed[..typed.len() - 1], "CHALLENGE, cut");
+        refused(&typed, "CHALLENGE");
+    }
+    typed[8] = 1;
+    refused(&typed[..40], "NEGOTIATE, cut");
+    // A user name over the NT response, whose head is lost.
+    for len in [60, 72, 100] {
+        let mut over = with_user_over_response(&message, len);
+        refused(&over[..over.len() - 1], "a name over the response, cut");
+        over[60] &= !3;
+        refused(&over, "a name over the response, no character set");
+    }
+    // A workstation over the MIC.
+    let mut over = message.clone();
+    over[44..52].copy_from_slice(&[16, 0, 16, 0, 72, 0, 0, 0]);
+    over[60] &= !3;
+    refused(&over, "a name over the MIC");
+}
+
+/// Any two bytes of the fixed part at once. A message that is taken all the same has its
+/// secrets where its heads say.
+#[test]
+fn any_two_faults_show_no_secret() {
+    let (message, secrets) = with_secrets(FLAGS);
+    let mut refused = 0;
+    for one in 0..64 {
+        let mut items = Vec::new();
+        for two in one + 1..64 {
+            let mut damaged = message.clone();
+            damaged[one] = [0, 2, 1, 0x48][(one + two) % 4];
+            damaged[two] = [0, 0x58, 2, 0xFF, 1][(one * 3 + two) % 5];
+            let damaged = item("", &damaged);
+            if damaged.state() == Outcome::Refused {
+                items.push(damaged);
+            }
+        }
+        refused += items.len();
+        assert_no_secret(&page_with(items), &secrets, &format!("byte {one}"));
+    }
+    assert!(refused > 1_000, "{refused}");
+}
+
+/// What begins with four zero bytes is read as NL_AUTH.
+#[test]
+fn what_is_read_as_nl_auth_shows_no_secret() {
+    let (mut message, secrets) = with_secrets(FLAGS);
+    // No LM response, and no first twelve bytes.
+    message[12..20].fill(0);
+    let response = marked(129, 200);
+    let key = [vec![0; 4], marked(200, 16)].concat();
+    for (bytes, secrets) in [
+        (message[12..].to_vec(), secrets.clone()),
+        (
+            [b"\0\0\0\0\x1F\x33\x44\x55", &response[..]].concat(),
+            vec![response.clone()],
+        ),
+        (
+            [b"\0\0\0\0\x1F\0\0\0", &response[..]].concat(),
+            vec![response.clone()],
+        ),
+        (
+            [b"\0\0\0\0\x03\0\0\0ab\0", &response[..]].concat(),
+            vec![response.clone()],
+        ),
+        (
+            [b"\0\0\0\0\x01\0\0\0ab\0", &response[..]].concat(),
+            vec![response.clone()],
+        ),
+        (
+            [b"\x01\0\0\0\0\0\0\0", &response[..]].concat(),
+            vec![response.clone()],
+        ),
+        (message[68..].to_vec(), secrets.clone()),
+        (key.clone(), vec![key[4..].to_vec()]),
+        (
+            [&[0; 4], &[0xE0, 0x91, 0xA2, 0xB3][..], &response].concat(),
+            vec![vec![0xE0, 0x91, 0xA2, 0xB3]],
+        ),
+    ] {
+        assert_eq!(Kind::of(&bytes), Kind::NlAuth, "{bytes:02X?}");
+        assert_eq!(item("", &bytes).state(), Outcome::Refused, "{bytes:02X?}");
+        assert_no_payload(&bytes);
+        assert_no_secret(&page_of(&bytes), &secrets, &format!("{bytes:02X?}"));
+    }
+    // Places and lengths are told.
+    let page = page_of(&[b"\0\0\0\0\x03\0\0\0ab\0", &response[..]].concat());
+    for told in [
+        "at 8, 3 bytes</td><td>3 bytes, <em>masked",
+        "at 11, 200 bytes</td><td>200 bytes, <em>masked",
+    ] {
+        assert!(page.contains(told), "{told}");
+    }
+}
+
 /// What is no message at all, and a message that is read as a string of NL_AUTH.
 #[test]
 fn what_is_of_no_kind_shows_no_secret() {
     let (message, secrets) = with_secrets(FLAGS);
-    for len in [20, 44, 60, 90] {
+    for len in [4, 12, 16, 20, 44, 60, 90] {
         let blob = marked(129, len);
-        let page = page_of(&blob);
-        assert_no_secret(&page, &[blob[12..].to_vec()], "of no kind");
+        assert_no_secret(&page_of(&blob), std::slice::from_ref(&blob), "of no kind");
+        assert!(shown_places(&page_of(&blob)).is_empty());
+        let signed = [b"NTLMSS", &blob[..]].concat();
+        assert_no_secret(&page_of(&signed), &[blob], "behind a part of the signature");
+        assert_eq!(shown_places(&page_of(&signed)).last(), Some(&5));
     }
     let string = [b"\0\0\0\0\x08\0\0\0".to_vec(), message].concat();
     assert_eq!(item("", &string).state(), Outcome::Refused);

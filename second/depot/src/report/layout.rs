@@ -1,7 +1,9 @@
 //! What each byte of a message is, and whether a page may show it.
 //!
-//! A byte is shown only where the reading knows what it is, and where no secret, MIC or
-//! server challenge has it. All others are masked: a gap may hold anything.
+//! Of a message that the proved program took, and the second reader too, a byte is shown
+//! where a part is known to have it, and no secret, MIC or server challenge has it.
+//! Of any other no byte of the payload is shown: where a message is damaged, nobody knows
+//! whose bytes they are.
 
 use std::ops::Range;
 
@@ -12,8 +14,11 @@ use reader::{
 use super::shape::{number, FieldShape, Kind, Role, What};
 use crate::form;
 
-/// How much of a message whose beginning is damaged is shown: signature and type.
-const BEGINNING: usize = 12;
+const SIGNATURE: &[u8; 8] = b"NTLMSSP\0";
+const TYPE: Range<usize> = 8..12;
+
+/// The bits of NL_AUTH's flags that have a meaning.
+const STRING_BITS: u32 = 0x1F;
 
 /// Where Version and MIC of an AUTHENTICATE stand.
 const VERSION_LEN: usize = 8;
@@ -44,6 +49,8 @@ pub struct Layout<'a> {
     pub message: &'a [u8],
     /// What the second reader refuses it by.
     pub refusal: Option<Refusal>,
+    /// Whether both programs took it: only then anything of its payload is shown.
+    pub taken: bool,
     pub heads: Vec<Head>,
     /// Those in front lie over those behind.
     pub parts: Vec<Part>,
@@ -90,61 +97,60 @@ impl Head {
 
 impl<'a> Layout<'a> {
     /// A message as the kind that it begins as, an NTLM message where it is of none.
-    pub fn of(message: &'a [u8]) -> Self {
+    /// `taken` says whether the proved program took it.
+    pub fn of(message: &'a [u8], taken: bool) -> Self {
         match form::Kind::of(message) {
-            form::Kind::NlAuth => Self::nl_auth(message),
-            kind => Self::ntlm(message, kind == form::Kind::Ntlm),
+            form::Kind::NlAuth => Self::nl_auth(message, taken),
+            _ => Self::ntlm(message, taken),
         }
     }
 
-    /// An NTLM message. `known` says whether it begins as one: what stands behind a
-    /// damaged beginning is not shown.
-    fn ntlm(message: &'a [u8], known: bool) -> Self {
+    fn ntlm(message: &'a [u8], taken: bool) -> Self {
         let kind = Kind::of_ntlm(message);
         let refusal = match kind {
             Kind::Negotiate => Negotiate::read(message).err(),
             Kind::Challenge => Challenge::read(message).err(),
             _ => Authenticate::read(message).err(),
         };
-        let mut layout = Self::bare(message, kind, refusal);
-        if known && layout.is_trusted() {
+        let mut layout = Self::bare(message, kind, refusal, taken);
+        if layout.has_fixed_part() {
             layout.add_heads();
-        } else {
-            layout.add_beginning();
         }
+        layout.add_beginning();
         layout.finish()
     }
 
-    fn nl_auth(message: &'a [u8]) -> Self {
+    fn nl_auth(message: &'a [u8], taken: bool) -> Self {
         let refusal = NlAuth::read(message).err();
-        let mut layout = Self::bare(message, Kind::NlAuth, refusal);
-        layout.add_fixed();
-        if refusal.is_none() || !holds_ntlm(message) {
-            layout.add_strings();
-        }
+        let mut layout = Self::bare(message, Kind::NlAuth, refusal, taken);
+        let flags = number(message, 4..8).unwrap_or(0);
+        layout.add(What::Type, 0..4, false);
+        layout.add(
+            What::Flags,
+            4..8,
+            !layout.taken && flags & !STRING_BITS != 0,
+        );
+        layout.add_strings();
         layout.finish()
     }
 
-    fn bare(message: &'a [u8], kind: Kind, refusal: Option<Refusal>) -> Self {
+    fn bare(message: &'a [u8], kind: Kind, refusal: Option<Refusal>, taken: bool) -> Self {
         Self {
             kind,
             message,
             refusal,
+            taken: taken && refusal.is_none(),
             heads: Vec::new(),
             parts: Vec::new(),
             bytes: Vec::new(),
         }
     }
 
-    /// Whether the heads of a message are where its kind has them. A message that is
-    /// refused, and would be taken as AUTHENTICATE with another type, is one.
-    fn is_trusted(&self) -> bool {
-        match (self.refusal.map(Refusal::number), self.kind) {
-            (None, _) => true,
-            (Some(1 | 3 | 4), _) => false,
-            (_, Kind::Authenticate) => true,
-            _ => !is_authenticate_but_for_type(self.message),
-        }
+    /// Whether the heads and the flags are where the kind has them.
+    fn has_fixed_part(&self) -> bool {
+        self.message.len() >= self.kind.shape().fixed
+            && self.message.starts_with(SIGNATURE)
+            && is_type(self.message)
     }
 
     fn add(&mut self, what: What, range: Range<usize>, masked: bool) {
@@ -160,18 +166,24 @@ impl<'a> Layout<'a> {
         }
     }
 
-    /// Signature and type alone.
+    /// Signature and type: the bytes that are as they should be.
     fn add_beginning(&mut self) {
-        for (what, range) in self.kind.shape().parts {
-            if range.end <= BEGINNING {
-                self.add(*what, range.clone(), false);
-            }
-        }
+        let alike = self.message.iter().zip(SIGNATURE);
+        let alike = alike.take_while(|(byte, right)| byte == right).count();
+        self.add(What::Signature, 0..alike, false);
+        self.add(What::Signature, alike..SIGNATURE.len(), true);
+        self.add(What::Type, TYPE, !is_type(self.message));
     }
 
+    /// The flags, and what else stands between the heads.
     fn add_fixed(&mut self) {
         for (what, range) in self.kind.shape().parts {
-            self.add(*what, range.clone(), *what == What::ServerChallenge);
+            match what {
+                What::Flags => self.add(*what, range.clone(), false),
+                What::Reserved => self.add(*what, range.clone(), !self.taken),
+                What::ServerChallenge => self.add(*what, range.clone(), true),
+                _ => {}
+            }
         }
     }
 
@@ -182,7 +194,7 @@ impl<'a> Layout<'a> {
         let heads: Vec<Head> = fields.filter_map(read).collect();
         for role in [Role::Secret, Role::Name, Role::Pairs] {
             for head in heads.iter().filter(|head| head.field.role == role) {
-                self.add_field(head, &heads);
+                self.add_field(head);
             }
         }
         let starts = heads.iter().filter_map(Head::range);
@@ -195,55 +207,34 @@ impl<'a> Layout<'a> {
         self.add_fixed();
     }
 
-    fn add_field(&mut self, head: &Head, heads: &[Head]) {
+    fn add_field(&mut self, head: &Head) {
         let Some(range) = head.range() else {
             return;
         };
+        let what = What::Field(head.field.number);
         match head.field.role {
-            Role::Secret => self.add(What::Field(head.field.number), range, true),
-            Role::Name => {
-                let masked = self.is_doubtful(head, heads);
-                self.add(What::Field(head.field.number), range, masked);
-            }
-            Role::Pairs => self.add_pairs(range),
+            Role::Name => self.add(what, range, !self.taken),
+            Role::Pairs if self.taken => self.add_pairs(range),
+            Role::Secret | Role::Pairs => self.add(what, range, true),
         }
     }
 
-    /// Whether a name of a refused AUTHENTICATE may run over other bytes than its own:
-    /// one that is at fault, leaves its place or shares bytes with another field.
-    fn is_doubtful(&self, name: &Head, heads: &[Head]) -> bool {
-        let Some(refusal) = self.refusal.filter(|_| self.kind == Kind::Authenticate) else {
-            return false;
-        };
-        let own = name.range().unwrap_or_default();
-        let shares = |other: &Head| {
-            let theirs = other.range().unwrap_or_default();
-            let apart = theirs.end <= own.start || own.end <= theirs.start;
-            other.field.number != name.field.number && !apart
-        };
-        refusal.field == name.field.number
-            || own.start < self.kind.shape().fixed
-            || own.end > self.message.len()
-            || heads.iter().any(shares)
-    }
-
-    /// Version and MIC, where the payload begins behind them. Of a refused AUTHENTICATE
-    /// they are a guess, and masked.
+    /// Version and MIC, where the payload begins behind them. Of a refused message they
+    /// are a guess.
     fn add_after_fixed(&mut self, lowest: usize) {
         let shape = self.kind.shape();
         let version = shape.fixed..shape.fixed + VERSION_LEN;
         let flags = number(self.message, shape.flags..shape.flags + 4).unwrap_or(0);
-        let guess = self.kind == Kind::Authenticate && self.refusal.is_some();
         if flags & NegotiateFlags::VERSION != 0 && lowest >= version.end {
-            self.add(What::Version, version, guess);
+            self.add(What::Version, version, !self.taken);
         }
         if self.kind == Kind::Authenticate && lowest >= MIC.end && self.message.len() >= MIC.end {
             self.add(What::Mic, MIC, true);
         }
     }
 
-    /// The pairs up to the end or the first fault, each its head and its value. A value
-    /// is shown where its id is known to hold a name, flags or a time.
+    /// The pairs of a message that was taken, each its head and its value. A value is
+    /// shown where its id is known to hold a name, flags or a time.
     fn add_pairs(&mut self, list: Range<usize>) {
         let end = list.end.min(self.message.len());
         let start = list.start.min(end);
@@ -255,30 +246,22 @@ impl<'a> Layout<'a> {
             at = value + pair.value.len();
             self.add(What::Pair(pair.id.0), value..at, !is_shown_pair(pair.id.0));
         }
-        // The end pair, or the one that fails.
-        let Some(id) = number(&self.message[..end], at..at + 2) else {
-            return self.add(What::Field(2), at..end, false);
-        };
-        let id = u16::try_from(id).unwrap_or_default();
-        self.add(What::Pair(id), at..(at + 4).min(end), false);
-        let size = number(&self.message[..end], at + 2..at + 4).unwrap_or(0);
-        let value = at + 4..end.min(at + 4 + usize::try_from(size).unwrap_or_default());
-        let value_end = value.end.max(at);
-        self.add(What::Pair(id), value, !is_shown_pair(id));
-        self.add(What::Field(2), value_end..end, true);
+        let is_end = self.message.get(at..at + 4) == Some(&[0; 4]);
+        self.add(What::Pair(0), at..end.min(at + 4), !is_end);
+        self.add(What::Field(2), at + 4..end, true);
     }
 
-    /// The strings of a request up to its end or the one that fails, which is shown to the
-    /// message's end.
+    /// The strings of a request up to its end, or to the one that fails, which goes to
+    /// the message's end.
     fn add_strings(&mut self) {
         let flags = number(self.message, 4..8).unwrap_or(0);
         let request = number(self.message, 0..4) == Some(0);
         let mut end = self.kind.shape().fixed;
         for string in (1..=5).filter(|string| request && flags >> (string - 1) & 1 == 1) {
             let Some(next) = NlAuth::string_place(self.message, string + 1) else {
-                return self.add(What::Field(string), end..self.message.len(), false);
+                return self.add(What::Field(string), end..self.message.len(), true);
             };
-            self.add(What::Field(string), end..next, false);
+            self.add(What::Field(string), end..next, !self.taken);
             end = next;
         }
     }
@@ -339,19 +322,16 @@ impl<'a> Layout<'a> {
             (4, _) => 8..12,
             (5 | 14, _) => shape.flags..shape.flags + 4,
             (6..=9, Some(head)) => head.range().unwrap_or_default(),
-            (10..=13, Some(head)) => self.failed_pair(refusal.place, head),
+            (10..=13, Some(head)) => {
+                let end = head.range().unwrap_or_default().end;
+                refusal.place..end.min(refusal.place + 4)
+            }
             (15 | 50..=53, _) => self.string_on(refusal.field),
             (16, _) => self.string_on(6),
             (17, _) => shape.fixed..self.message.len(),
             _ => 0..0,
         };
         [head.map_or(0..0, Head::place), bytes]
-    }
-
-    fn failed_pair(&self, place: usize, head: &Head) -> Range<usize> {
-        let size = number(self.message, place + 2..place + 4).unwrap_or(0);
-        let end = place + 4 + usize::try_from(size).unwrap_or_default();
-        place..end.min(head.range().unwrap_or_default().end)
     }
 
     /// From where a string begins to the message's end.
@@ -366,16 +346,7 @@ fn is_shown_pair(id: u16) -> bool {
     AvId(id) != AvId::SINGLE_HOST && AvId(id) != AvId::CHANNEL_BINDINGS && (1..=9).contains(&id)
 }
 
-fn is_authenticate_but_for_type(message: &[u8]) -> bool {
-    let mut other = message.to_vec();
-    if let Some(number) = other.get_mut(8..12) {
-        number.copy_from_slice(&[3, 0, 0, 0]);
-    }
-    Authenticate::read(&other).is_ok()
-}
-
-/// Whether what is read as NL_AUTH may hold an NTLM message, whose signature lost its
-/// first bytes or stands further on.
-fn holds_ntlm(message: &[u8]) -> bool {
-    message.get(4..8) == Some(b"SSP\0") || message.windows(7).any(|bytes| bytes == b"NTLMSSP")
+/// Whether the type is one that there is.
+fn is_type(message: &[u8]) -> bool {
+    matches!(number(message, TYPE), Some(1..=3))
 }

@@ -60,7 +60,8 @@ something else they are <strong>different</strong>. The picture of the bytes is 
 <li><span class=\"r n4 shared\">4+</span> shared with another part</li><li><span class=\"r n4 failed\">\u{2717}4</span> what failed a check</li>\
 <li><span class=\"r n1 masked\">\u{2022}\u{2022}</span> masked</li></ul>\n\
 <p>Masked are the LM and the NT response, the session key, the MIC, the server challenge, and each byte of which the reading \
-can\u{2019}t say what it is. A byte in two fields is masked where one of them is. Places are counted from 0.</p></details>\n";
+can\u{2019}t say what it is. A byte in two fields is masked where one of them is. Of a message that isn\u{2019}t taken, only the right \
+bytes of its signature, its type, flags and heads are shown. Places are counted from 0.</p></details>\n";
 
 /// What needs a look comes first.
 const fn rank(state: Outcome) -> u8 {
@@ -154,11 +155,14 @@ fn put_told(html: &mut Html, item: &Item) {
     }
 }
 
-/// Why a message is refused, in words; the line of one that is taken.
+/// Why a message is refused, in words; the line of one that is taken. 14 tells the flags of
+/// NL_AUTH: those that have other bits are masked.
 fn words_of(said: &Said, bytes: &[u8]) -> String {
-    let words = said
-        .number()
-        .and_then(|number| words::of(number, said.read_as, bytes));
+    let words = match said.number() {
+        Some(14) if bytes.get(4..8) != Some(&[0; 4]) => words::meaning(14).map(str::to_owned),
+        Some(number) => words::of(number, said.read_as, bytes),
+        None => None,
+    };
     words.unwrap_or_else(|| said.proved.to_string())
 }
 
@@ -278,7 +282,7 @@ fn put_message(html: &mut Html, bytes: &[u8], said: &[Said], item: usize, state:
     html.markup(
         "<summary>Bytes, parts, flags and checks</summary>\n<div class=\"columns\">\n<div>\n",
     );
-    let layout = Layout::of(bytes);
+    let layout = Layout::of(bytes, said.iter().all(Said::is_taken));
     grid::put(html, &layout, item);
     for said in said {
         put_checks(html, said);

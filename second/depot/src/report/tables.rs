@@ -124,7 +124,7 @@ fn put_says(html: &mut Html, layout: &Layout<'_>, head: &Head) {
         html.text(Bytes(len))
             .markup(", which end past the message of ");
         html.text(Bytes(layout.message.len()));
-    } else if head.field.role == Role::Pairs {
+    } else if head.field.role == Role::Pairs && layout.taken {
         html.text(Bytes(len)).markup(", in the table of pairs");
     } else if layout.is_shown(range.clone()) {
         name::put(html, &layout.message[range], is_unicode(layout));
@@ -143,7 +143,8 @@ fn is_unicode(layout: &Layout<'_>) -> bool {
 /// The fields that have bytes in common with this one.
 fn put_shared(html: &mut Html, layout: &Layout<'_>, head: &Head) {
     let own = head.range().unwrap_or_default();
-    for other in &layout.heads {
+    let shown = |other: &&Head| layout.is_shown(other.place());
+    for other in layout.heads.iter().filter(shown) {
         let theirs = other.range().unwrap_or_default();
         let both = own.start.max(theirs.start)..own.end.min(theirs.end);
         if other.field.number != head.field.number && both.start < both.end {
@@ -160,16 +161,14 @@ fn put_shared(html: &mut Html, layout: &Layout<'_>, head: &Head) {
     }
 }
 
-/// A string of NL_AUTH, with its text where the message is read.
+/// A string of NL_AUTH, with its text where the message was taken.
 fn put_string(html: &mut Html, layout: &Layout<'_>, string: u8, range: Range<usize>) {
     put_what(html, layout, What::Field(string));
     html.text(Place(range.clone())).markup("</td><td>");
     let mut room = vec![0; LINE_LIMIT];
     match nl_auth_name(layout.message, u32::from(string), &mut room) {
-        Ok(len) => name::put(html, &room[..len], false),
-        Err(_) => {
-            html.text(Bytes(range.len()));
-        }
+        Ok(len) if layout.taken => name::put(html, &room[..len], false),
+        _ => put_masked(html, range.len()),
     }
     html.markup("</td></tr>\n");
 }
@@ -249,10 +248,11 @@ fn flag_name(kind: Kind, bit: u32) -> Option<&'static str> {
 /// So many pairs have rows.
 const MOST_PAIRS: usize = 64;
 
-/// Puts the pairs of TargetInfo up to their end or the first fault.
+/// Puts the pairs of TargetInfo of a message that was taken.
 pub fn put_pairs(html: &mut Html, layout: &Layout<'_>) {
     let pairs = |head: &&Head| head.field.role == Role::Pairs;
-    let Some(list) = layout.heads.iter().find(pairs).and_then(Head::range) else {
+    let list = layout.heads.iter().find(pairs).and_then(Head::range);
+    let Some(list) = list.filter(|_| layout.taken) else {
         return;
     };
     let end = list.end.min(layout.message.len());
