@@ -106,7 +106,7 @@ class Apache:
         name, text = "night-" + os.urandom(4).hex(), os.urandom(30000)
         with open(os.path.join(self.folder, "night"), "wb") as file:
             file.write(text)
-        box.start("upload", "HTTP/localhost", "/depot/" + name, file.name)
+        box.start_upload("/depot/" + name, file.name)
         try:
             with socket.create_connection(("127.0.0.1", self.server.port), 10) as connection:
                 status = self._talk(box, connection.makefile("rwb"))
@@ -122,7 +122,7 @@ class Apache:
         for request, response in ((as_it_is, as_it_is), (box.note_first, box.note_challenge)):
             pass_on(*read_http(box.program.stdout), stream, request)
             pass_on(*read_http(stream), box.program.stdin, response)
-        box.hear_key()
+        box.hear_key_apart()
         pass_on(*read_http(box.program.stdout), stream, box.note_sent)
         head, body = read_http(stream)
         pass_on(head, body, box.program.stdin, as_it_is)

@@ -32,16 +32,27 @@ class Box:
         self.wanted, self.settings = wanted, settings
         self.relay = relay or (lambda challenge: challenge)
         self.spoil = spoil or (lambda box, answer: answer)
-        self.program, self.key, self.lines = None, None, []
+        self.program, self.key, self.key_pipe, self.lines = None, None, None, []
         self.first = self.challenge = self.sent = b""
 
-    def start(self, program, target, *more):
-        """program: sign_in or upload; more: its words behind those of the settings"""
+    def start(self, program, target, *more, key_to=None):
+        """program: sign_in or upload; more: its words behind those of the settings; key_to: the descriptor for upload's key"""
         self.end()
+        named = {} if key_to is None else {"pass_fds": (key_to,), "env": dict(os.environ, SIGN_IN_KEY_FD=str(key_to))}
         command = [PROGRAMS + "/" + program, self.user, self.domain, "BOX7", target, hex(self.wanted), str(self.settings),
                    *more]
-        self.program = subprocess.Popen(command, stdin=subprocess.PIPE, stdout=subprocess.PIPE, stderr=subprocess.PIPE)
+        self.program = subprocess.Popen(command, stdin=subprocess.PIPE, stdout=subprocess.PIPE, stderr=subprocess.PIPE,
+                                        **named)
         self._say(self.password)
+
+    def start_upload(self, path, file):
+        """The server is at upload's standard output, so its key comes through a pipe of its own."""
+        from_box, key_to = os.pipe()
+        try:
+            self.start("upload", "HTTP/localhost", path, file, key_to=key_to)
+        finally:
+            os.close(key_to)
+            self.key_pipe = os.fdopen(from_box)
 
     def negotiate(self):
         self.start("sign_in", "cifs/localhost")
@@ -57,6 +68,13 @@ class Box:
 
     def hear_key(self):
         self.key = self._hear("key")
+
+    def hear_key_apart(self):
+        """The key of upload. Where there is none, standard output has the reason."""
+        line = self.key_pipe.readline()
+        if not line.startswith("key "):
+            raise BoxRefused(self.end())
+        self.key = bytes.fromhex(line[4:])
 
     def note_first(self, negotiate):
         self.first = negotiate
@@ -86,6 +104,9 @@ class Box:
         if not self.program:
             return ""
         program, self.program = self.program, None
+        if self.key_pipe:
+            self.key_pipe.close()
+            self.key_pipe = None
         said, log = program.communicate()
         self.lines = log.decode().splitlines()
         return said.decode().strip()

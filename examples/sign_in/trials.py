@@ -128,16 +128,23 @@ TRIALS = (
 
 
 class Kept:
-    """The folder of the messages that were seen, as the servers saw them, with the sign-ins' session keys."""
+    """The folder of the messages that were seen, as the servers saw them, with the sign-ins' session keys. Its owner alone may
+    read any of it."""
 
     def __init__(self, folder):
         self.folder, self.keys = folder, {}
         shutil.rmtree(folder, ignore_errors=True)
-        os.makedirs(folder)
+        os.makedirs(os.path.dirname(folder), exist_ok=True)
+        os.mkdir(folder, 0o700)
+
+    def _write(self, name, content):
+        """A new file that nobody but its owner could ever open, whatever the umask."""
+        descriptor = os.open(os.path.join(self.folder, name), os.O_WRONLY | os.O_CREAT | os.O_EXCL, 0o600)
+        with os.fdopen(descriptor, "wb") as file:
+            file.write(content)
 
     def message(self, name, message):
-        with open(os.path.join(self.folder, name + ".bin"), "wb") as file:
-            file.write(message)
+        self._write(name + ".bin", message)
 
     def sign_in(self, trial, acceptor, box):
         if trial.slug and box.sent:
@@ -150,8 +157,7 @@ class Kept:
                             + ["    " + line for line in box.lines]))
 
     def end(self):
-        with open(os.path.join(self.folder, "keys.json"), "w") as file:
-            json.dump(self.keys, file, indent=1)
+        self._write("keys.json", json.dumps(self.keys, indent=1).encode())
 
 
 def run(acceptors, kept):

@@ -6,18 +6,18 @@
  *     in   the server's response, which must be 401 with no message: it offers schemes
  *     out  a PUT without a body, with the NEGOTIATE in its line 'Authorization'
  *     in   the server's response, with the CHALLENGE in a line 'WWW-Authenticate'
- *     out  key HEX            a line with the session key, for the bench
  *     out  a PUT with the AUTHENTICATE and the file
  *     in   the server's response: a status of 200 to 299 says that it took both
  * or in the place of what would go out a reason in a line, as sign_in has it, and status 1. The log goes to standard
- * error.
+ * error. The session key goes to nobody, but for a bench that names an open descriptor in SIGN_IN_KEY_FD, which is none
+ * of the three that the server and the log have: there it is written ahead of the last PUT, as a line 'key HEX'.
  */
+#define _POSIX_C_SOURCE 200112L /* fdopen */
 #include <ctype.h>
 #include <stdio.h>
 #include <stdlib.h>
 #include <string.h>
 
-#include "hex.h"
 #include "program.h"
 
 #define LINE_LEN 8192
@@ -27,6 +27,30 @@ static struct radio radio;
 static const char *path;
 static uint8_t file[FILE_ROOM];
 static size_t file_len;
+
+/* Where the bench wants the session key. Answers NULL where it wants none, or names no descriptor beyond standard
+ * error. */
+static FILE *key_file(void)
+{
+    const char *name = getenv("SIGN_IN_KEY_FD");
+    long fd = name == NULL ? 0 : strtol(name, NULL, 10);
+
+    return fd > 2 && fd <= 1023 ? fdopen((int)fd, "w") : NULL;
+}
+
+/* Answers 1, or 0 where the bench wants the key and can't have it. */
+static int tell_key(void)
+{
+    FILE *to = key_file();
+    size_t i;
+    int written;
+
+    if (to == NULL) return getenv("SIGN_IN_KEY_FD") == NULL;
+    written = fputs("key ", to) != EOF;
+    for (i = 0; i < sizeof radio.session_key && written; i++) written = fprintf(to, "%02x", radio.session_key[i]) > 0;
+    written = written && putc('\n', to) != EOF;
+    return fclose(to) == 0 && written;
+}
 
 /* A request with a message in its header line, or without one, and with so much of the file. Answers 1, or 0 where it
  * can't be sent. */
@@ -90,7 +114,10 @@ dialtable_len exchange(const uint8_t *msg, dialtable_len msg_len, uint8_t *in, d
     int is_last = in_len == 0, status;
     dialtable_len len;
 
-    if (is_last && !hex_write("key", radio.session_key, sizeof radio.session_key)) return NOT_SENT;
+    if (is_last && !tell_key()) {
+        fputs("the session key can't be told: name an open descriptor over 2 in SIGN_IN_KEY_FD, or leave it out\n", stderr);
+        exit(1);
+    }
     if (!put(msg, msg_len, is_last ? file_len : 0)) {
         if (is_last) return NOT_SENT;
         fputs("the NEGOTIATE can't be sent: standard output takes no more\n", stderr);
