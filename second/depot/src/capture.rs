@@ -6,6 +6,7 @@
 //! wherever it stands. A header field of HTTP is taken as it is, since a message whose
 //! signature is damaged is no message to tshark. NL_AUTH is the last part of a DCE/RPC bind.
 
+use std::ffi::OsStr;
 use std::fmt;
 use std::fs::{self, DirBuilder, OpenOptions};
 use std::io::{self, BufRead, BufReader, Read, Write};
@@ -14,7 +15,9 @@ use std::path::{Path, PathBuf};
 use std::process::{Command, ExitStatus, Stdio};
 use std::thread;
 
+use crate::folder::printable;
 use crate::form::{decode_base64, header_lines, Kind};
+use crate::secret_file::make_beside;
 
 /// The frames that may carry a message.
 const FILTER: &str =
@@ -58,7 +61,7 @@ pub enum NotCaptured {
 
 impl fmt::Display for Captured {
     fn fmt(&self, f: &mut fmt::Formatter<'_>) -> fmt::Result {
-        let folder = self.folder.display();
+        let folder = printable(&self.folder);
         let messages = if self.messages == 1 {
             "message"
         } else {
@@ -86,12 +89,12 @@ impl fmt::Display for NotCaptured {
             Self::Missing(path) => write!(
                 f,
                 "there is no file {}: name a capture, as make capture FILE=x.pcapng OUT=folder",
-                path.display()
+                printable(path)
             ),
             Self::NotAFile(path) => write!(
                 f,
                 "{} is no plain file: name a capture, as make capture FILE=x.pcapng OUT=folder",
-                path.display()
+                printable(path)
             ),
             Self::NoTshark(error) => write!(
                 f,
@@ -100,17 +103,17 @@ impl fmt::Display for NotCaptured {
             Self::NotNew(path) => write!(
                 f,
                 "{} is there already: name a new folder, as OUT=folder",
-                path.display()
+                printable(path)
             ),
             Self::Failed(path, said) => write!(
                 f,
                 "tshark can't read {}: {said}; name a capture that it reads, as FILE=x.pcapng",
-                path.display()
+                printable(path)
             ),
             Self::NotWritten(path, error) => write!(
                 f,
                 "{} can't be written ({error}): name a new folder in one of your own, as OUT=folder",
-                path.display()
+                printable(path)
             ),
             Self::Read(error) => write!(
                 f,
@@ -120,7 +123,7 @@ impl fmt::Display for NotCaptured {
                 f,
                 "{} has no message that tshark knows: a server on a port that isn't its own is named, as \
                  DECODE_AS=tcp.port==8080,http or DECODE_AS=tcp.port==1445,nbss",
-                path.display()
+                printable(path)
             ),
         }
     }
@@ -135,58 +138,50 @@ pub fn look(file: &Path) -> Result<(), NotCaptured> {
     }
 }
 
-/// Writes the messages of a capture into the new folder `out`. `decode_as` is a word for
+/// Writes the messages of a capture into the new folder `out`, which is there only when all of them
+/// are. `decode_as` is a word for
 /// tshark's `-d`, for a server on a port that isn't its own.
 pub fn capture(
     file: &Path,
     out: &Path,
     tshark: &Path,
-    decode_as: Option<&str>,
+    decode_as: Option<&OsStr>,
 ) -> Result<Captured, NotCaptured> {
     look(file)?;
-    let not_written = |error: io::Error| match error.kind() {
-        io::ErrorKind::AlreadyExists => NotCaptured::NotNew(out.to_owned()),
-        _ => NotCaptured::NotWritten(out.to_owned(), error),
-    };
-    DirBuilder::new()
-        .mode(0o700)
-        .create(out)
-        .map_err(not_written)?;
+    if fs::symlink_metadata(out).is_ok() {
+        return Err(NotCaptured::NotNew(out.to_owned()));
+    }
+    let not_written = |error| NotCaptured::NotWritten(out.to_owned(), error);
+    let make = |path: &Path| DirBuilder::new().mode(0o700).create(path);
+    let (path, ()) = make_beside(out, make).map_err(not_written)?;
     let mut folder = MessageFolder {
-        path: out.to_owned(),
+        path,
         messages: 0,
         passed_over: 0,
     };
-    let done = run(file, tshark, decode_as, &mut folder);
-    if folder.messages == 0 {
-        // It is empty: nothing is lost.
-        let _ = fs::remove_dir(out);
+    let done = run(file, tshark, decode_as, &mut folder)
+        .and_then(|(status, said)| folder.end(file, out, status, said));
+    if done.is_err() {
+        // What is left of it isn't whole.
+        let _ = fs::remove_dir_all(&folder.path);
     }
-    let (status, said) = done?;
-    if folder.messages == 0 && status.success() {
-        return Err(NotCaptured::None(file.to_owned()));
-    }
-    if folder.messages == 0 {
-        return Err(NotCaptured::Failed(file.to_owned(), said));
-    }
-    Ok(Captured {
-        folder: folder.path,
-        messages: folder.messages,
-        passed_over: folder.passed_over,
-        broke_off: (!status.success()).then_some(said),
-    })
+    done
 }
 
 /// Runs tshark and puts every message that it finds. Its status, and what it said last.
 fn run(
     file: &Path,
     tshark: &Path,
-    decode_as: Option<&str>,
+    decode_as: Option<&OsStr>,
     folder: &mut MessageFolder,
 ) -> Result<(ExitStatus, String), NotCaptured> {
     let mut child = Command::new(tshark)
         .args(["-n", "-T", "jsonraw", "-Y", FILTER])
-        .args(decode_as.into_iter().flat_map(|word| ["-d", word]))
+        .args(
+            decode_as
+                .into_iter()
+                .flat_map(|word| [OsStr::new("-d"), word]),
+        )
         .arg("-r")
         .arg(file)
         .stdin(Stdio::null())
@@ -219,8 +214,7 @@ fn last_line(mut from: impl Read) -> String {
     let _ = io::copy(&mut from, &mut io::sink());
     let text = String::from_utf8_lossy(&bytes);
     let line = text.lines().rfind(|line| !line.trim().is_empty());
-    let printable = |c: char| if c.is_control() { '?' } else { c };
-    line.unwrap_or_default().chars().map(printable).collect()
+    printable(line.unwrap_or_default())
 }
 
 /// Puts every message of what tshark prints.
@@ -353,7 +347,7 @@ fn nl_auth(pdu: &[u8]) -> Option<&[u8]> {
     is_one.then(|| &pdu[start..])
 }
 
-/// The folder that the messages go to.
+/// The folder that the messages go to. Its name is a hidden one until all are there.
 struct MessageFolder {
     path: PathBuf,
     messages: usize,
@@ -373,5 +367,33 @@ impl MessageFolder {
         written.map_err(|error| NotCaptured::NotWritten(path, error))?;
         self.messages += 1;
         Ok(())
+    }
+
+    /// Gives the folder its name, where anything came out of the capture.
+    fn end(
+        &self,
+        file: &Path,
+        out: &Path,
+        status: ExitStatus,
+        said: String,
+    ) -> Result<Captured, NotCaptured> {
+        if self.messages == 0 && status.success() {
+            return Err(NotCaptured::None(file.to_owned()));
+        }
+        if self.messages == 0 {
+            return Err(NotCaptured::Failed(file.to_owned(), said));
+        }
+        fs::rename(&self.path, out).map_err(|error| match error.kind() {
+            io::ErrorKind::DirectoryNotEmpty | io::ErrorKind::NotADirectory => {
+                NotCaptured::NotNew(out.to_owned())
+            }
+            _ => NotCaptured::NotWritten(out.to_owned(), error),
+        })?;
+        Ok(Captured {
+            folder: out.to_owned(),
+            messages: self.messages,
+            passed_over: self.passed_over,
+            broke_off: (!status.success()).then_some(said),
+        })
     }
 }

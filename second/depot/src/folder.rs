@@ -106,11 +106,19 @@ pub(crate) fn tells_about(name: &OsStr) -> bool {
     hidden || beside.iter().any(|end| extension.eq_ignore_ascii_case(end))
 }
 
-/// A name without characters that would upset a terminal or a line.
-pub(crate) fn printable(name: &OsStr) -> String {
-    name.to_string_lossy()
-        .chars()
-        .map(|c| if c.is_control() { '?' } else { c })
+/// Whether a character would upset a terminal or a line: a control, the end of a line or of a
+/// paragraph, or a change of direction, which shows what stands behind it in another order.
+fn upsets(c: char) -> bool {
+    let turns = matches!(c, '\u{061C}' | '\u{200E}'..='\u{200F}' | '\u{202A}'..='\u{202E}' | '\u{2066}'..='\u{2069}');
+    c.is_control() || turns || matches!(c, '\u{2028}'..='\u{2029}')
+}
+
+/// A name, a path or a text of another program as it is printed: on one line, without characters
+/// that would upset a terminal.
+pub fn printable(name: impl AsRef<OsStr>) -> String {
+    let name = name.as_ref().to_string_lossy();
+    name.chars()
+        .map(|c| if upsets(c) { '?' } else { c })
         .collect()
 }
 
@@ -118,7 +126,7 @@ impl MessageFile {
     /// The file at this path.
     pub fn at(path: &Path) -> Self {
         Self {
-            name: printable(path.as_os_str()),
+            name: printable(path),
             path: path.to_owned(),
         }
     }
@@ -177,23 +185,23 @@ impl fmt::Display for NoFolder {
             Self::Missing(path) => write!(
                 f,
                 "there is no folder {}: name one that holds messages, as make run MESSAGES=folder",
-                path.display()
+                printable(path)
             ),
             Self::NotAFolder(path) => write!(
                 f,
                 "{} is no folder: name one that holds messages, as make run MESSAGES=folder",
-                path.display()
+                printable(path)
             ),
             Self::Unreadable(path, error) => write!(
                 f,
                 "the folder {} can't be read ({error}): make it readable and run this again",
-                path.display()
+                printable(path)
             ),
             Self::Empty(path) => write!(
                 f,
                 "the folder {} holds no messages: put message files there, \
                  or name another as make run MESSAGES=folder",
-                path.display()
+                printable(path)
             ),
         }
     }
@@ -206,7 +214,7 @@ impl fmt::Display for NotRead {
             Self::Folder(path) => write!(
                 f,
                 "it is a folder: run it by itself, as make run MESSAGES={}",
-                path.display()
+                printable(path)
             ),
             Self::NotAFile => f.write_str("it is not a plain file: take it out of the folder"),
             Self::TooLarge => write!(
@@ -254,5 +262,11 @@ mod tests {
     #[test]
     fn names_are_printed_on_one_line() {
         assert_eq!(printable(OsStr::new("a\nb\x1B[1m.bin")), "a?b?[1m.bin");
+        for c in [
+            '\u{061C}', '\u{200F}', '\u{202E}', '\u{2028}', '\u{2066}', '\u{9B}',
+        ] {
+            assert_eq!(printable(format!("a{c}nib.exe")), "a?nib.exe");
+        }
+        assert_eq!(printable("J\u{FC}rgen 7.bin"), "J\u{FC}rgen 7.bin");
     }
 }

@@ -16,7 +16,7 @@ use std::thread;
 
 use depot::capture::{self, NotCaptured};
 use depot::files::{self, About, Files};
-use depot::folder::{Content, MessageFile, NoFolder, NotRead};
+use depot::folder::{printable, Content, MessageFile, NoFolder, NotRead};
 use depot::form::{self, Kind};
 use depot::many;
 use depot::night::{index_of, read_index, NoNight};
@@ -133,9 +133,9 @@ impl fmt::Display for Failure {
             Self::NoFile(path, NotRead::Missing) => write!(
                 f,
                 "there is no file {}: name a message, as FILE=message",
-                path.display()
+                printable(path)
             ),
-            Self::NoFile(path, why) => write!(f, "{} is not read: {why}", path.display()),
+            Self::NoFile(path, why) => write!(f, "{} is not read: {why}", printable(path)),
             Self::AreRefused(count) => write!(
                 f,
                 "REFUSED=fail, and {count} refused: the list above has them, and what to look at in each"
@@ -149,9 +149,9 @@ impl fmt::Display for Failure {
             Self::NoBuffer(path, NotRead::Missing) => write!(
                 f,
                 "there is no file {}: name a night's buffer, as make night FILE=messages/two-boxes.night",
-                path.display()
+                printable(path)
             ),
-            Self::NoBuffer(path, why) => write!(f, "{} is not read: {why}", path.display()),
+            Self::NoBuffer(path, why) => write!(f, "{} is not read: {why}", printable(path)),
             Self::NoNight(why) => why.fmt(f),
             Self::NotCaptured(why) => why.fmt(f),
             Self::CannotRun(why) => write!(f, "{why}; make run builds it, or make night"),
@@ -283,7 +283,7 @@ fn in_words(answer: &Answer, read_as: ReadAs, bytes: &[u8]) -> Option<String> {
 /// Makes messages of a capture. DECODE_AS is a word for tshark, for a server on a port that isn't
 /// its own. True where all of it was read.
 fn capture_file([file, out, tshark]: [&Path; 3]) -> Result<bool, Failure> {
-    let decode_as = env::var("DECODE_AS").ok().filter(|word| !word.is_empty());
+    let decode_as = env::var_os("DECODE_AS").filter(|word| !word.is_empty());
     let captured = capture::capture(file, out, tshark, decode_as.as_deref())?;
     writeln!(io::stdout(), "{captured}")?;
     if let Some(said) = &captured.broke_off {

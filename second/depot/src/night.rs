@@ -9,6 +9,8 @@ use std::fs;
 use std::io::{self, Read, Write};
 use std::path::{Path, PathBuf};
 
+use crate::folder::printable;
+
 /// One byte past the longest buffer, which is enough to refuse it.
 const KEPT: u64 = 65_536;
 
@@ -128,23 +130,23 @@ impl fmt::Display for NoNight {
                 f,
                 "{} is an index: name the night's buffer, which stands beside it, as \
                  FILE=messages/two-boxes.night",
-                path.display()
+                printable(path)
             ),
             Self::Unreadable(path, error) => write!(
                 f,
                 "the index {} can't be read ({error}): put it beside the night's buffer",
-                path.display()
+                printable(path)
             ),
             Self::TooLarge(path) => write!(
                 f,
                 "the index {} is larger than {MAX_INDEX} bytes: split the night",
-                path.display()
+                printable(path)
             ),
             Self::NoPlace(path, line) => write!(
                 f,
                 "line {line} of the index {} is no place: write START LENGTH and NEGOTIATE, \
                  CHALLENGE or AUTHENTICATE, as '0 120 AUTHENTICATE'",
-                path.display()
+                printable(path)
             ),
             Self::Io(error) => write!(f, "the night can't be run: {error}"),
         }

@@ -10,6 +10,8 @@ use std::path::{Path, PathBuf};
 use std::process::{ChildStdin, Command, ExitStatus, Output, Stdio};
 use std::thread;
 
+use crate::folder::printable;
+
 /// What every pipe has room for.
 const ONE_PAGE: usize = 4096;
 
@@ -172,7 +174,7 @@ impl fmt::Display for Fault {
 
 impl fmt::Display for CannotRun {
     fn fmt(&self, f: &mut fmt::Formatter<'_>) -> fmt::Result {
-        write!(f, "{} can't be run: {}", self.path.display(), self.error)
+        write!(f, "{} can't be run: {}", printable(&self.path), self.error)
     }
 }
 

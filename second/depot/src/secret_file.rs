@@ -8,6 +8,8 @@ use std::os::unix::fs::{MetadataExt, OpenOptionsExt};
 use std::path::{Path, PathBuf};
 use std::process;
 
+use crate::folder::printable;
+
 /// Reading and writing, for the owner.
 const OWNER_ALONE: u32 = 0o600;
 
@@ -34,22 +36,22 @@ impl fmt::Display for NotWritten {
             Self::NotAFile(path) => write!(
                 f,
                 "{} is there and is no plain file: name another output, as OUT=file",
-                path.display()
+                printable(path)
             ),
             Self::Same(path) => write!(
                 f,
                 "{} is the message itself: name another output, as OUT=file",
-                path.display()
+                printable(path)
             ),
             Self::NotOwn(path) => write!(
                 f,
                 "{} is there and is somebody else's: name another output, as OUT=file",
-                path.display()
+                printable(path)
             ),
             Self::Failed(path, error) => write!(
                 f,
                 "{} can't be written ({error}): name an output of your own in a folder that is there, as OUT=file",
-                path.display()
+                printable(path)
             ),
         }
     }
@@ -95,6 +97,18 @@ fn owner(file: &File) -> io::Result<u32> {
 
 /// A new file in the folder of `out`, which nobody but its owner could ever open.
 fn create_beside(out: &Path) -> io::Result<(PathBuf, File)> {
+    make_beside(out, |new| {
+        let mut options = OpenOptions::new();
+        options.write(true).create_new(true).mode(OWNER_ALONE);
+        options.open(new)
+    })
+}
+
+/// Makes something new in the folder of `out`, under the first hidden name that is not taken.
+pub(crate) fn make_beside<T>(
+    out: &Path,
+    make: impl Fn(&Path) -> io::Result<T>,
+) -> io::Result<(PathBuf, T)> {
     let no_name = || io::Error::new(io::ErrorKind::InvalidInput, "it has no name");
     let mut taken = no_name();
     for count in 0..NAMES {
@@ -102,14 +116,8 @@ fn create_beside(out: &Path) -> io::Result<(PathBuf, File)> {
         name.push(out.file_name().ok_or_else(no_name)?);
         name.push(format!(".{}-{count}", process::id()));
         let new = out.with_file_name(name);
-        let mut options = OpenOptions::new();
-        match options
-            .write(true)
-            .create_new(true)
-            .mode(OWNER_ALONE)
-            .open(&new)
-        {
-            Ok(file) => return Ok((new, file)),
+        match make(&new) {
+            Ok(made) => return Ok((new, made)),
             Err(error) if error.kind() == io::ErrorKind::AlreadyExists => taken = error,
             Err(error) => return Err(error),
         }

@@ -627,6 +627,31 @@ fn a_folder_with_nothing_to_run_is_one_plain_line() {
     }
 }
 
+/// No name and no path brings a control, a line or a change of direction to the terminal, whichever
+/// command tells it.
+#[test]
+fn a_path_is_told_on_one_line() {
+    let folder = fresh_folder("evil-names");
+    let evil = folder.join("evil\x1b[31m\nfake: raw, 1 bytes, NTLM\u{202E}");
+    let plain = |text: &str| !text.contains(['\x1b', '\u{202E}']) && !text.contains("\nfake");
+    for command in ["run", "explain", "night", "canonical", "capture", "report"] {
+        let (status, out, err) = look(command, &evil);
+        assert_eq!((status, out.as_str()), (Some(1), ""), "{command}");
+        assert!(plain(&err) && err.lines().count() == 1, "{command}: {err}");
+    }
+    let out = folder.join("out");
+    let capture = [Path::new("capture"), &evil, &out, Path::new("tshark")];
+    let (_, _, err) = told(&depot(&capture));
+    assert!(plain(&err) && err.contains("evil?[31m?fake"), "{err}");
+    fs::create_dir(&evil).expect("a folder");
+    let (status, out, _) = run(&folder, "refuses", "refuses", "refuses");
+    assert_eq!(status, Some(1));
+    assert!(
+        plain(&out) && out.contains("NOT READ: it is a folder"),
+        "{out}"
+    );
+}
+
 #[test]
 fn a_folder_is_looked_at_for_what_it_needs() {
     let ntlm = "ntlm_line ntlm_explain";

@@ -1,10 +1,14 @@
 //! Messages out of a capture: what is written, who may read it, and what is told.
 
+use std::ffi::OsStr;
 use std::fs;
 use std::io::Write;
+use std::os::unix::ffi::OsStrExt;
 use std::os::unix::fs::PermissionsExt;
 use std::path::{Path, PathBuf};
 use std::process::{Command, Output, Stdio};
+use std::thread;
+use std::time::Duration;
 
 const MESSAGES: &str = concat!(env!("CARGO_MANIFEST_DIR"), "/../../messages");
 
@@ -292,6 +296,58 @@ fn a_tshark_that_fails_is_told_in_one_line() {
     let tshark = stand_in(&folder, "exit 3");
     let (_, _, err) = depot(&file, &out, &tshark, "");
     assert!(err.contains(": exit status: 3; name a capture"), "{err}");
+}
+
+/// A run that is ended while tshark is at work leaves no folder that looks whole.
+#[test]
+fn a_run_that_is_ended_leaves_no_folder() {
+    let folder = fresh_folder("ended");
+    let (file, out) = (folder.join("a.pcap"), folder.join("out"));
+    fs::write(&file, b"any").expect("a file");
+    let printed = frame(&[("ntlmssp_raw", "4e544c4d5353500001000000")]).repeat(2);
+    let script = format!("cat <<'END'\n[\n{printed}END\nexec sleep 10");
+    let tshark = stand_in(&folder, &script);
+    let mut run = Command::new(env!("CARGO_BIN_EXE_depot"))
+        .arg("capture")
+        .args([&file, &out, &tshark])
+        .spawn()
+        .expect("the bench runs");
+    let hidden = folder.join(format!(".out.{}-0", run.id()));
+    let written = hidden.join("000001-negotiate.bin");
+    for _ in 0..500 {
+        if written.exists() {
+            break;
+        }
+        thread::sleep(Duration::from_millis(20));
+    }
+    assert!(written.exists() && !out.exists());
+    assert_eq!(mode(&hidden), 0o700);
+    run.kill().expect("a signal");
+    assert!(!run.wait().expect("an end").success());
+    assert!(!out.exists());
+    // The next run has the name.
+    let tshark = stand_in(&folder, &format!("cat <<'END'\n[\n{printed}END"));
+    let (status, _, err) = depot(&file, &out, &tshark, "");
+    assert_eq!((status, err.as_str()), (Some(0), ""));
+    assert_eq!((files(&out).len(), mode(&out)), (2, 0o700));
+}
+
+/// The word for tshark reaches it byte for byte.
+#[test]
+fn decode_as_is_passed_on_as_it_is() {
+    let folder = fresh_folder("decode-as");
+    let (file, out) = (folder.join("a.pcap"), folder.join("out"));
+    fs::write(&file, b"any").expect("a file");
+    let tshark = stand_in(&folder, "echo \"$@\" >\"$(dirname \"$0\")/words\"");
+    let run = Command::new(env!("CARGO_BIN_EXE_depot"))
+        .arg("capture")
+        .args([&file, &out, &tshark])
+        .env("DECODE_AS", OsStr::from_bytes(b"tcp.port==\xFF,http"))
+        .output();
+    assert_eq!(run.expect("the bench runs").status.code(), Some(1));
+    let words = fs::read(folder.join("words")).expect("words");
+    let word = b" -d tcp.port==\xFF,http ";
+    assert!(words.windows(word.len()).any(|part| part == word));
 }
 
 #[test]

@@ -12,7 +12,7 @@ use std::io::{self, IsTerminal, Read, Write};
 use std::path::Path;
 use std::process::ExitCode;
 
-use depot::folder::{MessageFile, NotRead};
+use depot::folder::{printable, MessageFile, NotRead};
 use depot::form::Kind;
 use depot::secret_file;
 
@@ -81,9 +81,9 @@ fn canonical(file: &Path, out: &Path) -> Result<(), String> {
     let (_, message) = MessageFile::at(file).read().map_err(|why| match why {
         NotRead::Missing => format!(
             "there is no file {}: name a message, as make canonical FILE=message OUT=file",
-            file.display()
+            printable(file)
         ),
-        why => format!("{} is not read: {why}", file.display()),
+        why => format!("{} is not read: {why}", printable(file)),
     })?;
     // Fields may share bytes, and each is written by itself.
     let mut room = vec![0; reader::MAX_MESSAGE];
@@ -97,7 +97,7 @@ fn canonical(file: &Path, out: &Path) -> Result<(), String> {
     if as_numbers != second {
         return Err(format!(
             "the proved library and the second program don't write {} alike: nothing is written; keep the file and tell us",
-            file.display()
+            printable(file)
         ));
     }
     let written = proved.map_err(|refusal| no_form(file, &message, refusal))?;
@@ -107,7 +107,7 @@ fn canonical(file: &Path, out: &Path) -> Result<(), String> {
 /// Why a file's message has no canonical form, and what to do. make explain has the
 /// checks of reading alone, and those of an AUTHENTICATE only for a message of type 3.
 fn no_form(file: &Path, message: &[u8], refusal: dialtable::Refusal) -> String {
-    let file = file.display();
+    let file = printable(file);
     let authenticate = [3, 0, 0, 0];
     let is_one = Kind::of(message) != Kind::NlAuth && message.get(8..12) == Some(&authenticate[..]);
     if !is_one {
