@@ -29,6 +29,24 @@ pub struct About {
     pub has_night: bool,
 }
 
+impl About {
+    /// The files that were passed over, in words, each on a line; nothing where there are none.
+    pub fn told_passed_over(&self) -> Vec<String> {
+        if self.passed_over == 0 {
+            return Vec::new();
+        }
+        let named = self.named.join(", ");
+        let mut told = vec![match self.passed_over - self.named.len() {
+            0 => format!("passed over: {named}"),
+            more => format!("passed over: {named} and {more} more"),
+        }];
+        if self.has_night {
+            told.push("a night is run by itself, as make night FILE=file".to_owned());
+        }
+        told
+    }
+}
+
 /// Goes through a folder once.
 pub fn about(folder: &Path) -> Result<About, NoFolder> {
     let mut about = About {

@@ -123,6 +123,12 @@ pub fn printable(name: impl AsRef<OsStr>) -> String {
 }
 
 impl MessageFile {
+    /// In words that lines of a header block are no header lines with a message.
+    pub fn told_other_lines(&self, others: usize) -> Option<String> {
+        let lines = if others == 1 { "line" } else { "lines" };
+        (others > 0).then(|| format!("{}: {others} other {lines} passed over", self.name))
+    }
+
     /// The file at this path.
     pub fn at(path: &Path) -> Self {
         Self {

@@ -15,7 +15,7 @@ use std::process::ExitCode;
 use std::thread;
 
 use depot::capture::{self, NotCaptured};
-use depot::files::{self, About, Files};
+use depot::files::{self, Files};
 use depot::folder::{printable, Content, MessageFile, NoFolder, NotRead};
 use depot::form::{self, Kind};
 use depot::many;
@@ -32,7 +32,7 @@ const USAGE: &str =
                      | depot look night FILE | depot night FILE LINKED SECOND \
                      | depot look canonical FILE \
                      | depot look capture FILE | depot capture FILE OUT TSHARK \
-                     | depot look report FOLDER \
+                     | depot look report FOLDER OUT \
                      | depot report FOLDER OUT NTLM_LINE NL_AUTH_LINE NTLM_EXPLAIN SECOND LINKED";
 
 fn main() -> ExitCode {
@@ -42,6 +42,9 @@ fn main() -> ExitCode {
             Some(needs) => needs.and_then(|names| print_names(&names)),
             None => return fail(2, &USAGE),
         },
+        [look, command, folder, out] if look == "look" && command == "report" => {
+            report_needs(Path::new(folder), Path::new(out)).and_then(|names| print_names(&names))
+        }
         [command, folder, programs @ ..] if command == "run" && programs.len() == 5 => {
             let programs: Vec<&Path> = programs.iter().map(Path::new).collect();
             let [ntlm, nl_auth, explain, second, linked] = programs[..] else {
@@ -89,6 +92,7 @@ enum Failure {
     NotCaptured(NotCaptured),
     NotAWord(OsString),
     AreRefused(usize),
+    AreRefusedOnPage(usize),
     NoBuffer(PathBuf, NotRead),
     NoNight(NoNight),
     CannotRun(CannotRun),
@@ -140,6 +144,10 @@ impl fmt::Display for Failure {
                 f,
                 "REFUSED=fail, and {count} refused: the list above has them, and what to look at in each"
             ),
+            Self::AreRefusedOnPage(count) => write!(
+                f,
+                "REFUSED=fail, and {count} refused: the page has them, and what to look at in each"
+            ),
             Self::NotAWord(word) => write!(
                 f,
                 "REFUSED={} is not understood: REFUSED=fail makes a refused message a nonzero status, \
@@ -166,7 +174,7 @@ impl fmt::Display for Failure {
 /// anything is proved. None where there is no such command.
 fn needs(command: &OsStr, input: &Path) -> Option<Result<Vec<&'static str>, Failure>> {
     match command.to_str()? {
-        "run" | "report" => Some(
+        "run" => Some(
             refused_fails()
                 .and_then(|_| Ok(files::about(input)?))
                 .and_then(|_| Ok(Needs::of(input)?))
@@ -296,13 +304,25 @@ fn capture_file([file, out, tshark]: [&Path; 3]) -> Result<bool, Failure> {
     Ok(captured.broke_off.is_none())
 }
 
+/// What the page of a folder's messages needs. A page that can't be written is told here.
+fn report_needs(folder: &Path, out: &Path) -> Result<Vec<&'static str>, Failure> {
+    refused_fails()?;
+    report::look(folder, out).map_err(Failure::NoPage)?;
+    let needs = Needs::of(folder).map_err(|why| Failure::NoPage(NoPage::NoFolder(why)))?;
+    Ok(needs.names())
+}
+
 /// Writes the page of a folder's messages. True where all were read and no two programs
-/// differ.
+/// differ; REFUSED=fail counts as it does for `run`.
 fn report(folder: &Path, out: &Path, programs: [&Path; 5]) -> Result<bool, Failure> {
+    let refused_fails = refused_fails()?;
     let programs = Programs::new(programs);
     let counts = report::write(folder, out, &programs).map_err(Failure::NoPage)?;
     writeln!(io::stdout(), "{}: {counts}", out.display())?;
-    Ok(counts.is_good())
+    match counts.refused {
+        refused if refused_fails && refused > 0 => Err(Failure::AreRefusedOnPage(refused)),
+        _ => Ok(counts.is_good()),
+    }
 }
 
 /// A night's messages: the buffer, and the file that lists them.
@@ -442,7 +462,9 @@ impl Bench {
         let done = many::in_order(files, cores, work, take);
         progress.end();
         done?;
-        write_passed_over(&about, &mut out)?;
+        for line in about.told_passed_over() {
+            writeln!(out, "{line}")?;
+        }
         writeln!(out, "{summary}")?;
         out.flush()?;
         match summary.refused() {
@@ -468,9 +490,8 @@ impl Bench {
                     Ok(found(name, outcome))
                 };
                 let all: Result<Vec<Found>, Failure> = texts.iter().map(run).collect();
-                if others > 0 {
-                    let lines = if others == 1 { "line" } else { "lines" };
-                    writeln!(out, "{}: {others} other {lines} passed over", file.name)?;
+                if let Some(told) = file.told_other_lines(others) {
+                    writeln!(out, "{told}")?;
                 }
                 all
             }
@@ -501,7 +522,7 @@ impl Bench {
     /// way of every message. Nothing of what they import is shown: it holds secrets.
     fn run_header(&self, text: &[u8], out: &mut impl Write) -> Result<(Outcome, String), Failure> {
         let (proved, second) = self.import.run(text)?;
-        let answered = imported(&proved).is_some() || is_refusal(&proved);
+        let answered = imported(&proved).is_some() || proved.is_refusal();
         if !proved.is_same(&second) || !answered {
             let why = "the two don't import it alike";
             writeln!(out, "{} characters", text.len())?;
@@ -565,9 +586,9 @@ impl Bench {
                 writeln!(out, "    second: {second}")?;
                 different = Some(why);
             }
-            taken |= !is_refusal(&proved);
+            taken |= !proved.is_refusal();
             if pair.kind == self.explain.kind
-                && by_a_check(&proved)
+                && proved.is_by_a_check()
                 && !self.explain(message, out)?
             {
                 different = Some("the checks are not the same".to_owned());
@@ -601,22 +622,6 @@ impl Bench {
     }
 }
 
-/// Names the files that were passed over.
-fn write_passed_over(about: &About, out: &mut impl Write) -> io::Result<()> {
-    if about.passed_over == 0 {
-        return Ok(());
-    }
-    write!(out, "passed over: {}", about.named.join(", "))?;
-    match about.passed_over - about.named.len() {
-        0 => writeln!(out)?,
-        more => writeln!(out, " and {more} more")?,
-    }
-    if about.has_night {
-        writeln!(out, "a night is run by itself, as make night FILE=file")?;
-    }
-    Ok(())
-}
-
 /// The message that an import printed in hex; none where it is refused.
 fn imported(answer: &Answer) -> Option<Vec<u8>> {
     let Answer::Printed(line) = answer else {
@@ -637,7 +642,7 @@ impl fmt::Display for Imported<'_> {
     fn fmt(&self, f: &mut fmt::Formatter<'_>) -> fmt::Result {
         match imported(self.0) {
             Some(message) => write!(f, "a message of {} bytes", message.len()),
-            None if is_refusal(self.0) => self.0.fmt(f),
+            None if self.0.is_refusal() => self.0.fmt(f),
             None => f.write_str("[the program printed neither a message nor a refusal]"),
         }
     }
@@ -686,16 +691,6 @@ fn write_parted(
         }
     }
     Ok(())
-}
-
-fn is_refusal(answer: &Answer) -> bool {
-    matches!(answer, Answer::Printed(line) if line.starts_with(b"refused "))
-}
-
-/// Whether a check of the message refused it. 33 says that its line is too long.
-fn by_a_check(answer: &Answer) -> bool {
-    let no_room = b"refused 33 ";
-    is_refusal(answer) && !matches!(answer, Answer::Printed(line) if line.starts_with(no_room))
 }
 
 /// Where two answers that are not the same part.

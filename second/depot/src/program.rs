@@ -110,6 +110,17 @@ impl Program {
 }
 
 impl Answer {
+    /// Whether it is the line of a refusal.
+    pub fn is_refusal(&self) -> bool {
+        matches!(self, Self::Printed(line) if line.starts_with(b"refused "))
+    }
+
+    /// Whether a check of the message refused it. 33 says that its line is too long.
+    pub fn is_by_a_check(&self) -> bool {
+        let no_room = b"refused 33 ";
+        self.is_refusal() && !matches!(self, Self::Printed(line) if line.starts_with(no_room))
+    }
+
     /// A run counts only where it ends with status 0, prints exactly one line, or
     /// some where it may, and writes nothing to standard error. Otherwise two
     /// programs that both print nothing would look alike.

@@ -19,7 +19,8 @@ use std::io;
 use std::ops::Range;
 use std::path::{Path, PathBuf};
 
-use crate::folder::{Folder, NoFolder};
+use crate::files;
+use crate::folder::{Content, Folder, MessageFile, NoFolder};
 use crate::program::{Answer, CannotRun};
 use crate::secret_file::{self, NotWritten};
 use crate::summary::Outcome;
@@ -30,6 +31,14 @@ pub use page::page;
 
 /// So many messages have room on a page.
 pub const MOST: usize = 2_000;
+
+/// What a page tells of a folder.
+#[derive(Debug, Default)]
+pub struct Gathered {
+    pub items: Vec<Item>,
+    /// What was passed over, in words.
+    pub passed_over: Vec<String>,
+}
 
 /// A message on the page, or what was to be one.
 #[derive(Debug)]
@@ -68,13 +77,13 @@ pub struct Said {
     pub read_as: ReadAs,
     pub proved: Answer,
     pub second: Answer,
-    /// The checks of an NTLM message, by both.
+    /// The checks of an NTLM message that one of them refuses, by both.
     pub checks: Option<[Answer; 2]>,
 }
 
 impl Said {
     fn is_refusal(&self) -> bool {
-        self.number().is_some()
+        self.proved.is_refusal()
     }
 
     /// Whether the proved program took the message.
@@ -90,14 +99,10 @@ impl Said {
         }
     }
 
-    /// Whether both said the same, of each check too; and one failed where a check
-    /// refuses it. 33 says that its line is too long.
+    /// Whether both said the same; of each check too where one refuses it, which then failed.
     pub fn is_same(&self) -> bool {
         let checks = match &self.checks {
-            Some([proved, second]) => {
-                let by_a_check = self.is_refusal() && self.number() != Some(33);
-                proved.is_same(second) && has_failed(proved) == by_a_check
-            }
+            Some([proved, second]) => proved.is_same(second) && has_failed(proved),
             None => true,
         };
         checks && self.proved.is_same(&self.second)
@@ -200,7 +205,10 @@ pub enum NoPage {
 impl fmt::Display for NoPage {
     fn fmt(&self, f: &mut fmt::Formatter<'_>) -> fmt::Result {
         match self {
-            Self::NoFolder(why) => why.fmt(f),
+            Self::NoFolder(why) => {
+                let told = why.to_string();
+                f.write_str(&told.replace("make run", "make report"))
+            }
             Self::Among(path) => write!(
                 f,
                 "{} would stand among the messages: name a page in another folder, as OUT=page.html",
@@ -218,24 +226,45 @@ impl fmt::Display for NoPage {
     }
 }
 
+/// Says why there would be no page, before anything is run.
+pub fn look(folder: &Path, out: &Path) -> Result<(), NoPage> {
+    let listed = list(folder, out)?;
+    let texts = |file: &MessageFile| match file.read_all() {
+        Ok(Content::HeaderTexts(texts, _)) => texts.len(),
+        _ => 1,
+    };
+    has_room(folder, listed.messages.iter().map(texts).sum())?;
+    secret_file::look(out, folder).map_err(NoPage::NotWritten)
+}
+
 /// Writes the page of a folder's messages to the file `out`, which its owner alone may
 /// read, and counts them.
 pub fn write(folder: &Path, out: &Path, programs: &Programs) -> Result<Counts, NoPage> {
+    let listed = list(folder, out)?;
+    let about = files::about(folder).map_err(NoPage::NoFolder)?;
+    let mut gathered = gather::all(&listed, programs).map_err(NoPage::CannotRun)?;
+    has_room(folder, gathered.items.len())?;
+    gathered.passed_over.extend(about.told_passed_over());
+    let page = page(&folder.to_string_lossy(), &gathered);
+    secret_file::write(out, folder, page.as_bytes()).map_err(NoPage::NotWritten)?;
+    Ok(Counts::of(&gathered.items))
+}
+
+/// The files of a folder for whose messages a page may have room.
+fn list(folder: &Path, out: &Path) -> Result<Folder, NoPage> {
     let listed = Folder::list(folder).map_err(NoPage::NoFolder)?;
     if is_in(out, folder).unwrap_or(false) {
         return Err(NoPage::Among(out.to_owned()));
     }
-    let too_many = |messages| NoPage::TooMany(folder.to_owned(), messages);
-    if listed.messages.len() > MOST {
-        return Err(too_many(listed.messages.len()));
+    has_room(folder, listed.messages.len())?;
+    Ok(listed)
+}
+
+fn has_room(folder: &Path, messages: usize) -> Result<(), NoPage> {
+    if messages > MOST {
+        return Err(NoPage::TooMany(folder.to_owned(), messages));
     }
-    let items = gather::items(&listed, programs).map_err(NoPage::CannotRun)?;
-    if items.len() > MOST {
-        return Err(too_many(items.len()));
-    }
-    let page = page(&folder.to_string_lossy(), &items);
-    secret_file::write(out, folder, page.as_bytes()).map_err(NoPage::NotWritten)?;
-    Ok(Counts::of(&items))
+    Ok(())
 }
 
 /// Whether a file stands, or would stand, in a folder.

@@ -63,6 +63,23 @@ impl fmt::Display for NotWritten {
 /// of them, and where the writing fails it stays as it was. What was there must be a plain
 /// file of the caller's own, and not the file `from` that the bytes were made from.
 pub fn write(out: &Path, from: &Path, bytes: &[u8]) -> Result<(), NotWritten> {
+    put_at(out, from, |file, new| {
+        put(file, bytes).and_then(|()| fs::rename(new, out))
+    })
+}
+
+/// Says why `write` would fail, before there is anything to write: the new file is made,
+/// and taken away again.
+pub fn look(out: &Path, from: &Path) -> Result<(), NotWritten> {
+    put_at(out, from, |_, new| fs::remove_file(new))
+}
+
+/// Makes the new file, and does with it what is to be done.
+fn put_at(
+    out: &Path,
+    from: &Path,
+    done: impl FnOnce(File, &Path) -> io::Result<()>,
+) -> Result<(), NotWritten> {
     let failed = |error| NotWritten::Failed(out.to_owned(), error);
     let there = match fs::symlink_metadata(out) {
         Ok(about) if !about.is_file() => return Err(NotWritten::NotAFile(out.to_owned())),
@@ -74,9 +91,7 @@ pub fn write(out: &Path, from: &Path, bytes: &[u8]) -> Result<(), NotWritten> {
     let (new, file) = create_beside(out).map_err(failed)?;
     let done = match (owner(&file), there) {
         (Ok(own), Some(about)) if own != about.uid() => Err(NotWritten::NotOwn(out.to_owned())),
-        (Ok(_), _) => put(file, bytes)
-            .and_then(|()| fs::rename(&new, out))
-            .map_err(failed),
+        (Ok(_), _) => done(file, &new).map_err(failed),
         (Err(error), _) => Err(failed(error)),
     };
     if done.is_err() {
@@ -132,7 +147,7 @@ fn put(mut file: File, bytes: &[u8]) -> io::Result<()> {
 
 #[cfg(test)]
 mod tests {
-    use super::{write, NotWritten, OWNER_ALONE};
+    use super::{look, write, NotWritten, OWNER_ALONE};
     use std::fs::{self, File, Permissions};
     use std::io::Read;
     use std::os::unix::fs::{chown, symlink, MetadataExt, PermissionsExt};
@@ -205,6 +220,7 @@ mod tests {
         for (out, from) in [(&from, &from), (&from, &link), (&hard, &from)] {
             let refused = write(out, from, b"x");
             assert!(matches!(refused, Err(NotWritten::Same(_))));
+            assert!(matches!(look(out, from), Err(NotWritten::Same(_))));
         }
         for other in [&link, &nowhere, &folder] {
             let refused = write(other, &from, b"x");
@@ -212,7 +228,9 @@ mod tests {
         }
         for other in ["none/out", "from/out", ".."] {
             assert!(write(&folder.join(other), &from, b"x").is_err());
+            assert!(look(&folder.join(other), &from).is_err());
         }
+        look(&folder.join("new"), &from).expect("it could be written");
         assert_eq!(fs::read(&from).expect("a file"), b"a message");
         assert_eq!(fs::read_link(&link).expect("a link"), from);
         assert_eq!(count(&folder), 4);

@@ -10,7 +10,7 @@ use compare::cases;
 use depot::folder::{Content, Folder};
 use depot::form::Kind;
 use depot::program::Answer;
-use depot::report::{page, Found, Item, Said, MOST};
+use depot::report::{page, Found, Gathered, Item, Said, MOST};
 use depot::summary::Outcome;
 use depot::words::ReadAs;
 use reader::{import_header, Program, LINE_LIMIT};
@@ -24,16 +24,16 @@ fn printed(program: Program, message: &[u8]) -> Answer {
 }
 
 fn said(message: &[u8]) -> Vec<Said> {
-    let said = |read_as, program, checks| Said {
+    let checks = || [(); 2].map(|()| printed(Program::Explain, message));
+    let said = |read_as, program| Said {
         read_as,
         proved: printed(program, message),
         second: printed(program, message),
-        checks,
+        checks: (read_as == ReadAs::Ntlm && printed(program, message).is_by_a_check()).then(checks),
     };
-    let checks = || Some([(); 2].map(|()| printed(Program::Explain, message)));
     let kind = Kind::of(message);
-    let ntlm = (kind != Kind::NlAuth).then(|| said(ReadAs::Ntlm, Program::Ntlm, checks()));
-    let nl = (kind != Kind::Ntlm).then(|| said(ReadAs::NlAuth, Program::NlAuth, None));
+    let ntlm = (kind != Kind::NlAuth).then(|| said(ReadAs::Ntlm, Program::Ntlm));
+    let nl = (kind != Kind::Ntlm).then(|| said(ReadAs::NlAuth, Program::NlAuth));
     ntlm.into_iter().chain(nl).collect()
 }
 
@@ -50,7 +50,7 @@ fn item(file: &str, message: &[u8]) -> Item {
 }
 
 fn page_of(message: &[u8]) -> String {
-    page("messages", &[item("a.bin", message)])
+    page_with(vec![item("a.bin", message)])
 }
 
 /// The text of a page, without its markup and its style.
@@ -187,9 +187,11 @@ fn assert_no_payload(message: &[u8]) {
         (_, Some(3)) if message.len() >= 64 => 64,
         _ => 12,
     };
+    // Server challenge and reserved bytes of a CHALLENGE are no heads.
+    let is_head = |place: usize| place < fixed && (fixed != 48 || !(24..40).contains(&place));
     let behind = shown_places(&page)
         .into_iter()
-        .find(|place| *place >= fixed);
+        .find(|place| !is_head(*place));
     assert_eq!(behind, None, "{message:02X?}");
     let body = page.split_once("</header>").expect("a body").1;
     assert!(body.matches("<bdi").count() <= 1, "{message:02X?}");
@@ -630,15 +632,22 @@ fn names_mark_nothing_up() {
         assert!(!page.contains("<script") && !page.contains("<img"));
         assert!(page.contains("&lt;script&gt;"));
     }
-    let page = page(planted, &[item(planted, b"NTLMSSP\0")]);
-    assert!(!page.contains("<script") && !page.contains("<img"));
+    let of_folder = page_of_folder(planted, vec![item(planted, b"NTLMSSP\0")]);
+    assert!(!of_folder.contains("<script") && !of_folder.contains("<img"));
     let unread = Item {
         file: planted.to_owned(),
         line: None,
         form: planted.to_owned(),
         found: Found::NotRead(planted.to_owned()),
     };
-    let page = page_with(vec![unread]);
+    let passed_over = vec![planted.to_owned()];
+    let page = page(
+        "messages",
+        &Gathered {
+            items: vec![unread],
+            passed_over,
+        },
+    );
     assert!(!page.contains("<script") && !page.contains("<img"));
     // A program that prints something else.
     let mut odd = item("a.bin", b"NTLMSSP\0");
@@ -652,7 +661,12 @@ fn names_mark_nothing_up() {
 }
 
 fn page_with(items: Vec<Item>) -> String {
-    page("messages", &items)
+    page_of_folder("messages", items)
+}
+
+fn page_of_folder(folder: &str, items: Vec<Item>) -> String {
+    let passed_over = Vec::new();
+    page(folder, &Gathered { items, passed_over })
 }
 
 #[test]
@@ -782,7 +796,7 @@ fn heads_lead_to_their_fields_and_pairs_have_names() {
         "01DD750F3F7F2C5C",
         "TARGET_INFO <code>800000</code>",
         "PEERSRV",
-        "Both programs print the same checks",
+        "No check refuses this message",
     ] {
         assert!(page.contains(shown), "{shown}");
     }
@@ -836,17 +850,26 @@ fn fresh_folder(name: &str) -> PathBuf {
     path
 }
 
+/// The folder of the programs for a page.
+fn programs_of(out: &Path) -> String {
+    let place = out.display().to_string();
+    format!("report-programs{}", place.replace('/', "-"))
+}
+
 /// Runs the bench's report with one script for all programs.
 fn report(folder: &Path, out: &Path, script: &str) -> Output {
-    let programs = fresh_folder(&format!(
-        "report-programs-{}",
-        out.display().to_string().len()
-    ));
+    report_where("", folder, out, script)
+}
+
+/// The same with a word in REFUSED.
+fn report_where(refused: &str, folder: &Path, out: &Path, script: &str) -> Output {
+    let programs = fresh_folder(&programs_of(out));
     let program = programs.join("program");
     fs::write(&program, format!("#!/bin/sh\ncat >/dev/null\n{script}\n")).expect("a script");
     fs::set_permissions(&program, fs::Permissions::from_mode(0o755)).expect("its mode");
     let mut command = Command::new(env!("CARGO_BIN_EXE_depot"));
     command
+        .env("REFUSED", refused)
         .arg("report")
         .arg(folder)
         .arg(out)
@@ -879,6 +902,140 @@ fn its_owner_alone_may_read_it() {
     assert_eq!(output.status.code(), Some(1));
     let page = fs::read_to_string(&out).expect("a page");
     assert!(page.contains("2 messages: 1 taken, 0 refused, 0 different, 1 not read"));
+}
+
+/// Looks at a folder and at the place of a page.
+fn look(folder: &Path, out: &Path) -> Output {
+    let mut command = Command::new(env!("CARGO_BIN_EXE_depot"));
+    command.arg("look").arg("report").arg(folder).arg(out);
+    command.output().expect("the bench runs")
+}
+
+/// The folder of one message, and the place of a page beside it.
+fn folder_of(name: &str, message: &[u8]) -> (PathBuf, PathBuf) {
+    let folder = fresh_folder(name);
+    let messages = folder.join("messages");
+    fs::create_dir(&messages).expect("a folder");
+    fs::write(messages.join("one"), message).expect("a file");
+    (messages, folder.join("page.html"))
+}
+
+#[test]
+fn a_refused_message_fails_where_it_is_asked_to() {
+    let refuses = "echo 'refused 16 field=0 at=0'";
+    let (messages, out) = folder_of("report-refused", b"\0\0\0\0\x01\0\0\0LINE\0LINE");
+    for (word, script, status, told) in [
+        ("", refuses, 0, ""),
+        (
+            "fail",
+            refuses,
+            1,
+            "REFUSED=fail, and 1 refused: the page has them",
+        ),
+        ("fail", NL_AUTH, 0, ""),
+        ("no", refuses, 1, "REFUSED=no is not understood"),
+    ] {
+        let output = report_where(word, &messages, &out, script);
+        let error = String::from_utf8(output.stderr).expect("text");
+        assert_eq!(output.status.code(), Some(status), "{word}: {error}");
+        assert!(
+            error.starts_with(told) && error.lines().count() <= 1,
+            "{error}"
+        );
+        assert_eq!(out.exists(), word != "no");
+        let _ = fs::remove_file(&out);
+    }
+}
+
+/// As for `run`: the checks of a message that is taken aren't asked for.
+#[test]
+fn the_checks_of_what_is_taken_decide_nothing() {
+    let message = with_user(&utf16("b"), 1);
+    let (messages, out) = folder_of("report-checks", &message);
+    let count = "echo x >>\"$0.count\"; echo ntlm";
+    let output = report(&messages, &out, count);
+    assert_eq!(output.status.code(), Some(0), "{output:?}");
+    let counted = Path::new(env!("CARGO_TARGET_TMPDIR")).join(programs_of(&out));
+    let counted = fs::read(counted.join("program.count")).expect("counted");
+    assert_eq!(counted.len(), 4, "each of two programs ran once");
+    // A refused one's must be the same, and one must have failed.
+    let output = report(&messages, &out, "echo 'refused 5 field=0 at=0'");
+    assert_eq!(output.status.code(), Some(0), "{output:?}");
+    let output = report(
+        &messages,
+        &out,
+        "[ \"$1\" = explain ] && echo 'check 5 held' || echo 'refused 5 field=0 at=0'",
+    );
+    assert_eq!(output.status.code(), Some(1), "{output:?}");
+}
+
+/// What `make run` tells to be passed over stands on the page.
+#[test]
+fn what_is_passed_over_is_told() {
+    let (messages, out) = folder_of("report-passed", P12);
+    fs::write(messages.join("README.md"), "about").expect("a file");
+    fs::write(messages.join("two.night"), "night").expect("a file");
+    let header = "Host: box\nAuthorization: NTLM TlRMTVNTUAA=\nAccept: */*\n";
+    fs::write(messages.join("trace.txt"), header).expect("a file");
+    let output = report(&messages, &out, "echo 'refused 58 field=0 at=0'");
+    assert_eq!(output.status.code(), Some(0), "{output:?}");
+    let page = fs::read_to_string(&out).expect("a page");
+    for told in [
+        "<li>trace.txt: 2 other lines passed over</li>",
+        "<li>passed over: README.md, two.night</li>",
+        "<li>a night is run by itself, as make night FILE=file</li>",
+    ] {
+        assert!(page.contains(told), "{told}");
+    }
+    assert!(!page_of(P12).contains("Passed over"));
+}
+
+/// A wrong folder or page is told by the look, which leaves nothing behind.
+#[test]
+fn a_wrong_page_is_told_before_anything_is_run() {
+    let (messages, out) = folder_of("report-look", P12);
+    let good = look(&messages, &out);
+    assert_eq!(good.status.code(), Some(0));
+    assert_eq!(good.stdout, b"nl_auth_line\n");
+    let folder = out.parent().expect("a folder").to_owned();
+    let none = folder.join("none");
+    fs::create_dir(folder.join("empty")).expect("a folder");
+    for (messages, out, told) in [
+        (
+            messages.clone(),
+            messages.join("page"),
+            "among the messages",
+        ),
+        (messages.clone(), none.join("page"), "can't be written"),
+        (messages.clone(), folder.clone(), "no plain file"),
+        (none.clone(), out.clone(), "as make report MESSAGES=folder"),
+        (
+            folder.join("empty"),
+            out.clone(),
+            "as make report MESSAGES=folder",
+        ),
+        (
+            messages.join("one"),
+            out.clone(),
+            "as make report MESSAGES=folder",
+        ),
+    ] {
+        let output = look(&messages, &out);
+        let error = String::from_utf8(output.stderr).expect("text");
+        assert_eq!(output.status.code(), Some(1), "{error}");
+        assert!(
+            error.contains(told) && error.lines().count() == 1,
+            "{error}"
+        );
+    }
+    let block = "Authorization: NTLM TlRMTVNTUAA=\n".repeat(MOST);
+    fs::write(messages.join("trace.txt"), block).expect("a file");
+    let error = String::from_utf8(look(&messages, &out).stderr).expect("text");
+    assert!(
+        error.contains("holds 2001 messages, and a page has room"),
+        "{error}"
+    );
+    assert_eq!(fs::read_dir(&folder).expect("a folder").count(), 2);
 }
 
 #[test]

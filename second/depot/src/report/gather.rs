@@ -2,7 +2,7 @@
 
 use std::path::Path;
 
-use super::{Found, Item, Said};
+use super::{Found, Gathered, Item, Said};
 use crate::folder::{Content, Folder};
 use crate::form::Kind;
 use crate::program::{Answer, CannotRun, Program};
@@ -52,11 +52,16 @@ impl Programs {
         let mut said = Vec::new();
         if kind != Kind::NlAuth {
             let [proved, second] = self.ntlm.run(message)?;
+            let checks = if proved.is_by_a_check() {
+                Some(self.explain.run(message)?)
+            } else {
+                None
+            };
             said.push(Said {
                 read_as: ReadAs::Ntlm,
                 proved,
                 second,
-                checks: Some(self.explain.run(message)?),
+                checks,
             });
         }
         if kind != Kind::Ntlm {
@@ -81,7 +86,7 @@ impl Programs {
         let number = refusal(&proved);
         Ok(Found::NotImported {
             characters: text.len(),
-            same: proved.is_same(&second) && number.is_some(),
+            same: proved.is_same(&second) && proved.is_refusal(),
             words: number.and_then(|number| words::of(number, ReadAs::HeaderText, text)),
             proved: without_message(&proved),
             second: without_message(&second),
@@ -89,9 +94,10 @@ impl Programs {
     }
 }
 
-/// The items of a page, in the order of the files' names.
-pub fn items(folder: &Folder, programs: &Programs) -> Result<Vec<Item>, CannotRun> {
-    let mut items = Vec::new();
+/// What a page tells, in the order of the files' names.
+pub fn all(folder: &Folder, programs: &Programs) -> Result<Gathered, CannotRun> {
+    let mut gathered = Gathered::default();
+    let items = &mut gathered.items;
     for file in &folder.messages {
         let item = |line, form: &str, found| Item {
             file: file.name.clone(),
@@ -105,7 +111,8 @@ pub fn items(folder: &Folder, programs: &Programs) -> Result<Vec<Item>, CannotRu
                 let found = Found::Message { bytes, said };
                 items.push(item(None, &form.to_string(), found));
             }
-            Ok(Content::HeaderTexts(texts, _)) => {
+            Ok(Content::HeaderTexts(texts, others)) => {
+                gathered.passed_over.extend(file.told_other_lines(others));
                 for (line, text) in &texts {
                     let found = programs.carried(text)?;
                     items.push(item(Some(*line), "header line", found));
@@ -114,7 +121,7 @@ pub fn items(folder: &Folder, programs: &Programs) -> Result<Vec<Item>, CannotRu
             Err(why) => items.push(item(None, "", Found::NotRead(why.to_string()))),
         }
     }
-    Ok(items)
+    Ok(gathered)
 }
 
 /// The message that an import printed in hex; none where it is refused.
@@ -140,7 +147,7 @@ fn refusal(answer: &Answer) -> Option<u8> {
 fn without_message(answer: &Answer) -> String {
     match (answer, imported(answer)) {
         (_, Some(message)) => format!("a message of {} bytes", message.len()),
-        (Answer::Printed(_), None) if refusal(answer).is_none() => {
+        (Answer::Printed(_), None) if !answer.is_refusal() => {
             "[the program printed neither a message nor a refusal]".to_owned()
         }
         _ => answer.to_string(),

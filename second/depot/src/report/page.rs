@@ -5,7 +5,7 @@ use std::fmt;
 use super::html::Html;
 use super::layout::Layout;
 use super::tables::Bytes;
-use super::{grid, tables, Counts, Found, Item, Said};
+use super::{grid, tables, Counts, Found, Gathered, Item, Said};
 use crate::form;
 use crate::program::Answer;
 use crate::summary::Outcome;
@@ -14,12 +14,14 @@ use crate::words::{self, ReadAs};
 const STYLE: &str = include_str!("style.css");
 
 /// The page of a folder's messages.
-pub fn page(folder: &str, items: &[Item]) -> String {
+pub fn page(folder: &str, gathered: &Gathered) -> String {
+    let items = &gathered.items;
     let mut order: Vec<&Item> = items.iter().collect();
     order.sort_by_key(|item| rank(item.state()));
     let mut html = Html::default();
     put_start(&mut html, folder, Counts::of(items));
     put_index(&mut html, &order);
+    put_passed_over(&mut html, &gathered.passed_over);
     html.markup("<h2>Messages</h2>\n");
     for (number, item) in order.iter().enumerate() {
         put_item(&mut html, item, number + 1);
@@ -115,6 +117,18 @@ fn put_index(html: &mut Html, order: &[&Item]) {
         html.markup("</td></tr>\n");
     }
     html.markup("</tbody></table>\n");
+}
+
+/// What was passed over, as `make run` tells it.
+fn put_passed_over(html: &mut Html, told: &[String]) {
+    if told.is_empty() {
+        return;
+    }
+    html.markup("<h2>Passed over</h2>\n<ul class=\"passed\">\n");
+    for line in told {
+        html.markup("<li>").text(line).markup("</li>\n");
+    }
+    html.markup("</ul>\n");
 }
 
 fn put_name(html: &mut Html, item: &Item) {
@@ -243,14 +257,14 @@ fn put_lines(html: &mut Html, kind: &'static str, [proved, second]: [&str; 2], s
 /// A reading of a message: what became of it, and what both programs printed.
 fn put_reading(html: &mut Html, said: &Said, bytes: &[u8]) {
     let same = said.is_same();
-    match (same, said.number()) {
+    match (same, said.is_refusal()) {
         (false, _) => put_banner(
             html,
             Outcome::Different,
             "the two programs don't say the same",
         ),
-        (true, Some(_)) => put_banner(html, Outcome::Refused, &words_of(said, bytes)),
-        (true, None) => put_banner(html, Outcome::Taken, "and both programs agree"),
+        (true, true) => put_banner(html, Outcome::Refused, &words_of(said, bytes)),
+        (true, false) => put_banner(html, Outcome::Taken, "and both programs agree"),
     }
     let kind = match said.read_as {
         ReadAs::Ntlm => "Read as NTLM, ",
@@ -311,6 +325,8 @@ fn put_checks(html: &mut Html, said: &Said) {
         (None, ReadAs::NlAuth) => {
             html.markup("<p class=\"said\">The checks of NL_AUTH have no print: a refusal names the one that failed.</p>\n");
         }
-        (None, _) => {}
+        (None, _) => {
+            html.markup("<p class=\"said\">No check refuses this message.</p>\n");
+        }
     }
 }
