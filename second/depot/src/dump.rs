@@ -11,8 +11,8 @@ pub struct Dump {
     /// Whether it could be nothing else: it has a column of text, a colon behind its
     /// addresses, or two addresses that fit.
     pub sure: bool,
-    /// Whether its groups are of more than two digits, without a colon: such words are
-    /// in the order of the machine that printed them.
+    /// Whether its groups are of more than two digits, without a colon or beside a text of other
+    /// bytes: such words are in the order of the machine that printed them.
     pub words: bool,
 }
 
@@ -152,8 +152,9 @@ impl Lines {
         self.marked |= marked;
         let before = self.bytes.len();
         let words = groups(area, &mut self.bytes).map_err(|stop| start + len + stop)?;
-        self.words |= words && !colon;
-        self.last = self.bytes.len() - before;
+        let bytes = &self.bytes[before..];
+        self.words |= words && !(colon && agrees(&rest[area.len()..], bytes));
+        self.last = bytes.len();
         Ok(())
     }
 
@@ -215,6 +216,60 @@ fn hex_area(rest: &[u8], colon: bool) -> (&[u8], bool) {
     (&rest[..end.unwrap_or(rest.len())], colon || end.is_some())
 }
 
+/// Whether a column of text may be that of these bytes. A dot may stand for any of them, and blanks
+/// may be those of the column or its own. xxd -e has bytes in another order than their text.
+fn agrees(text: &[u8], bytes: &[u8]) -> bool {
+    let text = text.trim_ascii_start();
+    let blanks = bytes.iter().take_while(|&&byte| byte == b' ').count();
+    (0..=blanks).any(|skipped| {
+        let mut pairs = text.iter().zip(&bytes[skipped..]);
+        pairs.all(|(&shown, &byte)| shown == b'.' || shown == byte)
+    })
+}
+
+/// Whether a text is a dump of octal words, as od prints one that isn't told otherwise.
+pub fn is_octal(text: &[u8]) -> bool {
+    [8, 16, 10].into_iter().any(|radix| octal_fits(text, radix))
+}
+
+/// The same, with addresses to `radix`, each of which fits the words before it: the last word may
+/// have bytes that are not the message's.
+fn octal_fits(text: &[u8], radix: u32) -> bool {
+    let lines = text.split(|&byte| byte == b'\n').map(<[u8]>::trim_ascii);
+    let (mut first, mut place, mut addresses, mut starred) = (None, 0, 0, false);
+    for line in lines.filter(|line| !line.is_empty()) {
+        if line == b"*" {
+            starred = true;
+            continue;
+        }
+        let Some((address, false, len)) = address(line, radix) else {
+            return false;
+        };
+        let at = address.wrapping_sub(*first.get_or_insert(address));
+        let fits = starred && at > place || at <= place && place - at < 8;
+        let Some(bytes) = octal_bytes(&line[len..]).filter(|_| fits) else {
+            return false;
+        };
+        (place, addresses, starred) = (at.saturating_add(bytes), addresses + 1, false);
+    }
+    addresses > 1 && place > 0
+}
+
+/// How many bytes octal words stand for; none where one has another number of digits.
+fn octal_bytes(words: &[u8]) -> Option<u64> {
+    let words = words.split(u8::is_ascii_whitespace);
+    let bytes = words.filter(|word| !word.is_empty()).map(|word| {
+        let is_octal = word.iter().all(|digit| (b'0'..=b'7').contains(digit));
+        match word.len() {
+            6 if is_octal => Some(2),
+            11 if is_octal => Some(4),
+            22 if is_octal => Some(8),
+            _ => None,
+        }
+    });
+    bytes.sum()
+}
+
 /// Puts the bytes of groups of hex digits with blanks between them. True where a group
 /// has more than two; otherwise the place where they stop.
 fn groups(area: &[u8], bytes: &mut Vec<u8>) -> Result<bool, usize> {
@@ -239,7 +294,7 @@ fn groups(area: &[u8], bytes: &mut Vec<u8>) -> Result<bool, usize> {
 
 #[cfg(test)]
 mod tests {
-    use super::{has_addresses, read, Dump, NoDump};
+    use super::{has_addresses, is_octal, read, Dump, NoDump};
 
     fn bytes() -> Vec<u8> {
         let mut bytes = b"NTLMSSP\0\x03\0\0\0|  |a  b 4e|".to_vec();
@@ -302,6 +357,50 @@ mod tests {
             assert!(dump(text).words && dump(text).sure, "{text}");
         }
         assert!(!dump("00000000: 4e54 4c4d\n").words);
+    }
+
+    /// xxd -e is told by its text, which has the bytes in another order.
+    #[test]
+    fn words_beside_the_text_of_other_bytes_are_seen() {
+        for text in [
+            "00000000: 4d4c544e 00505353 00000003 00000000  NTLMSSP.........\n",
+            "00000000: 544e 4d4c       53  NTLMS\n",
+            "00000000: 00000000 00000001 00000000 656e696c  ............line\n",
+        ] {
+            assert!(dump(text).words && dump(text).sure, "{text}");
+        }
+        for text in [
+            "00000000: 4e544c4d 53535000  NTLMSSP.\n",
+            "00000000: 2020 4e54 4c4d    NTLM\n",
+            "00000000: 2020 4e54 4c4d  ..NTLM\n",
+            "00000000: 4e54 2020  NT\n",
+        ] {
+            assert!(!dump(text).words, "{text}");
+        }
+    }
+
+    #[test]
+    fn octal_words_are_seen() {
+        for text in [
+            "0000000 052116 046514 051523 000120\n0000010\n",
+            "0000000 052116 046514 051523 000120\n0000007\n",
+            "000000 052116 046514\n000004 051523\n000006\n",
+            "0000000 000000 000000\n*\n0000020 000001\n0000022\n",
+            "0000000 11523052116 00024051523\n0000010\n",
+        ] {
+            assert!(is_octal(text.as_bytes()), "{text}");
+        }
+        for text in [
+            "",
+            "0000000",
+            "0000000 052116 046514\n",
+            "0000000 052116 046514\n0000014\n",
+            "0000000 052118 046514\n0000004\n",
+            "0000000 116 124\n0000002\n",
+            "0000000 4e 54\n0000002\n",
+        ] {
+            assert!(!is_octal(text.as_bytes()), "{text}");
+        }
     }
 
     #[test]

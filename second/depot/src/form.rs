@@ -71,6 +71,8 @@ pub enum NoMessage {
         hex: Place,
         dump: Place,
         base64: Option<Place>,
+        /// The first line that is no header line, where another is one.
+        other_line: Option<usize>,
     },
     /// Text that begins with a byte order mark.
     ByteOrderMark,
@@ -90,35 +92,35 @@ pub enum NoMessage {
 impl fmt::Display for NoMessage {
     fn fmt(&self, f: &mut fmt::Formatter<'_>) -> fmt::Result {
         match self {
-            Self::OtherText { hex, dump, base64 } => {
+            Self::OtherText {
+                hex,
+                dump,
+                base64,
+                other_line,
+            } => {
                 write!(
                     f,
-                    "it is text in no form that is read: hex stops at {hex}, a dump at {dump}, "
-                )?;
-                match base64 {
-                    Some(base64) => write!(f, "base64 at {base64}")?,
-                    None => f.write_str("base64 begins no message")?,
-                }
-                f.write_str(
-                    ", and no line is a header line: correct it or take it out of the folder",
+                    "it is text in no form that is read: hex stops at {hex}, a dump at {dump}, {}, and {}: \
+                     correct it or take it out of the folder",
+                    base64.map_or("base64 begins no message".to_owned(), |at| format!("base64 at {at}")),
+                    other_line.map_or("no line is a header line".to_owned(), |line| {
+                        format!("line {line} is no header line")
+                    })
                 )
             }
             Self::ByteOrderMark => {
                 f.write_str("it begins with a byte order mark: save it as plain ASCII text")
             }
-            Self::NoPadding(missing) => write!(
-                f,
-                "it is base64 without its padding: put {} at its end",
-                "=".repeat(*missing)
-            ),
-            Self::Base64Url(0) => {
-                f.write_str("it is base64url: write + for each - in it and / for each _")
+            Self::NoPadding(missing) => {
+                write!(f, "it is base64 without its padding: {}", put(*missing))
             }
-            Self::Base64Url(missing) => write!(
-                f,
-                "it is base64url: write + for each - in it and / for each _, and put {} at its end",
-                "=".repeat(*missing)
-            ),
+            Self::Base64Url(missing) => {
+                f.write_str("it is base64url: write + for each - in it and / for each _")?;
+                match missing {
+                    0 => Ok(()),
+                    missing => write!(f, ", and {}", put(*missing)),
+                }
+            }
             Self::Words => f.write_str(
                 "it is a dump of words, whose bytes are in the order of the machine that printed it: \
                  dump bytes, as hexdump -C, od -t x1 or xxd do",
@@ -134,6 +136,30 @@ impl fmt::Display for NoMessage {
     }
 }
 
+/// What to do where so many characters of padding are missing.
+fn put(missing: usize) -> String {
+    format!("put {} at its end", "=".repeat(missing))
+}
+
+/// Whether a text begins with a byte order mark. Bytes that a signature goes on from, or that are
+/// no text behind it, are a message whose beginning is damaged.
+fn has_mark(content: &[u8]) -> bool {
+    let mut marks = BYTE_ORDER_MARKS.iter();
+    let Some(mark) = marks.find(|mark| content.starts_with(mark)) else {
+        return false;
+    };
+    let (rest, part) = (&content[mark.len()..], &SIGNATURE[mark.len()..7]);
+    let goes_on = rest.starts_with(part) || !rest.is_empty() && part.starts_with(rest);
+    let order = match *mark {
+        [0xFF, 0xFE] => u16::from_le_bytes,
+        [0xFE, 0xFF] => u16::from_be_bytes,
+        _ => return !goes_on && !rest.contains(&0),
+    };
+    let units = rest.as_chunks::<2>().0.iter().map(|&two| order(two));
+    let is_plain = |c: char| !c.is_control() || "\t\r\n".contains(c);
+    !goes_on && char::decode_utf16(units).all(|c| c.is_ok_and(is_plain))
+}
+
 /// The message in a file's content, and the form that it has there.
 pub fn read(content: Vec<u8>) -> Result<(Form, Vec<u8>), NoMessage> {
     // A message cut off inside its signature is raw too, though letters alone.
@@ -141,10 +167,7 @@ pub fn read(content: Vec<u8>) -> Result<(Form, Vec<u8>), NoMessage> {
     if content.starts_with(signature_text) || signature_text.starts_with(&content) {
         return Ok((Form::Raw, content));
     }
-    if BYTE_ORDER_MARKS
-        .iter()
-        .any(|mark| content.starts_with(mark))
-    {
+    if has_mark(&content) {
         return Err(NoMessage::ByteOrderMark);
     }
     if is_capture(&content) {
@@ -158,6 +181,9 @@ pub fn read(content: Vec<u8>) -> Result<(Form, Vec<u8>), NoMessage> {
         Ok(dump) if dump.sure => return Ok((Form::Dump, dump.bytes)),
         other => other,
     };
+    if dump.is_err() && dump::is_octal(&content) {
+        return Err(NoMessage::Words);
+    }
     let hex = match decode_hex(&content) {
         Ok(_) if dump::has_addresses(&content) => Err(0),
         other => other,
@@ -195,7 +221,18 @@ fn told(text: &[u8], hex: usize, base64: Option<usize>, dump: NoDump) -> NoMessa
         hex: place(hex),
         dump: place(stop),
         base64: base64.map(place),
+        other_line: first_other_line(text),
     }
+}
+
+/// The first line that is no header line, of a text that has a header line too.
+fn first_other_line(text: &[u8]) -> Option<usize> {
+    let lines = text.split(|&byte| byte == b'\n').map(<[u8]>::trim_ascii);
+    let lines = (1..).zip(lines).filter(|(_, line)| !line.is_empty());
+    let (texts, others): (Vec<_>, Vec<_>) =
+        lines.partition(|(_, line)| header_text(line).is_some());
+    let first = others.first().filter(|_| !texts.is_empty());
+    first.map(|(number, _)| *number)
 }
 
 /// A text that would be the base64 of a message with its padding, or in the other
@@ -482,7 +519,7 @@ fn base64_value(digit: u8) -> Option<u8> {
 mod tests {
     use super::{
         decode_base64, decode_hex, header_lines, inside, read, Form, Kind, NoMessage, Place,
-        SIGNATURE,
+        BYTE_ORDER_MARKS, SIGNATURE,
     };
 
     const P12: [u8; 13] = *b"\0\0\0\0\x01\0\0\0LINE\0";
@@ -654,13 +691,35 @@ mod tests {
             ("\n", place(1, 1), place(2, 1), Some(place(1, 1))),
         ];
         for (text, hex, dump, base64) in cases {
-            let told = NoMessage::OtherText { hex, dump, base64 };
+            let told = NoMessage::OtherText {
+                hex,
+                dump,
+                base64,
+                other_line: None,
+            };
             assert_eq!(form_of(text.as_bytes()), Err(told), "{text}");
         }
         let told = form_of(b"4E54\n4Z").expect_err("no message").to_string();
         assert!(
             told.contains("hex stops at line 2, column 2, a dump at line 2, column 1, base64 at ")
         );
+        assert!(told.contains(", and no line is a header line: "));
+    }
+
+    /// Where some lines are header lines, the first that is none is named.
+    #[test]
+    fn the_line_that_is_no_header_line_is_told() {
+        for (text, line) in [
+            ("NTLM TlRMTVNTUAAD\nX-Auth: foo\nHost: a\n", 2),
+            ("\nHost: a\nNTLM TlRMTVNTUAAD\n", 2),
+            ("> NTLM Zg==\n\nnotes", 3),
+        ] {
+            let told = form_of(text.as_bytes())
+                .expect_err("no message")
+                .to_string();
+            let expected = format!(", and line {line} is no header line: correct it");
+            assert!(told.contains(&expected), "{told}");
+        }
     }
 
     #[test]
@@ -686,7 +745,7 @@ mod tests {
     #[test]
     fn a_dump_is_a_form_and_one_of_words_is_told() {
         for text in [
-            "00000000: 0000 0000 0100 0000 4c49 4e45 00         ....LINE.",
+            "00000000: 0000 0000 0100 0000 4c49 4e45 00         ........LINE.",
             "0000000 00 00 00 00 01 00 00 00 4c 49 4e 45 00\n0000015\n",
             // Its addresses are whole pairs, so that it could be hex too.
             "000000 00 00 00 00 01 00 00 00 4c 49 4e 45 00\n00000d\n",
@@ -806,6 +865,25 @@ mod tests {
         for mark in [&[0xEF, 0xBB, 0xBF][..], &[0xFF, 0xFE], &[0xFE, 0xFF]] {
             let content = [mark, b"00"].concat();
             assert_eq!(form_of(&content), Err(NoMessage::ByteOrderMark));
+        }
+        let text = "4E 54\r\n";
+        let little = text.bytes().flat_map(|byte| [byte, 0]);
+        let big = text.bytes().flat_map(|byte| [0, byte]);
+        let little: Vec<u8> = [0xFF, 0xFE].into_iter().chain(little).collect();
+        let big: Vec<u8> = [0xFE, 0xFF].into_iter().chain(big).collect();
+        for content in [little, big] {
+            assert_eq!(form_of(&content), Err(NoMessage::ByteOrderMark));
+        }
+    }
+
+    /// A message whose first bytes are damaged into a mark is a message, cut off too.
+    #[test]
+    fn a_damaged_message_is_no_text_with_a_mark() {
+        for mark in BYTE_ORDER_MARKS {
+            for sound in [&b"NTLMSSP\0\x03\0\0\0"[..], b"NTLMSSP\0", b"NTLMSS", &P12] {
+                let content = [mark, &sound[mark.len()..]].concat();
+                assert_eq!(read(content.clone()), Ok((Form::Raw, content)));
+            }
         }
     }
 

@@ -196,52 +196,67 @@ fn places(bytes: &Range<u64>) -> String {
 fn ntlm_figures(number: u8, message: &[u8]) -> Option<String> {
     let (layout, refusal) = Layout::of(message);
     let refusal = refusal.filter(|refusal| refusal.number() == number)?;
-    let len = message.len();
-    let flags = || Some((number_at(message, layout.flags)?, layout.flags));
     let field = || layout.field(message, refusal.field);
     Some(match number {
-        1 => format!("it has {len}"),
-        2 if len < 12 => format!("it has {len} bytes, and its type would be at byte 8"),
-        2 => format!(
-            "it has {len} bytes, and {} at least {}",
-            layout.kind, layout.fixed
-        ),
+        1 => format!("it has {}", message.len()),
+        2 => length_figures(message, layout),
         3 => signature_figures(message),
         4 => "the number at byte 8 is not 1, 2 or 3".to_owned(),
         5 => {
-            let (flags, at) = flags()?;
+            let (flags, at) = (number_at(message, layout.flags)?, layout.flags);
             format!("flags {flags:08X} at byte {at}")
         }
-        6 => {
-            let Field { name, head, bytes } = field()?;
-            let bytes = places(&bytes);
-            format!("{name} is {bytes} of {len}; its head is at byte {head}")
-        }
-        7 => {
-            let Field { name, head, bytes } = field()?;
-            let (bytes, fixed) = (places(&bytes), layout.fixed);
-            format!("{name} is {bytes}, and the fixed part has {fixed}; its head is at byte {head}")
-        }
-        8 => {
-            let Field { name, head, bytes } = field()?;
-            let (places, length) = (places(&bytes), bytes.end - bytes.start);
-            let (flags, at) = flags()?;
-            format!(
-                "{name} is {places}, {length} long; its head is at byte {head}, and flags {flags:08X} at byte \
-                 {at} have UNICODE"
-            )
-        }
-        9 => {
-            let name = field()?;
-            let secret = layout.secret_under(message, &name)?;
-            let (of_name, of_secret) = (places(&name.bytes), places(&secret.bytes));
-            format!(
-                "{} is {of_name}, {} {of_secret}; their heads are at bytes {} and {}",
-                name.name, secret.name, name.head, secret.head
-            )
-        }
+        6..=9 => field_figures(number, message, layout, &field()?)?,
         10..=13 => pair_figures(message, &refusal, &field()?)?,
         _ => return None,
+    })
+}
+
+/// How long the fixed part should be. What is of no type of its own is read as AUTHENTICATE, and is
+/// called none.
+fn length_figures(message: &[u8], layout: &Layout) -> String {
+    let (len, Layout { kind, fixed, .. }) = (message.len(), layout);
+    match number_at(message, 8) {
+        None => format!("it has {len} bytes, and its type would be at byte 8"),
+        Some(1..=3) => format!("it has {len} bytes, and {kind} at least {fixed}"),
+        Some(_) => format!(
+            "it has {len} bytes, and a message of another type is read as AUTHENTICATE, which has {fixed}"
+        ),
+    }
+}
+
+/// Where a field stands that is not where it should.
+fn field_figures(number: u8, message: &[u8], layout: &Layout, field: &Field) -> Option<String> {
+    let Field { name, head, bytes } = field;
+    let of_field = places(bytes);
+    Some(match number {
+        6 => {
+            let len = message.len();
+            format!("{name} is {of_field} of {len}; its head is at byte {head}")
+        }
+        7 => {
+            let fixed = layout.fixed;
+            format!(
+                "{name} is {of_field}, and the fixed part has {fixed}; its head is at byte {head}"
+            )
+        }
+        8 => {
+            let (flags, at) = (number_at(message, layout.flags)?, layout.flags);
+            format!(
+                "{name} is {of_field}, {} long; its head is at byte {head}, and flags {flags:08X} at byte \
+                 {at} have UNICODE",
+                bytes.end - bytes.start
+            )
+        }
+        _ => {
+            let secret = layout.secret_under(message, field)?;
+            format!(
+                "{name} is {of_field}, {} {}; their heads are at bytes {head} and {}",
+                secret.name,
+                places(&secret.bytes),
+                secret.head
+            )
+        }
     })
 }
 
@@ -320,7 +335,8 @@ fn nl_auth_figures(number: u8, message: &[u8]) -> Option<String> {
             let end = NlAuth::string_place(message, 6)?;
             format!("the strings end at byte {end} of {len}")
         }
-        17 => format!("the buffer is bytes 8 to {len}"),
+        17 if len == 9 => "its one byte isn't zero".to_owned(),
+        17 => format!("it has {} bytes", len.saturating_sub(8)),
         _ => return None,
     })
 }
@@ -443,6 +459,13 @@ mod tests {
             ntlm(&challenge(&[])[..47]),
             "shorter than its fixed part: it has 47 bytes, and a CHALLENGE at least 48"
         );
+        let mut damaged = challenge(&[]);
+        damaged[8] = 0x82;
+        assert_eq!(
+            ntlm(&damaged[..47]),
+            "shorter than its fixed part: it has 47 bytes, and a message of another type is read as AUTHENTICATE, \
+             which has 64"
+        );
         let mut damaged = authenticate(1, &[], 0);
         damaged[6] = b'Q';
         assert_eq!(
@@ -555,7 +578,15 @@ mod tests {
         );
         assert_eq!(
             nl(b"\x01\0\0\0\0\0\0\0\0\0"),
-            "a response's buffer isn't one zero byte: the buffer is bytes 8 to 10"
+            "a response's buffer isn't one zero byte: it has 2 bytes"
+        );
+        assert_eq!(
+            nl(b"\x01\0\0\0\0\0\0\0"),
+            "a response's buffer isn't one zero byte: it has 0 bytes"
+        );
+        assert_eq!(
+            nl(b"\x01\0\0\0\0\0\0\0\x01"),
+            "a response's buffer isn't one zero byte: its one byte isn't zero"
         );
     }
 
