@@ -45,15 +45,9 @@ fn main() -> ExitCode {
         [look, command, folder, out] if look == "look" && command == "report" => {
             report_needs(Path::new(folder), Path::new(out)).and_then(|names| print_names(&names))
         }
-        [command, folder, programs @ ..] if command == "run" && programs.len() == 5 => {
-            let programs: Vec<&Path> = programs.iter().map(Path::new).collect();
-            let [ntlm, nl_auth, explain, second, linked] = programs[..] else {
-                return fail(2, &USAGE);
-            };
-            refused_fails().and_then(|refused_fails| {
-                let bench = Bench::new(ntlm, nl_auth, explain, second, linked);
-                bench.run(Path::new(folder), refused_fails)
-            })
+        [command, folder, ntlm, nl_auth, explain, second, linked] if command == "run" => {
+            let programs = [ntlm, nl_auth, explain, second, linked].map(Path::new);
+            refused_fails().and_then(|fails| Bench::new(programs).run(Path::new(folder), fails))
         }
         [command, file, explain, nl_auth, second] if command == "explain" => {
             explain_file(Path::new(file), [explain, nl_auth, second].map(Path::new))
@@ -414,7 +408,7 @@ struct Bench {
 }
 
 impl Bench {
-    fn new(ntlm: &Path, nl_auth: &Path, explain: &Path, second: &Path, linked: &Path) -> Self {
+    fn new([ntlm, nl_auth, explain, second, linked]: [&Path; 5]) -> Self {
         let no_words: [&str; 0] = [];
         Self {
             ntlm: Pair {

@@ -526,50 +526,38 @@ fn any_two_faults_show_no_secret() {
     assert!(refused > 1_000, "{refused}");
 }
 
-/// What begins with four zero bytes is read as NL_AUTH.
-#[test]
-fn what_is_read_as_nl_auth_shows_no_secret() {
+/// What begins with four zero bytes is read as NL_AUTH: such bytes, each with its secrets.
+fn read_as_nl_auth() -> Vec<(Vec<u8>, Vec<Vec<u8>>)> {
     let (mut message, secrets) = with_secrets(FLAGS);
     // No LM response, and no first twelve bytes.
     message[12..20].fill(0);
     let response = marked(129, 200);
+    let behind = |start: &[u8]| ([start, &response].concat(), vec![response.clone()]);
     let key = [vec![0; 4], marked(200, 16)].concat();
-    for (bytes, secrets) in [
+    let odd = [0xE0, 0x91, 0xA2, 0xB3];
+    vec![
         (message[12..].to_vec(), secrets.clone()),
-        (
-            [b"\0\0\0\0\x1F\x33\x44\x55", &response[..]].concat(),
-            vec![response.clone()],
-        ),
-        (
-            [b"\0\0\0\0\x1F\0\0\0", &response[..]].concat(),
-            vec![response.clone()],
-        ),
-        (
-            [b"\0\0\0\0\x03\0\0\0ab\0", &response[..]].concat(),
-            vec![response.clone()],
-        ),
-        (
-            [b"\0\0\0\0\x01\0\0\0ab\0", &response[..]].concat(),
-            vec![response.clone()],
-        ),
-        (
-            [b"\x01\0\0\0\0\0\0\0", &response[..]].concat(),
-            vec![response.clone()],
-        ),
-        (message[68..].to_vec(), secrets.clone()),
+        (message[68..].to_vec(), secrets),
+        behind(b"\0\0\0\0\x1F\x33\x44\x55"),
+        behind(b"\0\0\0\0\x1F\0\0\0"),
+        behind(b"\0\0\0\0\x03\0\0\0ab\0"),
+        behind(b"\0\0\0\0\x01\0\0\0ab\0"),
+        behind(b"\x01\0\0\0\0\0\0\0"),
         (key.clone(), vec![key[4..].to_vec()]),
-        (
-            [&[0; 4], &[0xE0, 0x91, 0xA2, 0xB3][..], &response].concat(),
-            vec![vec![0xE0, 0x91, 0xA2, 0xB3]],
-        ),
-    ] {
+        ([&[0; 4], &odd[..], &response].concat(), vec![odd.to_vec()]),
+    ]
+}
+
+#[test]
+fn what_is_read_as_nl_auth_shows_no_secret() {
+    for (bytes, secrets) in read_as_nl_auth() {
         assert_eq!(Kind::of(&bytes), Kind::NlAuth, "{bytes:02X?}");
         assert_eq!(item("", &bytes).state(), Outcome::Refused, "{bytes:02X?}");
         assert_no_payload(&bytes);
         assert_no_secret(&page_of(&bytes), &secrets, &format!("{bytes:02X?}"));
     }
     // Places and lengths are told.
-    let page = page_of(&[b"\0\0\0\0\x03\0\0\0ab\0", &response[..]].concat());
+    let page = page_of(&[b"\0\0\0\0\x03\0\0\0ab\0", &marked(129, 200)[..]].concat());
     for told in [
         "at 8, 3 bytes</td><td>3 bytes, <em>masked",
         "at 11, 200 bytes</td><td>200 bytes, <em>masked",
@@ -1028,6 +1016,12 @@ fn a_wrong_page_is_told_before_anything_is_run() {
             "{error}"
         );
     }
+    assert_eq!(fs::read_dir(&folder).expect("a folder").count(), 2);
+}
+
+#[test]
+fn more_header_lines_than_a_page_holds_are_told_by_the_look() {
+    let (messages, out) = folder_of("report-look-many", P12);
     let block = "Authorization: NTLM TlRMTVNTUAA=\n".repeat(MOST);
     fs::write(messages.join("trace.txt"), block).expect("a file");
     let error = String::from_utf8(look(&messages, &out).stderr).expect("text");
@@ -1035,7 +1029,6 @@ fn a_wrong_page_is_told_before_anything_is_run() {
         error.contains("holds 2001 messages, and a page has room"),
         "{error}"
     );
-    assert_eq!(fs::read_dir(&folder).expect("a folder").count(), 2);
 }
 
 #[test]
