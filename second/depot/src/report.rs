@@ -20,7 +20,7 @@ use std::ops::Range;
 use std::path::{Path, PathBuf};
 
 use crate::files;
-use crate::folder::{Content, Folder, MessageFile, NoFolder};
+use crate::folder::{printable, Content, Folder, MessageFile, NoFolder};
 use crate::program::{Answer, CannotRun};
 use crate::secret_file::{self, NotWritten};
 use crate::summary::Outcome;
@@ -212,13 +212,13 @@ impl fmt::Display for NoPage {
             Self::Among(path) => write!(
                 f,
                 "{} would stand among the messages: name a page in another folder, as OUT=page.html",
-                path.display()
+                printable(path.as_os_str())
             ),
             Self::TooMany(path, messages) => write!(
                 f,
                 "the folder {} holds {messages} messages, and a page has room for {MOST}: \
                  put those to look at into a folder of their own",
-                path.display()
+                printable(path.as_os_str())
             ),
             Self::CannotRun(why) => write!(f, "{why}; make report builds it"),
             Self::NotWritten(why) => why.fmt(f),

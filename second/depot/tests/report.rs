@@ -994,6 +994,11 @@ fn a_wrong_page_is_told_before_anything_is_run() {
             messages.join("page"),
             "among the messages",
         ),
+        (
+            messages.clone(),
+            messages.join("a\x1Bb\n"),
+            "a?b? would stand among the messages",
+        ),
         (messages.clone(), none.join("page"), "can't be written"),
         (messages.clone(), folder.clone(), "no plain file"),
         (none.clone(), out.clone(), "as make report MESSAGES=folder"),
