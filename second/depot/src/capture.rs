@@ -32,6 +32,9 @@ const HEADERS: [&str; 4] = [
     "http.proxy_authenticate_raw",
 ];
 
+/// What to do where there is no capture.
+const NAME_ONE: &str = "name a capture, as make capture FILE=x.pcapng OUT=folder";
+
 /// How much of what tshark says is kept.
 const SAID: u64 = 1 << 16;
 
@@ -86,16 +89,8 @@ impl fmt::Display for Captured {
 impl fmt::Display for NotCaptured {
     fn fmt(&self, f: &mut fmt::Formatter<'_>) -> fmt::Result {
         match self {
-            Self::Missing(path) => write!(
-                f,
-                "there is no file {}: name a capture, as make capture FILE=x.pcapng OUT=folder",
-                printable(path)
-            ),
-            Self::NotAFile(path) => write!(
-                f,
-                "{} is no plain file: name a capture, as make capture FILE=x.pcapng OUT=folder",
-                printable(path)
-            ),
+            Self::Missing(path) => write!(f, "there is no file {}: {NAME_ONE}", printable(path)),
+            Self::NotAFile(path) => write!(f, "{} is no plain file: {NAME_ONE}", printable(path)),
             Self::NoTshark(error) => write!(
                 f,
                 "tshark can't be run ({error}): install Debian's package tshark and run this again"

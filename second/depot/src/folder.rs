@@ -190,12 +190,12 @@ impl fmt::Display for NoFolder {
         match self {
             Self::Missing(path) => write!(
                 f,
-                "there is no folder {}: name one that holds messages, as make run MESSAGES=folder",
+                "there is no folder {}: name one that holds messages, as MESSAGES=folder",
                 printable(path)
             ),
             Self::NotAFolder(path) => write!(
                 f,
-                "{} is no folder: name one that holds messages, as make run MESSAGES=folder",
+                "{} is no folder: name one that holds messages, as MESSAGES=folder",
                 printable(path)
             ),
             Self::Unreadable(path, error) => write!(
@@ -206,7 +206,7 @@ impl fmt::Display for NoFolder {
             Self::Empty(path) => write!(
                 f,
                 "the folder {} holds no messages: put message files there, \
-                 or name another as make run MESSAGES=folder",
+                 or name another as MESSAGES=folder",
                 printable(path)
             ),
         }

@@ -15,7 +15,7 @@ use std::process::ExitCode;
 use std::thread;
 
 use depot::capture::{self, NotCaptured};
-use depot::files::{self, Files};
+use depot::files::{self, About, Files};
 use depot::folder::{printable, Content, MessageFile, NoFolder, NotRead};
 use depot::form::{self, Kind};
 use depot::many;
@@ -23,6 +23,7 @@ use depot::night::{index_of, read_index, NoNight};
 use depot::program::{Answer, CannotRun, Program, Text};
 use depot::progress::Progress;
 use depot::report::{self, NoPage, Programs};
+use depot::secret_file::{self, NotWritten};
 use depot::summary::{Found, Outcome, Summary};
 use depot::words::{self, ReadAs};
 
@@ -30,20 +31,19 @@ const USAGE: &str =
     "usage: depot look run FOLDER | depot run FOLDER NTLM_LINE NL_AUTH_LINE NTLM_EXPLAIN SECOND LINKED \
                      | depot look explain FILE | depot explain FILE NTLM_EXPLAIN NL_AUTH_LINE SECOND \
                      | depot look night FILE | depot night FILE LINKED SECOND \
-                     | depot look canonical FILE \
-                     | depot look capture FILE | depot capture FILE OUT TSHARK \
+                     | depot look canonical FILE OUT \
+                     | depot look capture FILE OUT | depot capture FILE OUT TSHARK \
                      | depot look report FOLDER OUT \
                      | depot report FOLDER OUT NTLM_LINE NL_AUTH_LINE NTLM_EXPLAIN SECOND LINKED";
 
 fn main() -> ExitCode {
     let args: Vec<OsString> = env::args_os().skip(1).collect();
     let done = match args.as_slice() {
-        [look, command, input] if look == "look" => match needs(command, Path::new(input)) {
-            Some(needs) => needs.and_then(|names| print_names(&names)),
-            None => return fail(2, &USAGE),
-        },
-        [look, command, folder, out] if look == "look" && command == "report" => {
-            report_needs(Path::new(folder), Path::new(out)).and_then(|names| print_names(&names))
+        [look, command, input, out @ ..] if look == "look" && out.len() <= 1 => {
+            match needs(command, Path::new(input), out.first().map(Path::new)) {
+                Some(needs) => needs.and_then(|names| print_names(&names)),
+                None => return fail(2, &USAGE),
+            }
         }
         [command, folder, ntlm, nl_auth, explain, second, linked] if command == "run" => {
             let programs = [ntlm, nl_auth, explain, second, linked].map(Path::new);
@@ -91,6 +91,7 @@ enum Failure {
     NoNight(NoNight),
     CannotRun(CannotRun),
     NoPage(NoPage),
+    NotWritten(NotWritten),
     Print(io::Error),
 }
 
@@ -109,6 +110,12 @@ impl From<NoNight> for Failure {
 impl From<NotCaptured> for Failure {
     fn from(why: NotCaptured) -> Self {
         Self::NotCaptured(why)
+    }
+}
+
+impl From<NotWritten> for Failure {
+    fn from(why: NotWritten) -> Self {
+        Self::NotWritten(why)
     }
 }
 
@@ -136,7 +143,7 @@ impl fmt::Display for Failure {
             Self::NoFile(path, why) => write!(f, "{} is not read: {why}", printable(path)),
             Self::AreRefused(count) => write!(
                 f,
-                "REFUSED=fail, and {count} refused: the list above has them, and what to look at in each"
+                "REFUSED=fail, and {count} refused: each stands above, with what to look at in it"
             ),
             Self::AreRefusedOnPage(count) => write!(
                 f,
@@ -156,21 +163,34 @@ impl fmt::Display for Failure {
             Self::NoBuffer(path, why) => write!(f, "{} is not read: {why}", printable(path)),
             Self::NoNight(why) => why.fmt(f),
             Self::NotCaptured(why) => why.fmt(f),
-            Self::CannotRun(why) => write!(f, "{why}; make run builds it, or make night"),
+            Self::CannotRun(why) => {
+                write!(f, "{why}; make builds what is run: call the bench by it, as make run")
+            }
             Self::NoPage(why) => why.fmt(f),
+            Self::NotWritten(why) => why.fmt(f),
             Self::Print(error) => write!(f, "what the bench found can't be printed: {error}"),
         }
     }
 }
 
 /// The names of what a command needs on this input, which are built before it is run: the
-/// proved programs, and `linked`, which has the library in it. A wrong input is told here, before
-/// anything is proved. None where there is no such command.
-fn needs(command: &OsStr, input: &Path) -> Option<Result<Vec<&'static str>, Failure>> {
-    match command.to_str()? {
+/// proved programs, and `linked`, which has the library in it. A wrong input is told here, and a
+/// wrong output, before anything is proved. None where there is no such command.
+fn needs(
+    command: &OsStr,
+    input: &Path,
+    out: Option<&Path>,
+) -> Option<Result<Vec<&'static str>, Failure>> {
+    let command = command.to_str()?;
+    if out.is_some() && !["canonical", "capture", "report"].contains(&command) {
+        return None;
+    }
+    match command {
+        "report" => Some(report_needs(input, out?)),
         "run" => Some(
             refused_fails()
                 .and_then(|_| Ok(files::about(input)?))
+                .map(|about| tell_looking(&about))
                 .and_then(|_| Ok(Needs::of(input)?))
                 .map(|needs| needs.names()),
         ),
@@ -179,9 +199,28 @@ fn needs(command: &OsStr, input: &Path) -> Option<Result<Vec<&'static str>, Fail
             _ => vec!["ntlm_explain"],
         })),
         "night" => Some(Night::read(input).map(|_| vec!["linked"])),
-        "canonical" => Some(read(input).map(|_| vec!["linked"])),
+        "canonical" => Some(
+            read(input)
+                .and_then(|_| out.map_or(Ok(()), |out| Ok(secret_file::look(out, input)?)))
+                .map(|()| vec!["linked"]),
+        ),
         "capture" => Some(capture::look(input).map_err(Failure::from).map(|()| vec![])),
         _ => None,
+    }
+}
+
+/// How many files are looked at without a word.
+const FEW_FILES: usize = 1000;
+
+/// A word before files are read, where there are many.
+fn tell_looking(about: &About) {
+    if about.messages > FEW_FILES {
+        // Where standard error is closed, nobody wants to know.
+        let _ = writeln!(
+            io::stderr(),
+            "looking at {} files for what they need",
+            about.messages
+        );
     }
 }
 

@@ -81,13 +81,7 @@ fn put_at(
     done: impl FnOnce(File, &Path) -> io::Result<()>,
 ) -> Result<(), NotWritten> {
     let failed = |error| NotWritten::Failed(out.to_owned(), error);
-    let there = match fs::symlink_metadata(out) {
-        Ok(about) if !about.is_file() => return Err(NotWritten::NotAFile(out.to_owned())),
-        Ok(about) if is(from, &about) => return Err(NotWritten::Same(out.to_owned())),
-        Ok(about) => Some(about),
-        Err(error) if error.kind() == io::ErrorKind::NotFound => None,
-        Err(error) => return Err(failed(error)),
-    };
+    let there = there(out, from)?;
     let (new, file) = create_beside(out).map_err(failed)?;
     let done = match (owner(&file), there) {
         (Ok(own), Some(about)) if own != about.uid() => Err(NotWritten::NotOwn(out.to_owned())),
@@ -99,6 +93,17 @@ fn put_at(
         let _ = fs::remove_file(&new);
     }
     done
+}
+
+/// What is at `out` already; it must be a plain file, and not `from`.
+fn there(out: &Path, from: &Path) -> Result<Option<fs::Metadata>, NotWritten> {
+    match fs::symlink_metadata(out) {
+        Ok(about) if !about.is_file() => Err(NotWritten::NotAFile(out.to_owned())),
+        Ok(about) if is(from, &about) => Err(NotWritten::Same(out.to_owned())),
+        Ok(about) => Ok(Some(about)),
+        Err(error) if error.kind() == io::ErrorKind::NotFound => Ok(None),
+        Err(error) => Err(NotWritten::Failed(out.to_owned(), error)),
+    }
 }
 
 /// Whether the file at a path is the one that `about` tells of.
@@ -230,7 +235,12 @@ mod tests {
             assert!(write(&folder.join(other), &from, b"x").is_err());
             assert!(look(&folder.join(other), &from).is_err());
         }
-        look(&folder.join("new"), &from).expect("it could be written");
+        for other in [&from, &link, &hard, &nowhere, &folder] {
+            assert!(look(other, &from).is_err());
+        }
+        for other in [&folder.join("new"), Path::new("no-such-file-here")] {
+            assert!(look(other, &from).is_ok());
+        }
         assert_eq!(fs::read(&from).expect("a file"), b"a message");
         assert_eq!(fs::read_link(&link).expect("a link"), from);
         assert_eq!(count(&folder), 4);

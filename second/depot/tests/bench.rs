@@ -627,6 +627,40 @@ fn a_folder_with_nothing_to_run_is_one_plain_line() {
     }
 }
 
+/// An output that can't be written is told before anything is proved for it.
+#[test]
+fn an_output_is_looked_at_too() {
+    let folder = folder_of("outputs", &[("a.bin", b"NTLMSSP\0\x03\0\0\0")]);
+    let file = folder.join("a.bin");
+    let look_out = |command: &str, out: &Path| {
+        told(&depot(&[Path::new("look"), Path::new(command), &file, out]))
+    };
+    assert_eq!(look_out("canonical", &folder.join("new")), needs("linked"));
+    for out in [&file, &folder, &folder.join("none/new")] {
+        let (status, said, err) = look_out("canonical", out);
+        assert_eq!((status, said.as_str()), (Some(1), ""), "{err}");
+        assert_eq!(err.lines().count(), 1, "{err}");
+    }
+    for command in ["run", "explain", "night"] {
+        assert_eq!(look_out(command, &folder.join("new")).0, Some(2));
+    }
+}
+
+/// A word comes before many files are read, and none before few.
+#[test]
+fn many_files_are_looked_at_with_a_word() {
+    let folder = fresh_folder("many-files");
+    for number in 0..1001 {
+        fs::write(folder.join(format!("{number}.bin")), b"NTLMSSP\0").expect("a file");
+    }
+    let word = "looking at 1001 files for what they need\n";
+    let names = "ntlm_line ntlm_explain\n";
+    let expected = (Some(0), names.to_owned(), word.to_owned());
+    assert_eq!(look("run", &folder), expected);
+    fs::remove_file(folder.join("0.bin")).expect("taken away");
+    assert_eq!(look("run", &folder), needs("ntlm_line ntlm_explain"));
+}
+
 /// No name and no path brings a control, a line or a change of direction to the terminal, whichever
 /// command tells it.
 #[test]
