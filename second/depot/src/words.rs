@@ -325,7 +325,7 @@ fn nl_auth_figures(number: u8, message: &[u8]) -> Option<String> {
         1 => format!("it has {len}"),
         2 => format!("it has {len} bytes, and an NL_AUTH message at least 8"),
         4 => "the number at byte 0 is neither 0, a request's, nor 1, a response's".to_owned(),
-        14 => format!("flags {:08X} at byte 4", number_at(message, 4)?),
+        14 => "none of the flags at byte 4 is one of theirs".to_owned(),
         15 | 50..=53 => {
             let string = STRINGS.get(usize::from(refusal.field).checked_sub(1)?)?;
             let at = NlAuth::string_place(message, refusal.field)?;
@@ -561,7 +561,7 @@ mod tests {
         );
         assert_eq!(
             nl(b"\0\0\0\0\x20\0\0\0\0"),
-            "NL_AUTH request with no bit A to E: flags 00000020 at byte 4"
+            "NL_AUTH request with no bit A to E: none of the flags at byte 4 is one of theirs"
         );
         assert_eq!(
             nl(b"\0\0\0\0\x0B\0\0\0A\0B\0\x01d"),
