@@ -97,17 +97,7 @@ impl fmt::Display for NoMessage {
                 dump,
                 base64,
                 other_line,
-            } => {
-                write!(
-                    f,
-                    "it is text in no form that is read: hex stops at {hex}, a dump at {dump}, {}, and {}: \
-                     correct it or take it out of the folder",
-                    base64.map_or("base64 begins no message".to_owned(), |at| format!("base64 at {at}")),
-                    other_line.map_or("no line is a header line".to_owned(), |line| {
-                        format!("line {line} is no header line")
-                    })
-                )
-            }
+            } => f.write_str(&in_no_form([hex, dump], *base64, *other_line)),
             Self::ByteOrderMark => {
                 f.write_str("it begins with a byte order mark: save it as plain ASCII text")
             }
@@ -134,6 +124,24 @@ impl fmt::Display for NoMessage {
             ),
         }
     }
+}
+
+/// Where each form of a text stops: hex, a dump, base64 and header lines.
+fn in_no_form(
+    [hex, dump]: [&Place; 2],
+    base64: Option<Place>,
+    other_line: Option<usize>,
+) -> String {
+    let base64 = base64.map_or("base64 begins no message".to_owned(), |at| {
+        format!("base64 at {at}")
+    });
+    let header = other_line.map_or("no line is a header line".to_owned(), |line| {
+        format!("line {line} is no header line")
+    });
+    format!(
+        "it is text in no form that is read: hex stops at {hex}, a dump at {dump}, {base64}, and {header}: \
+         correct it or take it out of the folder"
+    )
 }
 
 /// What to do where so many characters of padding are missing.
