@@ -351,7 +351,7 @@ fn report(folder: &Path, out: &Path, programs: [&Path; 5]) -> Result<bool, Failu
     let refused_fails = refused_fails()?;
     let programs = Programs::new(programs);
     let counts = report::write(folder, out, &programs).map_err(Failure::NoPage)?;
-    writeln!(io::stdout(), "{}: {counts}", out.display())?;
+    writeln!(io::stdout(), "{}: {counts}", printable(out))?;
     match counts.refused {
         refused if refused_fails && refused > 0 => Err(Failure::AreRefusedOnPage(refused)),
         _ => Ok(counts.is_good()),

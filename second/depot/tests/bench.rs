@@ -668,12 +668,14 @@ fn a_path_is_told_on_one_line() {
     let folder = fresh_folder("evil-names");
     let evil = folder.join("evil\x1b[31m\nfake: raw, 1 bytes, NTLM\u{202E}");
     let plain = |text: &str| !text.contains(['\x1b', '\u{202E}']) && !text.contains("\nfake");
+    let out = folder.join("out");
     for command in ["run", "explain", "night", "canonical", "capture", "report"] {
-        let (status, out, err) = look(command, &evil);
-        assert_eq!((status, out.as_str()), (Some(1), ""), "{command}");
+        let words = [Path::new("look"), Path::new(command), &evil, &out];
+        let with_out = usize::from(command == "report");
+        let (status, said, err) = told(&depot(&words[..3 + with_out]));
+        assert_eq!((status, said.as_str()), (Some(1), ""), "{command}");
         assert!(plain(&err) && err.lines().count() == 1, "{command}: {err}");
     }
-    let out = folder.join("out");
     let capture = [Path::new("capture"), &evil, &out, Path::new("tshark")];
     let (_, _, err) = told(&depot(&capture));
     assert!(plain(&err) && err.contains("evil?[31m?fake"), "{err}");

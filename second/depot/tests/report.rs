@@ -1001,17 +1001,9 @@ fn a_wrong_page_is_told_before_anything_is_run() {
         ),
         (messages.clone(), none.join("page"), "can't be written"),
         (messages.clone(), folder.clone(), "no plain file"),
-        (none.clone(), out.clone(), "as make report MESSAGES=folder"),
-        (
-            folder.join("empty"),
-            out.clone(),
-            "as make report MESSAGES=folder",
-        ),
-        (
-            messages.join("one"),
-            out.clone(),
-            "as make report MESSAGES=folder",
-        ),
+        (none.clone(), out.clone(), "as MESSAGES=folder"),
+        (folder.join("empty"), out.clone(), "as MESSAGES=folder"),
+        (messages.join("one"), out.clone(), "as MESSAGES=folder"),
     ] {
         let output = look(&messages, &out);
         let error = String::from_utf8(output.stderr).expect("text");
