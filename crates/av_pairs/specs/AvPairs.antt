@@ -38,8 +38,8 @@ abbrev pub valueInside : ℕ → ℕ → Checked
 valueInside len left = checked (leb (4 + len) left)
 
 -- check 13: the id allows the size
-abbrev pub sizeHolds : AvId → ℕ → Checked
-sizeHolds id len = checked (sizeAllowed id len)
+abbrev pub valueSizeHolds : AvId → ℕ → Checked
+valueSizeHolds id len = checked (sizeAllowed id len)
 
 -- the pair with this id and length whose head stands at a place, with so many bytes left: checks 12, 10 and 13; each refuses with
 -- that place
@@ -47,7 +47,7 @@ unfoldable pub pairOf : AvId → ℕ → ℕ → ℕ → Step
 pairOf id len at left =
     after (endPairHolds id len left) (Refused (WrongEndPair at)) (
     after (valueInside len left) (Refused (PairPastEnd at)) (
-    after (sizeHolds id len) (Refused (WrongPairSize at))
+    after (valueSizeHolds id len) (Refused (WrongPairSize at))
     (cond (isEnd id) End (Pair (record { id = id; at = at + 4; len = len })))))
 
 abbrev pub idAt : List ℕ → ℕ → AvId

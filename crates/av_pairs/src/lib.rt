@@ -1,7 +1,7 @@
 // TargetInfo (MS-NLMP 2.2.2.1): a list of AvPairs, each an id, a length and a value, up to the end pair.
 ghost use mathlib.Core.Path.{_≡_};
 ghost use Prim.Native.Nat.{_+_, _<_, _^_};
-ghost use Rattle.av_pairs.specs.AvPairs.{left, pairThere, endPairHolds, valueInside, sizeHolds, pairOf, stepAt, askAt, countPairs, checkPairs, isThere};
+ghost use Rattle.av_pairs.specs.AvPairs.{left, pairThere, endPairHolds, valueInside, valueSizeHolds, pairOf, stepAt, askAt, countPairs, checkPairs, isThere};
 use av_id::AvId;
 use wire::check::Checked;
 use wire::check::Verdict;
@@ -76,7 +76,7 @@ fn value_inside(len: u16, left: usize) -> Checked
 
 // Check 13.
 fn size_holds(id: AvId, len: u16) -> Checked
-    ensures { λ r. ⌜ r ≡ sizeHolds id len ⌝ }
+    ensures { λ r. ⌜ r ≡ valueSizeHolds id len ⌝ }
 {
     check(id.size_allowed(len))
 }

@@ -9,7 +9,7 @@ use borrow.Author.Tests.{ltb-true, eqb-true}
 use lib.Dec.{eqb, ltb}
 use lib.Pow.{areBytes}
 use Rattle.wire.proofs.Bools.{and-left, and-right}
-use Rattle.base64.specs.Base64.{letter, pad, three, two, one, encode, isLetter, valueOf, groupHolds, isEmpty, isBase64, groupBytes, decode}
+use Rattle.base64.specs.Base64.{letter, pad, three, two, one, encode, isLetter, valueOf, groupHolds, isEmptyText, isBase64, groupBytes, decode}
 use Rattle.base64.proofs.Alphabet.{value-letter, is-letter, letter-value, value-small, pad-no-letter, no-pad}
 
 byte : (a : ℕ) (m : List ℕ) → areBytes (a ∷ m) ≡ true → a < 256
@@ -99,7 +99,7 @@ or-cases : (a b : Bool) → a || b ≡ true → (a ≡ true) ⊎ (b ≡ true)
 or-cases true b h = inl refl
 or-cases false b h = inr h
 
-no-more : (t : List ℕ) → isEmpty t ≡ true → t ≡ []
+no-more : (t : List ℕ) → isEmptyText t ≡ true → t ≡ []
 no-more [] h = refl
 no-more (x ∷ t) h = cc
 
@@ -142,29 +142,29 @@ module _ (a b c d : ℕ) (la : isLetter a ≡ true) (lb : isLetter b ≡ true) w
       simp (p, q, e, f, letter-value a la, letter-value b lb)
 
   of-group : (t : List ℕ) → encode (decode t) ≡ t →
-      (isLetter c && isLetter d) || (isEmpty t && isLetter c && eqb d pad && eqb (valueOf c % 4) 0) || (isEmpty t && eqb c pad && eqb d pad && eqb (valueOf b % 16) 0) ≡ true →
+      (isLetter c && isLetter d) || (isEmptyText t && isLetter c && eqb d pad && eqb (valueOf c % 4) 0) || (isEmptyText t && eqb c pad && eqb d pad && eqb (valueOf b % 16) 0) ≡ true →
       encode (decode (a ∷ b ∷ c ∷ d ∷ t)) ≡ a ∷ b ∷ c ∷ d ∷ t
   of-group t i h =
       ⊎-elim
       (λ g.
       ⊎-elim (λ f. of-four t (and-left (isLetter c) (isLetter d) f) (and-right (isLetter c) (isLetter d) f) i)
       (λ f.
-      let f1 = and-left (isEmpty t && isLetter c && eqb d pad) (eqb (valueOf c % 4) 0) f in
-      let f2 = and-left (isEmpty t && isLetter c) (eqb d pad) f1 in
-      let n = no-more t (and-left (isEmpty t) (isLetter c) f2) in
+      let f1 = and-left (isEmptyText t && isLetter c && eqb d pad) (eqb (valueOf c % 4) 0) f in
+      let f2 = and-left (isEmptyText t && isLetter c) (eqb d pad) f1 in
+      let n = no-more t (and-left (isEmptyText t) (isLetter c) f2) in
       rw n
-      (of-three (and-right (isEmpty t) (isLetter c) f2) (eqb-true d 61 (and-right (isEmpty t && isLetter c) (eqb d pad) f1))
-      (eqb-true (valueOf c % 4) 0 (and-right (isEmpty t && isLetter c && eqb d pad) (eqb (valueOf c % 4) 0) f))))
-      (or-cases (isLetter c && isLetter d) (isEmpty t && isLetter c && eqb d pad && eqb (valueOf c % 4) 0) g))
+      (of-three (and-right (isEmptyText t) (isLetter c) f2) (eqb-true d 61 (and-right (isEmptyText t && isLetter c) (eqb d pad) f1))
+      (eqb-true (valueOf c % 4) 0 (and-right (isEmptyText t && isLetter c && eqb d pad) (eqb (valueOf c % 4) 0) f))))
+      (or-cases (isLetter c && isLetter d) (isEmptyText t && isLetter c && eqb d pad && eqb (valueOf c % 4) 0) g))
       (λ g.
-      let g1 = and-left (isEmpty t && eqb c pad && eqb d pad) (eqb (valueOf b % 16) 0) g in
-      let g2 = and-left (isEmpty t && eqb c pad) (eqb d pad) g1 in
-      let n = no-more t (and-left (isEmpty t) (eqb c pad) g2) in
+      let g1 = and-left (isEmptyText t && eqb c pad && eqb d pad) (eqb (valueOf b % 16) 0) g in
+      let g2 = and-left (isEmptyText t && eqb c pad) (eqb d pad) g1 in
+      let n = no-more t (and-left (isEmptyText t) (eqb c pad) g2) in
       rw n
-      (of-two (eqb-true c 61 (and-right (isEmpty t) (eqb c pad) g2)) (eqb-true d 61 (and-right (isEmpty t && eqb c pad) (eqb d pad) g1))
-      (eqb-true (valueOf b % 16) 0 (and-right (isEmpty t && eqb c pad && eqb d pad) (eqb (valueOf b % 16) 0) g))))
-      (or-cases ((isLetter c && isLetter d) || (isEmpty t && isLetter c && eqb d pad && eqb (valueOf c % 4) 0))
-      (isEmpty t && eqb c pad && eqb d pad && eqb (valueOf b % 16) 0) h)
+      (of-two (eqb-true c 61 (and-right (isEmptyText t) (eqb c pad) g2)) (eqb-true d 61 (and-right (isEmptyText t && eqb c pad) (eqb d pad) g1))
+      (eqb-true (valueOf b % 16) 0 (and-right (isEmptyText t && eqb c pad && eqb d pad) (eqb (valueOf b % 16) 0) g))))
+      (or-cases ((isLetter c && isLetter d) || (isEmptyText t && isLetter c && eqb d pad && eqb (valueOf c % 4) 0))
+      (isEmptyText t && eqb c pad && eqb d pad && eqb (valueOf b % 16) 0) h)
 
 -- a text in base64 is the encoding of what it decodes to
 pub there : (t : List ℕ) → isBase64 t ≡ true → encode (decode t) ≡ t
@@ -174,11 +174,11 @@ there (a ∷ []) g = cc
 there (a ∷ b ∷ []) g = cc
 there (a ∷ b ∷ c ∷ []) g = cc
 there (a ∷ b ∷ c ∷ d ∷ t) g =
-    let k = and-left (groupHolds (isEmpty t) a b c d) (isBase64 t) g in
+    let k = and-left (groupHolds (isEmptyText t) a b c d) (isBase64 t) g in
     let l = and-left (isLetter a && isLetter b) _ k in
     of-group a b c d
     (and-left (isLetter a) (isLetter b) l) (and-right (isLetter a) (isLetter b) l) t
-    (there t (and-right (groupHolds (isEmpty t) a b c d) (isBase64 t) g)) (and-right (isLetter a && isLetter b) _ k)
+    (there t (and-right (groupHolds (isEmptyText t) a b c d) (isBase64 t) g)) (and-right (isLetter a && isLetter b) _ k)
 
 -- so two texts that stand for one message are one text
 pub one-text : (s t : List ℕ) → isBase64 s ≡ true → isBase64 t ≡ true → decode s ≡ decode t → s ≡ t

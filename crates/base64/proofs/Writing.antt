@@ -14,7 +14,7 @@ use Rattle.place.specs.Place.{Wrote}
 use Rattle.place.proofs.Laws.{kept}
 use Rattle.place.proofs.Parts.{Partly, still-kept, all-written, room-left, goes-on}
 use Rattle.wire.proofs.Bools.{and-left, and-right}
-use Rattle.base64.specs.Base64.{three, two, one, encode, isLetter, valueOf, groupHolds, isEmpty, isBase64, firstByte, secondByte, thirdByte, groupBytes, decode}
+use Rattle.base64.specs.Base64.{three, two, one, encode, isLetter, valueOf, groupHolds, isEmptyText, isBase64, firstByte, secondByte, thirdByte, groupBytes, decode}
 use Rattle.base64.proofs.Alphabet.{no-pad}
 
 -- the elements of a list from a place on
@@ -50,7 +50,7 @@ length-one a = refl
 pub kept-after : (l k rest all m xs : List ℕ) (at q r : ℕ) → Partly l k at q rest all → Wrote k m q r xs → length m ≡ length l
 kept-after l k rest all m xs at q r p w = kept k m xs q r w ∙ still-kept l k rest all at q p
 
-pub more : (s : List ℕ) → 0 < length s → isEmpty s ≡ false
+pub more : (s : List ℕ) → 0 < length s → isEmptyText s ≡ false
 more [] h = absurd (omega arith)
 more (x ∷ s) h = refl
 

@@ -57,9 +57,9 @@ groupHolds last a b c d =
     || (last && isLetter c && eqb d pad && eqb (valueOf c % 4) 0)
     || (last && eqb c pad && eqb d pad && eqb (valueOf b % 16) 0))
 
-abbrev pub isEmpty : List ℕ → Bool
-isEmpty [] = true
-isEmpty (x ∷ t) = false
+abbrev pub isEmptyText : List ℕ → Bool
+isEmptyText [] = true
+isEmptyText (x ∷ t) = false
 
 -- whether a text is in base64
 abbrev pub isBase64 : List ℕ → Bool
@@ -67,7 +67,7 @@ isBase64 [] = true
 isBase64 (a ∷ []) = false
 isBase64 (a ∷ b ∷ []) = false
 isBase64 (a ∷ b ∷ c ∷ []) = false
-isBase64 (a ∷ b ∷ c ∷ d ∷ t) = groupHolds (isEmpty t) a b c d && isBase64 t
+isBase64 (a ∷ b ∷ c ∷ d ∷ t) = groupHolds (isEmptyText t) a b c d && isBase64 t
 
 -- three bytes, each by two of a group's four values
 abbrev pub firstByte : ℕ → ℕ → ℕ

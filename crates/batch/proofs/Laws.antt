@@ -20,11 +20,11 @@ use Rattle.wire.specs.Refusal.{numberOf, fieldOf, placeOf}
 use Rattle.wire.proofs.Laws.{held-true}
 use Rattle.wire.proofs.Places.{of-after}
 use Rattle.head.specs.declared.Kind.the-variants.{Negotiate, Challenge, Authenticate}
-use Rattle.verdict.specs.Verdict.{readAs, placeIn}
+use Rattle.verdict.specs.Verdict.{readAs, refusedPlace}
 use Rattle.verdict.proofs.Refusals.{read-short}
 use Rattle.batch.specs.declared.Answer.{Answer}
 use Rattle.batch.specs.declared.Entry.{Entry}
-use Rattle.batch.specs.Batch.{answerOf, placeInside, atPlace, messageAt, readMarked, verdictOf, answerTo, answered}
+use Rattle.batch.specs.Batch.{answerOf, placeInside, atPlace, messageAt, readMarked, verdictOf, answerTo, withAnswer}
 
 -- ---- an answer
 
@@ -35,7 +35,7 @@ module _ (v : Verdict) where
   pub refusal-is : (e : Refusal) (n i p : ℕ) → v ≡ Not e → n ≡ numberOf e → i ≡ fieldOf e → p ≡ placeOf e → record { number = n; field = i; place = p } ≡ answerOf v
   refusal-is e n i p h a b c = rw (h, a, b, c)
 
-  pub place-fits : (e : Refusal) (p : ℕ) → v ≡ Not e → p ≡ placeOf e → placeIn v < 2 ^ 32 → p < 2 ^ 32
+  pub place-fits : (e : Refusal) (p : ℕ) → v ≡ Not e → p ≡ placeOf e → refusedPlace v < 2 ^ 32 → p < 2 ^ 32
   place-fits e p h q l = rw q (rw h at l)
 
 -- the verdict of a mark
@@ -55,19 +55,19 @@ no-mark mark s a b c = simp (ne-eqb mark 1 a, ne-eqb mark 2 b, ne-eqb mark 3 c)
 pub ruleset marks = (mark-1, mark-2, mark-3, no-mark)
 
 -- its place has 32 bits
-of-cond : (b : Bool) (x y : Verdict) → placeIn x < 2 ^ 32 → placeIn y < 2 ^ 32 → placeIn (cond b x y) < 2 ^ 32
+of-cond : (b : Bool) (x y : Verdict) → refusedPlace x < 2 ^ 32 → refusedPlace y < 2 ^ 32 → refusedPlace (cond b x y) < 2 ^ 32
 of-cond true x y p q = p
 of-cond false x y p q = q
 
-marked-short : (mark : ℕ) (s : List ℕ) → placeIn (readMarked mark s) < 2 ^ 32
+marked-short : (mark : ℕ) (s : List ℕ) → refusedPlace (readMarked mark s) < 2 ^ 32
 marked-short mark s =
     of-cond (eqb mark 1) (readAs Negotiate s) _ (read-short Negotiate s) (
     of-cond (eqb mark 2) (readAs Challenge s) _ (read-short Challenge s) (
     of-cond (eqb mark 3) (readAs Authenticate s) (Not WrongType) (read-short Authenticate s) (omega arith)))
 
-pub verdict-short : (s : List ℕ) (e : Entry) (v : Verdict) → v ≡ verdictOf s e → placeIn v < 2 ^ 32
+pub verdict-short : (s : List ℕ) (e : Entry) (v : Verdict) → v ≡ verdictOf s e → refusedPlace v < 2 ^ 32
 verdict-short s e v h =
-    rw h (of-after (λ (w : Verdict). placeIn w < 2 ^ 32) (placeInside (length s) (e .start) (e .length)) (Not PlaceOutside) (readMarked (e .mark) (messageAt s (e .start) (e .length))) (omega arith) (marked-short (e .mark) (messageAt s (e .start) (e .length))))
+    rw h (of-after (λ (w : Verdict). refusedPlace w < 2 ^ 32) (placeInside (length s) (e .start) (e .length)) (Not PlaceOutside) (readMarked (e .mark) (messageAt s (e .start) (e .length))) (omega arith) (marked-short (e .mark) (messageAt s (e .start) (e .length))))
 
 -- ---- a place
 
@@ -103,6 +103,6 @@ answer-is v w x h q = rw (← h) q
 
 -- ---- an entry
 
-pub entry-is : (s : List ℕ) (e : Entry) (x : Answer) → x ≡ answerTo s e → record { start = e .start; length = e .length; mark = e .mark; answer = x } ≡ answered s e
-unfolding answered
+pub entry-is : (s : List ℕ) (e : Entry) (x : Answer) → x ≡ answerTo s e → record { start = e .start; length = e .length; mark = e .mark; answer = x } ≡ withAnswer s e
+unfolding withAnswer
 entry-is s e x h = rw h

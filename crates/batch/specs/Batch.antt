@@ -57,12 +57,12 @@ abbrev pub answerTo : List ℕ → Entry → Answer
 answerTo s e = answerOf (verdictOf s e)
 
 -- the entry with its answer
-unfoldable pub answered : List ℕ → Entry → Entry
-answered s e = record { start = e .start; length = e .length; mark = e .mark; answer = answerTo s e }
+unfoldable pub withAnswer : List ℕ → Entry → Entry
+withAnswer s e = record { start = e .start; length = e .length; mark = e .mark; answer = answerTo s e }
 
 -- the list afterwards: no entry changes where the buffer is refused
 abbrev pub filled : List ℕ → List Entry → List Entry
-filled s es = after (lengthHolds s) es (map (answered s) es)
+filled s es = after (lengthHolds s) es (map (withAnswer s) es)
 
 -- ---- what the calls count
 

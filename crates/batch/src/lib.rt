@@ -2,7 +2,7 @@
 // in.
 ghost use mathlib.Core.Path.{_≡_};
 ghost use Prim.Native.Nat.{_<_, _^_};
-ghost use Rattle.verdict.specs.Verdict.{placeIn};
+ghost use Rattle.verdict.specs.Verdict.{refusedPlace};
 ghost use Rattle.batch.specs.Batch.{answerOf, placeInside, readMarked, verdictOf, answerTo, bufferVerdict, toFill, filled};
 use head::Kind;
 use head::length_holds;
@@ -42,7 +42,7 @@ impl Entry {
 
 // The refusal's numbers, all 0 where there is none.
 fn answer_of(v: Verdict) -> Answer
-    requires { ⌜ placeIn v < 2 ^ 32 ⌝ }
+    requires { ⌜ refusedPlace v < 2 ^ 32 ⌝ }
     ensures { λ r. ⌜ r ≡ answerOf v ⌝ }
 {
     match v {

@@ -8,12 +8,12 @@ use Rattle.wire.specs.Check.{verdictRefusal}
 use Rattle.wire.proofs.Laws.{told}
 use Rattle.c_number.specs.Number.{refusalNumber, bit}
 use Rattle.c_number.specs.Outcome.{numbers, refused}
-use Rattle.mic.specs.declared.Worked.{Worked}
+use Rattle.mic.specs.declared.Computed.{Computed}
 use Rattle.mic.specs.declared.Checking.{Checking}
 use Rattle.mic.specs.declared.Checking.the-variants.{Compared, Refused}
 use Rattle.c_mic.specs.Numbers.{micOutcome, checkingNumber}
 
-module _ (w v : Worked) (e : w ≡ v) where
+module _ (w v : Computed) (e : w ≡ v) where
   pub mic-given : w .verdict ≡ Clear → numbers (w .mic) ≡ micOutcome v
   mic-given h = simp (← e, h)
 

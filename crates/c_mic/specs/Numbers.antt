@@ -5,7 +5,7 @@ use Rattle.wire.specs.declared.check.Verdict.{Verdict}
 use Rattle.wire.specs.declared.check.Verdict.the-variants.{Clear, Refused as Not}
 use Rattle.c_number.specs.Number.{refusalNumber, bit}
 use Rattle.c_number.specs.Outcome.{Outcome, numbers, refused}
-use Rattle.mic.specs.declared.Worked.{Worked}
+use Rattle.mic.specs.declared.Computed.{Computed}
 use Rattle.mic.specs.declared.Checking.{Checking}
 use Rattle.mic.specs.declared.Checking.the-variants.{Compared, Refused}
 
@@ -14,7 +14,7 @@ abbrev pub handedOut : Verdict → List ℕ → Outcome
 handedOut Clear mic = numbers mic
 handedOut (Not e) mic = refused e
 
-abbrev pub micOutcome : Worked → Outcome
+abbrev pub micOutcome : Computed → Outcome
 micOutcome w = handedOut (w .verdict) (w .mic)
 
 -- 1 where the message has the MIC, 0 where it has another

@@ -2,7 +2,7 @@
 ghost use mathlib.Core.Path.{_≡_};
 ghost use lib.ListN.{length};
 ghost use Rattle.c_number.specs.Outcome.{callNumber, callOut};
-ghost use Rattle.mic.specs.Mic.{workOut, checkMic};
+ghost use Rattle.mic.specs.Mic.{computedMic, checkMic};
 ghost use Rattle.c_mic.specs.Numbers.{micOutcome, checkingNumber};
 use c_number::bit;
 use c_number::give_bytes;
@@ -14,16 +14,16 @@ use wire::check::Verdict;
 use wire::refusal::Refusal;
 
 // Works out the MIC.
-pub fn work_out(key: &[u8], nego: &[u8], chal: &[u8], auth: &[u8], out: &mut [u8]) -> u64
-    ensures answer { λ r. ⌜ r ≡ callNumber 16 (micOutcome (workOut (now (key .entry)) (now (nego .entry)) (now (chal .entry)) (now (auth .entry)))) (length (now (out .entry))) ⌝ }
-    ensures content { λ _. ⌜ now (out .exit) ≡ callOut 16 (micOutcome (workOut (now (key .entry)) (now (nego .entry)) (now (chal .entry)) (now (auth .entry)))) (now (out .entry)) ⌝ }
+pub fn compute(key: &[u8], nego: &[u8], chal: &[u8], auth: &[u8], out: &mut [u8]) -> u64
+    ensures answer { λ r. ⌜ r ≡ callNumber 16 (micOutcome (computedMic (now (key .entry)) (now (nego .entry)) (now (chal .entry)) (now (auth .entry)))) (length (now (out .entry))) ⌝ }
+    ensures content { λ _. ⌜ now (out .exit) ≡ callOut 16 (micOutcome (computedMic (now (key .entry)) (now (nego .entry)) (now (chal .entry)) (now (auth .entry)))) (now (out .entry)) ⌝ }
 {
     let Checked::Held = room_holds(16, out.len()) else {
         return refusal_number(Refusal::NoRoom);
     };
-    let worked = mic::work_out(key, nego, chal, auth);
-    let bytes = worked.mic;
-    let verdict = worked.verdict;
+    let computed = mic::compute(key, nego, chal, auth);
+    let bytes = computed.mic;
+    let verdict = computed.verdict;
     let Verdict::Clear = verdict else {
         return refusal_number(verdict.refusal());
     };

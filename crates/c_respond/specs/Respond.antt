@@ -45,14 +45,14 @@ pub record EffectFromC : Type 0 where
   pub numbers : List ℕ
 
 -- an answer as numbers
-abbrev pub numbered : Effect → List ℕ → EffectFromC
-numbered x array = record { number = answeredNumber (x .answer); output = x .output; numbers = answeredOut (x .answer) array }
+abbrev pub asNumbers : Effect → List ℕ → EffectFromC
+asNumbers x array = record { number = answeredNumber (x .answer); output = x .output; numbers = answeredOut (x .answer) array }
 
 -- the whole call: 33 before anything else where the array is too short
 unfoldable pub respondFromC : Settings → List ℕ → Supplied → List ℕ → EffectFromC
 respondFromC settings s x array =
     after (roomHolds 2 (length array)) (record { number = refusalNumber NoRoom; output = x .out; numbers = array })
-    (numbered (respondTo settings s x) array)
+    (asNumbers (respondTo settings s x) array)
 
 -- a call's answer, and what then lies in the output and in the array of numbers
 abbrev pub RespondsFromC : Settings → LentSlice → Supplied → ℕ → LentSlice → LentSlice → Type 0

@@ -1,5 +1,5 @@
 -- What a caller in C takes out of each call's answer.
-pub mod Told
+pub mod Decoded
 pub mod SmallFields
 pub mod LineShort
 pub mod LineBounds
@@ -29,7 +29,7 @@ use Rattle.write_authenticate.proofs.Sent.{length-message}
 use Rattle.write_negotiate.specs.Writing.{negotiateBytes, checkToWrite as negotiateChecks, writeAnswer as negotiateAnswer}
 use Rattle.write_negotiate.proofs.Sent.{length-message as negotiate-length}
 use Rattle.nl_auth_flags.specs.Flags.{known}
-use Rattle.write_nl_auth.specs.Writing.{headBytes, requestBytes, responseBytes, checkRequest, requestAnswer, responseAnswer}
+use Rattle.write_nl_auth.specs.Writing.{typeAndFlags, requestBytes, responseBytes, checkRequest, requestAnswer, responseAnswer}
 use Rattle.respond.specs.declared.answer.Answer.{Answer}
 use Rattle.respond.specs.declared.answer.Answered.{Answered}
 use Rattle.respond.specs.declared.answer.Answered.the-variants.{Sent, Refused as Unanswered}
@@ -43,7 +43,7 @@ use Rattle.respond.specs.Domain.{domainToSend}
 use Rattle.c_number.specs.Number.{refusalNumber, verdictNumber, writtenNumber}
 use Rattle.c_number.specs.Outcome.{Outcome, numbers, refused, outcomeNumber, callNumber, twoArrayNumber}
 use Rattle.c_respond.specs.Respond.{answeredNumber, respondFromC}
-use Rattle.demands.specs.Answers.{TellsRefusal, TellsOutcome, CallTells, TwoArraysTell, TellsVerdict, CheckPairsTells, TellsWritten, Writing, write-negotiate, write-authenticate, write-nl-auth-request, write-nl-auth-response, write-response-pairs, writingAnswer, WritingShort, WritingTells, lineOf, LineTells, CopyFits, CopyTells, RespondShort, TellsAnswered, RespondTells}
+use Rattle.demands.specs.Answers.{DecodesRefusal, DecodesOutcome, CallDecodes, TwoArraysDecode, DecodesVerdict, CheckPairsDecodes, DecodesWritten, Writing, write-negotiate, write-authenticate, write-nl-auth-request, write-nl-auth-response, write-response-pairs, writingAnswer, WritingShort, WritingDecodes, calledLine, LineDecodes, CopyFits, CopyDecodes, RespondShort, DecodesAnswered, RespondDecodes}
 use Rattle.demands.specs.FromC.{count, outcome, numberCount, byteCount, twoArrayOutcome}
 use Rattle.demands.proofs.Kept.AnswerKept.{message-fits, mic-long}
 use Rattle.demands.proofs.Secret.Answered.{sent-written}
@@ -53,41 +53,41 @@ use Rattle.demands.proofs.Answers.LineShort.{line-short}
 use Rattle.demands.proofs.ReadBack.NegotiateBack.{writable}
 use Rattle.demands.proofs.ResponsePairs.{response-pairs-short}
 use Rattle.demands.proofs.Answers.SmallFields.{SmallV, pairs-small, SmallD, decision-small, SmallW, writing-small, bytes-small, SmallO, outcome-small, two-array-outcome-small}
-use Rattle.demands.proofs.Answers.Told.{tells-refusal, tells-length}
+use Rattle.demands.proofs.Answers.Decoded.{decodes-refusal, decodes-length}
 use Rattle.wire.proofs.Laws.{held-true}
 
 -- ---- numbers handed out
 
-outcome-told : (h : Outcome) → SmallO h → TellsOutcome (outcomeNumber h) h
-outcome-told (numbers xs) w = tells-length 0 (omega arith)
-outcome-told (refused e) w = tells-refusal e w
+outcome-told : (h : Outcome) → SmallO h → DecodesOutcome (outcomeNumber h) h
+outcome-told (numbers xs) w = decodes-length 0 (omega arith)
+outcome-told (refused e) w = decodes-refusal e w
 
 -- where check 33 is made first
 with-room : (t : Bool) (h : Outcome) → SmallO h →
-    (t ≡ false → TellsRefusal (after (checked t) (refusalNumber NoRoom) (outcomeNumber h)) NoRoom)
-    × (t ≡ true → TellsOutcome (after (checked t) (refusalNumber NoRoom) (outcomeNumber h)) h)
+    (t ≡ false → DecodesRefusal (after (checked t) (refusalNumber NoRoom) (outcomeNumber h)) NoRoom)
+    × (t ≡ true → DecodesOutcome (after (checked t) (refusalNumber NoRoom) (outcomeNumber h)) h)
 with-room true h w = (λ p. absurd (true-not-false p), λ p. outcome-told h w)
-with-room false h w = (λ p. tells-refusal NoRoom (omega arith), λ p. absurd (true-not-false (sym p)))
+with-room false h w = (λ p. decodes-refusal NoRoom (omega arith), λ p. absurd (true-not-false (sym p)))
 
-pub call-tells : CallTells
+pub call-decodes : CallDecodes
 unfolding callNumber
-call-tells c room =
+call-decodes c room =
     let w = with-room (leb (count c) room) (outcome c) (outcome-small c) in
     (λ l. w .0 (lt-leb (count c) room l), λ l. w .1 (le-leb (count c) room l))
 
-pub two-arrays-tell : TwoArraysTell
+pub two-arrays-decode : TwoArraysDecode
 unfolding twoArrayNumber
-two-arrays-tell c room room′ =
+two-arrays-decode c room room′ =
     let w = with-room (leb (numberCount c) room && leb (byteCount c) room′) (twoArrayOutcome c) (two-array-outcome-small c) in (
       λ l. w .0 (⊎-elim (λ a. rw (lt-leb (numberCount c) room a)) (λ b. rw (lt-leb (byteCount c) room′ b) (and-false (leb (numberCount c) room))) l),
       λ a b. w .1 (and-both (leb (numberCount c) room) (leb (byteCount c) room′) (le-leb (numberCount c) room a) (le-leb (byteCount c) room′ b)),
     )
 
-pub check-pairs-tells : CheckPairsTells
-check-pairs-tells s = go (checkPairs s) (pairs-small s) where
-  go : (v : Verdict) → SmallV v → TellsVerdict (verdictNumber v) v
-  go Clear w = tells-length 0 (omega arith)
-  go (Not e) w = tells-refusal e w
+pub check-pairs-decodes : CheckPairsDecodes
+check-pairs-decodes s = go (checkPairs s) (pairs-small s) where
+  go : (v : Verdict) → SmallV v → DecodesVerdict (verdictNumber v) v
+  go Clear w = decodes-length 0 (omega arith)
+  go (Not e) w = decodes-refusal e w
 
 -- ---- lengths written
 
@@ -99,7 +99,7 @@ by-size Clear bytes n most size h = subst (λ (k : ℕ). k ≤ most) (same h) (s
 by-size (Not e) bytes n most size h = absurd (let z : _≡_ {A = ℕ} 0 1 = cc in omega arith)
 
 pub writing-short : WritingShort
-unfolding negotiateAnswer writeAnswer requestAnswer responseAnswer responseBytes headBytes le32 le16
+unfolding negotiateAnswer writeAnswer requestAnswer responseAnswer responseBytes typeAndFlags le32 le16
 writing-short (write-negotiate room w v domain workstation v8) n h =
     by-size (negotiateChecks room w domain workstation) (negotiateBytes w v domain workstation) n 65535
     (λ c. omega (arith, writable room w domain workstation c .size, negotiate-length domain workstation w v v8)) h
@@ -118,12 +118,12 @@ writing-short (write-nl-auth-response room) n h = go (roomHolds (length response
   go Failed p = absurd (let z : _≡_ {A = ℕ} 0 1 = cc in omega arith)
 writing-short (write-response-pairs room s name unverified bindings) n h = response-pairs-short room s name unverified bindings n h
 
-written-told : (r : Written) → SmallW r → ((n : ℕ) → r ≡ Length n → n < 0x8000000000000000) → TellsWritten (writtenNumber r) r
-written-told (Length n) w l = tells-length n (l n refl)
-written-told (Refused e) w l = tells-refusal e w
+written-told : (r : Written) → SmallW r → ((n : ℕ) → r ≡ Length n → n < 0x8000000000000000) → DecodesWritten (writtenNumber r) r
+written-told (Length n) w l = decodes-length n (l n refl)
+written-told (Refused e) w l = decodes-refusal e w
 
-pub writing-tells : WritingTells
-writing-tells w = written-told (writingAnswer w) (writing-small w) (λ n h. omega (arith, writing-short w n h))
+pub writing-decodes : WritingDecodes
+writing-decodes w = written-told (writingAnswer w) (writing-small w) (λ n h. omega (arith, writing-short w n h))
 
 pub copy-fits : CopyFits
 unfolding bytesAnswer
@@ -131,26 +131,26 @@ copy-fits bytes out n h =
     by-size (bytesHold bytes out) bytes n (length out)
     (λ c. leb-true (length bytes) (length out) (held-true _ (after-held (roomHolds (length bytes) (length out)) NoRoom Clear c .0))) h
 
-pub copy-tells : CopyTells
-copy-tells bytes out l = written-told (bytesAnswer bytes out) (bytes-small bytes out) (λ n h. omega (arith, copy-fits bytes out n h))
+pub copy-decodes : CopyDecodes
+copy-decodes bytes out l = written-told (bytesAnswer bytes out) (bytes-small bytes out) (λ n h. omega (arith, copy-fits bytes out n h))
 
 -- bytes of a length that leaves the top bit clear
-pub short-tells : (bytes out : List ℕ) → length bytes < 0x8000000000000000 → TellsWritten (writtenNumber (bytesAnswer bytes out)) (bytesAnswer bytes out)
+pub short-tells : (bytes out : List ℕ) → length bytes < 0x8000000000000000 → DecodesWritten (writtenNumber (bytesAnswer bytes out)) (bytesAnswer bytes out)
 unfolding bytesAnswer
 short-tells bytes out l =
     written-told (bytesAnswer bytes out) (bytes-small bytes out)
     (λ n h. omega (arith, l, by-size (bytesHold bytes out) bytes n (length bytes) (λ c. omega arith) h))
 
-pub line-tells : LineTells
-line-tells l out = short-tells (lineOf l) out (omega (arith, line-short l))
+pub line-decodes : LineDecodes
+line-decodes l out = short-tells (calledLine l) out (omega (arith, line-short l))
 
 -- ---- answering a challenge
 
 -- the answer with what was written
 answer-told : (r : Written) (time : ℕ) (due : Bool) → SmallW r → ((n : ℕ) → r ≡ Length n → n ≤ 65535) →
-    TellsAnswered (answeredNumber (answerWith r time due)) (answerWith r time due)
-answer-told (Length n) time due w l = tells-length n (omega (arith, l n refl))
-answer-told (Refused e) time due w l = tells-refusal e w
+    DecodesAnswered (answeredNumber (answerWith r time due)) (answerWith r time due)
+answer-told (Length n) time due w l = decodes-length n (omega (arith, l n refl))
+answer-told (Refused e) time due w l = decodes-refusal e w
 
 module _ (settings : Settings) (s : List ℕ) (x : Supplied) (v8 : length (x .version) ≡ 8) (m16 : length (x .mic) ≡ 16) where
   -- what is written for a decision, and the answer with it
@@ -168,20 +168,20 @@ module _ (settings : Settings) (s : List ℕ) (x : Supplied) (v8 : length (x .ve
       writing-short (sent d) (y .len) (sent-written (writingAnswer (sent d)) (timeToSend settings (d .timestamp) (x .clock)) (micDue (d .timestamp)) y p)
   sent-short y (Declines e) p = absurd (let z : _≡_ {A = ℕ} 0 1 = cc in omega arith)
 
-  sent-told : (d : Decided) → SmallD d → TellsAnswered (answeredNumber (answer d)) (answer d)
+  sent-told : (d : Decided) → SmallD d → DecodesAnswered (answeredNumber (answer d)) (answer d)
   unfolding answer sending sent
   sent-told (Decides d) w =
       answer-told (writingAnswer (sent d)) (timeToSend settings (d .timestamp) (x .clock)) (micDue (d .timestamp)) (writing-small (sent d)) (writing-short (sent d))
-  sent-told (Declines e) w = tells-refusal e w
+  sent-told (Declines e) w = decodes-refusal e w
 
 pub respond-short : RespondShort
 unfolding respondTo answer
 respond-short settings s x y v8 m16 h = sent-short settings s x v8 m16 y (decisionOn settings s) h
 
-pub respond-tells : RespondTells
+pub respond-decodes : RespondDecodes
 unfolding respondFromC respondTo answer
-respond-tells settings s x xs v8 m16 =
+respond-decodes settings s x xs v8 m16 =
     record {
-      short = λ l. rw (lt-leb 2 (length xs) l) (tells-refusal NoRoom (omega arith));
-      told = λ l. rw (le-leb 2 (length xs) l) (sent-told settings s x v8 m16 (decisionOn settings s) (decision-small settings s));
+      short = λ l. rw (lt-leb 2 (length xs) l) (decodes-refusal NoRoom (omega arith));
+      decoded = λ l. rw (le-leb 2 (length xs) l) (sent-told settings s x v8 m16 (decisionOn settings s) (decision-small settings s));
     }

@@ -18,7 +18,7 @@ use Rattle.head.specs.declared.Kind.{Kind}
 use Rattle.head.specs.declared.Kind.the-variants.{Negotiate, Challenge, Authenticate}
 use Rattle.verdict.specs.Verdict.{negoVerdict, authVerdict, readAs}
 use Rattle.batch.specs.declared.Entry.{Entry}
-use Rattle.batch.specs.Batch.{answerOf, atPlace, readMarked, answered}
+use Rattle.batch.specs.Batch.{answerOf, atPlace, readMarked, withAnswer}
 use Rattle.demands.specs.Explained.{printedChecks, TakenAs, RefusedAs, OneOf}
 use Rattle.demands.specs.Batch.{markOf, Marked, Passes, Inside, message, AnswerIs, EntryAnswered, Each, BatchAnswers, Listed, in-first-64, in-challenge, DifferInListedSecrets, SameBatch, SecretBatch, BatchIgnored}
 use Rattle.demands.proofs.Alike.{same-part}
@@ -94,8 +94,8 @@ module _ (s : List ℕ) (x : Entry) where
       of (inl t) = let z : _≡_ {A = ℕ} 0 54 = rw (when-kind l (km .0) (km .1) ∙ taken-clear (readAs (km .0) (message s x)) t) at h in omega (arith, z)
       of (inr e) = refusal-number (km .0) (message s x) _ _ _ (e .1) .1 (sym (refused-is-so l (km .0) (km .1) _ _ _ (e .1) .0) ∙ h)
 
-  entry-answered : EntryAnswered s x (answered s x)
-  unfolding answered
+  entry-answered : EntryAnswered s x (withAnswer s x)
+  unfolding withAnswer
   entry-answered =
       record {
         start = refl;
@@ -132,7 +132,7 @@ each R g (e ∷ es) h = (h e, each R g es h)
 
 pub batch-answers : BatchAnswers
 batch-answers s es = (
-  λ l. rw (le-leb (length s) 65535 l) (refl, refl, each (EntryAnswered s) (answered s) es (entry-answered s)),
+  λ l. rw (le-leb (length s) 65535 l) (refl, refl, each (EntryAnswered s) (withAnswer s) es (entry-answered s)),
   λ l. rw (lt-leb (length s) 65535 l) (refl, record { top-bit = refl; number = refl; field = refl; place = refl }, refl),
 )
 
@@ -154,8 +154,8 @@ at-same s t start len read long h = rw (← long) (go (leb (start + len) (length
 abbrev SameRead : List ℕ → List ℕ → Entry → Type 0
 SameRead s t e = Inside s e → (k : Kind) → Marked e k → readAs k (message s e) ≡ readAs k (message t e)
 
-entry-same : (s t : List ℕ) (e : Entry) → length s ≡ length t → SameRead s t e → answered s e ≡ answered t e
-unfolding answered
+entry-same : (s t : List ℕ) (e : Entry) → length s ≡ length t → SameRead s t e → withAnswer s e ≡ withAnswer t e
+unfolding withAnswer
 entry-same s t e long h =
     ap (λ (v : Verdict). record { start = e .start; length = e .length; mark = e .mark; answer = answerOf v })
     (at-same s t (e .start) (e .length) (readMarked (e .mark)) long (λ l. go l (kind-or-none (e .mark))))
@@ -166,7 +166,7 @@ entry-same s t e long h =
 
 batch-same : (es : List Entry) (s t : List ℕ) → length s ≡ length t → ((e : Entry) → Listed e es → SameRead s t e) → SameBatch es s t
 batch-same es s t long h =
-    let m : map (answered s) es ≡ map (answered t) es = map-same (answered s) (answered t) es (λ e l. entry-same s t e long (h e l)) in
+    let m : map (withAnswer s) es ≡ map (withAnswer t) es = map-same (withAnswer s) (withAnswer t) es (λ e l. entry-same s t e long (h e l)) in
     (simp long, simp (long, m))
 
 -- ---- demand 3

@@ -22,20 +22,20 @@ use Rattle.write_authenticate.specs.Writing.{authenticateBytes, checkToWrite, w
 use Rattle.write_authenticate.proofs.Sent.{length-message, length-payload}
 use Rattle.c_number.specs.Number.{writtenNumber}
 use Rattle.write_canonical.specs.Canonical.{Meaning, meaningOf, zeroVersion, meaningAnswer, meaningOut, onMeaning, canonicalAnswer, canonicalOut}
-use Rattle.demands.specs.Canonical.{Means, MeaningIsThere, OneMeaning, WrittenAs, OneWriting, WrittenAgain, MeaningBack, WrittenByLayout, CanonicalKept, SameCanonical, CanonicalByMeaning, CanonicalIgnored, SecretsWritten, CanonicalSecret, CanonicalShort, CanonicalTells}
-use Rattle.demands.specs.Answers.{TellsWritten, write-authenticate}
+use Rattle.demands.specs.Canonical.{Means, MeaningIsThere, OneMeaning, WrittenAs, OneWriting, WrittenAgain, MeaningBack, WrittenByLayout, CanonicalKept, SameCanonical, CanonicalByMeaning, CanonicalIgnored, SecretsWritten, CanonicalSecret, CanonicalShort, CanonicalDecodes}
+use Rattle.demands.specs.Answers.{DecodesWritten, write-authenticate}
 use Rattle.demands.specs.Ignored.{SameFields, SameAnswer}
 use Rattle.demands.specs.Kept.{Kept}
 use Rattle.demands.specs.LaidOut.{LaidOut}
-use Rattle.demands.specs.MaxLen.{bareAuthenticate}
+use Rattle.demands.specs.MaxLen.{authenticateWithoutMaxLen}
 use Rattle.demands.specs.ReadBack.{AuthenticateBack}
 use Rattle.demands.specs.Secret.{SamePublic, AsLong}
 use Rattle.demands.specs.TakenExactly.{IsTaken}
 use Rattle.verdict.specs.Verdict.{authVerdict}
 use Rattle.demands.specs.WrittenExactly.{WrittenExactly, authenticateSize, authenticateOrder, AuthenticateWritingFails}
-use Rattle.demands.proofs.Answers.{writing-short, writing-tells}
+use Rattle.demands.proofs.Answers.{writing-short, writing-decodes}
 use Rattle.demands.proofs.Answers.SmallFields.{authenticate-small}
-use Rattle.demands.proofs.Answers.Told.{tells-refusal}
+use Rattle.demands.proofs.Answers.Decoded.{decodes-refusal}
 use Rattle.demands.proofs.Ignored.{authenticate-ignored}
 use Rattle.demands.proofs.Kept as kept-laws
 use Rattle.demands.proofs.Kept.AnswerKept.{authenticate-kept}
@@ -269,7 +269,7 @@ refused-alike s t e p q =
     }
 
 -- a message that is refused, or taken, alike but for MaxLen
-refused-too : (r : Reading) (e : Refusal) → Refused e ≡ bareAuthenticate r → r ≡ Refused e
+refused-too : (r : Reading) (e : Refusal) → Refused e ≡ authenticateWithoutMaxLen r → r ≡ Refused e
 refused-too (Taken a) e h = absurd (let z : _≡_ {A = ℕ} 0 1 = cc in omega arith)
 refused-too (Refused x) e h = sym h
 
@@ -291,8 +291,8 @@ canonical-ignored s t d = go (readAuthenticate s .reading) refl where
   both a x p q =
       let m = meaningOf s (readAuthenticate s .mic) a in
       let b : SameFields s t (a .fields) = same .bytes a p in
-      let e : bareAuthenticate (Taken x) ≡ bareAuthenticate (Taken a) =
-      sym (ap bareAuthenticate q) ∙ sym (same .reading) ∙ ap bareAuthenticate p in
+      let e : authenticateWithoutMaxLen (Taken x) ≡ authenticateWithoutMaxLen (Taken a) =
+      sym (ap authenticateWithoutMaxLen q) ∙ sym (same .reading) ∙ ap authenticateWithoutMaxLen p in
       let f = ap (fieldsOf (a .fields)) e in
       canonical-by-meaning s t m (each-means s a p)
       (record {
@@ -311,13 +311,13 @@ canonical-ignored s t d = go (readAuthenticate s .reading) refl where
   taken : (r : Reading) (a : Authenticate) → readAuthenticate s .reading ≡ Taken a → readAuthenticate t .reading ≡ r → SameCanonical s t
   taken (Taken x) a p q = both a x p q
   taken (Refused e) a p q =
-      let h : Refused e ≡ bareAuthenticate (readAuthenticate s .reading) = sym (ap bareAuthenticate q) ∙ sym (same .reading) in
+      let h : Refused e ≡ authenticateWithoutMaxLen (readAuthenticate s .reading) = sym (ap authenticateWithoutMaxLen q) ∙ sym (same .reading) in
       let z : readAuthenticate s .reading ≡ Refused e = refused-too (readAuthenticate s .reading) e h in
       refused-alike s t e z q
 
   go : (r : Reading) → readAuthenticate s .reading ≡ r → SameCanonical s t
   go (Taken a) p = taken (readAuthenticate t .reading) a p refl
-  go (Refused e) p = refused-alike s t e p (refused-too (readAuthenticate t .reading) e (sym (ap bareAuthenticate p) ∙ same .reading))
+  go (Refused e) p = refused-alike s t e p (refused-too (readAuthenticate t .reading) e (sym (ap authenticateWithoutMaxLen p) ∙ same .reading))
 
 field-long : (s t : List ℕ) (f : Field) → length s ≡ length t → length (fieldBytes s f) ≡ length (fieldBytes t f)
 unfolding fieldBytes
@@ -393,13 +393,13 @@ canonical-short room s n h = go (readAuthenticate s .reading) refl where
       (sym (answer-of s m x room) ∙ h)
   go (Refused e) p = absurd (never e (sym (answer-refused s e p room) ∙ h))
 
-pub canonical-tells : CanonicalTells
+pub canonical-decodes : CanonicalDecodes
 unfolding meaningAnswer
-canonical-tells room s = go (readAuthenticate s .reading) refl where
-  go : (r : Reading) → readAuthenticate s .reading ≡ r → TellsWritten (writtenNumber (canonicalAnswer room s)) (canonicalAnswer room s)
+canonical-decodes room s = go (readAuthenticate s .reading) refl where
+  go : (r : Reading) → readAuthenticate s .reading ≡ r → DecodesWritten (writtenNumber (canonicalAnswer room s)) (canonicalAnswer room s)
   go (Taken a) p =
       let m = meaningOf s (readAuthenticate s .mic) a in
       let x = each-means s a p in
       rw (answer-of s m x room)
-      (writing-tells (write-authenticate room (m .flags) zeroVersion (m .mic) (m .lm) (m .nt) (m .domain) (m .user) (m .workstation) (m .key) refl (mic-long s m x)))
-  go (Refused e) p = rw (answer-refused s e p room) (tells-refusal e (authenticate-small s e p))
+      (writing-decodes (write-authenticate room (m .flags) zeroVersion (m .mic) (m .lm) (m .nt) (m .domain) (m .user) (m .workstation) (m .key) refl (mic-long s m x)))
+  go (Refused e) p = rw (answer-refused s e p room) (decodes-refusal e (authenticate-small s e p))

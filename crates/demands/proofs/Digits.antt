@@ -14,7 +14,7 @@ use Rattle.wire.specs.Text.{ascii}
 use Rattle.wire.specs.Number.{u16At, u32At}
 use Rattle.line_words.specs.Digits.{hexDigit, digits, hex, sizeStep, sizeWithin, decimalSize, decimal}
 use Rattle.line_words.proofs.Numbers.{low-digit, high-digit, length-digits}
-use Rattle.demands.specs.Digits.{IsDecimalDigit, IsHexDigit, worthOf, readOn, valueOf, DecimalHasValue, HexHasValue, HexIsEnough}
+use Rattle.demands.specs.Digits.{IsDecimalDigit, IsHexDigit, worthOf, readOn, digitsValue, DecimalHasValue, HexHasValue, HexIsEnough}
 
 -- ---- one digit
 
@@ -44,7 +44,7 @@ one-more base n c [] = refl
 one-more base n c (d ∷ cs) = one-more base (n * base + worthOf d) c cs
 
 module _ (base : ℕ) (some : 0 < base) where
-  value-is : (k n : ℕ) → base ≤ 16 → n < base ^ k → valueOf base (digits base k n) ≡ n
+  value-is : (k n : ℕ) → base ≤ 16 → n < base ^ k → digitsValue base (digits base k n) ≡ n
   value-is zero n b h = omega (arith, pow-zero base)
   value-is (suc k) n b h =
       one-more base 0 (hexDigit (n % base)) (digits base k (n / base))

@@ -8,7 +8,7 @@ use Rattle.read_dns_name.specs.declared.Fault.{Fault}
 use Rattle.read_dns_name.specs.declared.Reading.{Reading}
 use Rattle.read_dns_name.specs.declared.Reading.the-variants.{Taken, Refused}
 use Rattle.read_dns_name.specs.DnsName.{readName, labelsAt, numberOf}
-use Rattle.read_dns_name.specs.Rfc1035.{NameAt, FirstFault}
+use Rattle.read_dns_name.specs.Rfc1035.{NameAt, FirstNameFault}
 use Rattle.line_dns_name.proofs.Names.{text-bound}
 use Rattle.read_dns_name.proofs.Exact.{taken, is-taken, refused, is-refused, next-inside, next-after}
 use Rattle.demands.specs.DnsName.{NameRefusedWith, NameIsTaken, NameIsRefused, NameOrFault, OneName, NameNoFault, NameShort}
@@ -28,9 +28,9 @@ name-refused s start n = (
   λ f. let x = is-refused s start n f in numbered (readName s start) (x .0) n (x .1) (x .2),
 )
   where
-    go : (r : Reading) → readName s start ≡ r → NameRefusedWith r n → FirstFault s start n
+    go : (r : Reading) → readName s start ≡ r → NameRefusedWith r n → FirstNameFault s start n
     go (Taken m) e h = absurd h
-    go (Refused f) e h = subst (λ (x : ℕ). FirstFault s start x) h (refused s start f e)
+    go (Refused f) e h = subst (λ (x : ℕ). FirstNameFault s start x) h (refused s start f e)
 
 abbrev nextOf : Reading → ℕ
 nextOf (Taken m) = m .next
@@ -43,7 +43,7 @@ jumpsOf (Refused e) = 0
 pub name-or-first-fault : NameOrFault
 name-or-first-fault s start = go (readName s start) refl where
   go : (r : Reading) → readName s start ≡ r →
-      ((ls : List (List ℕ)) × (jumps : ℕ) × (next : ℕ) × NameAt s start ls jumps next) ⊎ ((n : ℕ) × FirstFault s start n)
+      ((ls : List (List ℕ)) × (jumps : ℕ) × (next : ℕ) × NameAt s start ls jumps next) ⊎ ((n : ℕ) × FirstNameFault s start n)
   go (Taken m) e = inl (labelsAt s start, m .jumps, m .next, taken s start m e)
   go (Refused f) e = inr (numberOf f, refused s start f e)
 
@@ -57,11 +57,11 @@ module _ (s : List ℕ) (start : ℕ) where
   pub one-name : (ls ms : List (List ℕ)) (i j m n : ℕ) → NameAt s start ls i m → NameAt s start ms j n → m ≡ n
   one-name ls ms i j m n a b = only-name s start ls ms i j m n a b .2
 
-  pub name-or-fault : (ls : List (List ℕ)) (j m n : ℕ) → NameAt s start ls j m → FirstFault s start n → ⊥
+  pub name-or-fault : (ls : List (List ℕ)) (j m n : ℕ) → NameAt s start ls j m → FirstNameFault s start n → ⊥
   name-or-fault ls j m n a f =
       subst (λ (x : Reading). NameRefusedWith x n) (is-taken s start ls j m a .0) (name-refused s start n .1 f)
 
-  pub one-name-fault : (m n : ℕ) → FirstFault s start m → FirstFault s start n → m ≡ n
+  pub one-name-fault : (m n : ℕ) → FirstNameFault s start m → FirstNameFault s start n → m ≡ n
   one-name-fault m n a b = go (readName s start) (name-refused s start m .1 a) (name-refused s start n .1 b) where
     go : (r : Reading) → NameRefusedWith r m → NameRefusedWith r n → m ≡ n
     go (Taken x) p q = absurd p

@@ -13,8 +13,8 @@ use Rattle.wire.specs.declared.check.Checked.the-variants.{Held, Failed}
 use Rattle.wire.specs.Check.{checked, after}
 use Rattle.wire.proofs.Bools.{and-left, and-right, and-both}
 use Rattle.line_words.specs.Name.{plain, escape, unitText}
-use Rattle.line_dns_name.specs.DnsNameText.{byteText, labelText, partText, joined, nameText}
-use Rattle.write_dns_name.specs.Writing.{onFirst, pieces, labelsOf, labelsHold, textHolds, nameBytes, beforeStop}
+use Rattle.line_dns_name.specs.DnsNameText.{byteText, labelText, partText, joined, dnsNameText}
+use Rattle.write_dns_name.specs.Writing.{onFirst, pieces, splitLabels, labelsHold, textHolds, nameBytes, beforeStop}
 use Rattle.write_dns_name.proofs.Back.{withStops, NoStops, pieces-joined, pieces-plain, piece-then}
 use Rattle.read_dns_name.specs.Rfc1035.{codedLength}
 use Rattle.write_dns_name.proofs.Holding.{size-all, bytes-empty, coded-pieces}
@@ -60,13 +60,13 @@ parts-of t = go (pieces t) refl (pieces-joined t) (pieces-plain t) where
   go (l ∷ ls) e j p = subst (λ (x : List ℕ). PartsOf x (l ∷ ls)) j (joined-parts l ls p)
 
 -- the labels of a text, and only they
-pub text-labels : (t : List ℕ) → TextLabels t (labelsOf t)
-unfolding labelsOf
+pub text-labels : (t : List ℕ) → TextLabels t (splitLabels t)
+unfolding splitLabels
 text-labels [] = record { empty = λ e. refl; parts = λ l. absurd (omega arith) }
 text-labels (b ∷ t) = record { empty = λ e. absurd (omega arith); parts = λ l. parts-of (b ∷ t) }
 
-only-labels : (t : List ℕ) (ls : List (List ℕ)) → TextLabels t ls → ls ≡ labelsOf t
-unfolding labelsOf
+only-labels : (t : List ℕ) (ls : List (List ℕ)) → TextLabels t ls → ls ≡ splitLabels t
+unfolding splitLabels
 only-labels [] ls w = w .empty refl
 only-labels (b ∷ t) ls w = sym (parts-are (b ∷ t) ls (w .parts (omega arith)))
 
@@ -96,11 +96,11 @@ labels-held (l ∷ ls) h w = go (leb 1 (length l)) (leb (length l) 63) refl refl
 
 pub text-failed : (t : List ℕ) → textHolds t ≡ Failed → LabelsFail t
 unfolding textHolds
-text-failed t f = (labelsOf t, text-labels t, labels-failed (labelsOf t) f)
+text-failed t f = (splitLabels t, text-labels t, labels-failed (splitLabels t) f)
 
 pub text-held : (t : List ℕ) → textHolds t ≡ Held → LabelsFail t → ⊥
 unfolding textHolds
-text-held t h w = labels-held (labelsOf t) h (subst WrongLabelIn (only-labels t (w .0) (w .1)) (w .2))
+text-held t h w = labels-held (splitLabels t) h (subst WrongLabelIn (only-labels t (w .0) (w .1)) (w .2))
 
 -- ---- the length
 
@@ -167,13 +167,13 @@ later [] p h = refl
 later (l ∷ ls) p h =
     simp (same-label l (and-left (plainAll l) (allPlain ls) p) (h .0), later ls (and-right (plainAll l) (allPlain ls) p) (h .1))
 
-all : (ls : List (List ℕ)) → allPlain ls ≡ true → NoStops ls → nameText ls ≡ withStops ls
-unfolding nameText joined partText
+all : (ls : List (List ℕ)) → allPlain ls ≡ true → NoStops ls → dnsNameText ls ≡ withStops ls
+unfolding dnsNameText joined partText
 all [] p h = refl
 all (l ∷ ls) p h =
     simp (same-label l (and-left (plainAll l) (allPlain ls) p) (h .0), later ls (and-right (plainAll l) (allPlain ls) p) (h .1)) (sym (with-stops l ls))
 
-pub text-shown : (t : List ℕ) → Plain t → nameText (labelsOf t) ≡ t
-unfolding labelsOf
+pub text-shown : (t : List ℕ) → Plain t → dnsNameText (splitLabels t) ≡ t
+unfolding splitLabels
 text-shown [] p = all [] refl tt
 text-shown (b ∷ t) p = all (pieces (b ∷ t)) (plain-pieces (b ∷ t) (plain-all (b ∷ t) p)) (pieces-plain (b ∷ t)) ∙ pieces-joined (b ∷ t)

@@ -13,12 +13,12 @@ use Rattle.read_negotiate.specs.Negotiate.{fieldsAt as negotiateFieldsAt, check
 use Rattle.write_negotiate.specs.Writing.{flagsToWrite, fieldsTo as negotiateFieldsTo, afterType, fixedBytes as negotiateFixed, negotiateBytes, checkToWrite as negotiateCheck, writeAnswer as negotiateAnswer, writeOut as negotiateOut}
 use Rattle.read_authenticate.specs.Authenticate.{fieldsAt, checkEnds, checkBegins, checkNames, checkShared, checkFields, micPresent, readingOf, readAuthenticate}
 use Rattle.write_authenticate.specs.Writing.{fieldsTo, headsBytes, afterHeads, fixedBytes, payloadBytes, authenticateBytes, checkNamesToWrite, checkToWrite, writeAnswer, writeOut}
-use Rattle.write_nl_auth.specs.Writing.{headBytes as nlHeadBytes, stringBytes, bytesUnder, oemBytes, nameUnder, utf8Bytes, requestBytes, responseBytes, checkZeros, checkLabels, checkCoded, checkStrings, under, checkUnder, checkRequest, requestAnswer, requestOut, responseAnswer, responseOut}
+use Rattle.write_nl_auth.specs.Writing.{typeAndFlags as nlHeadBytes, zeroTerminated, bytesUnder, oemBytes, nameBytesUnder, utf8Bytes, requestBytes, responseBytes, checkZeros, checkLabels, checkCoded, checkStrings, under, checkUnder, checkRequest, requestAnswer, requestOut, responseAnswer, responseOut}
 use Rattle.read_nl_auth.specs.NlAuth.{readNlAuth, readRequest, readUtf8, stringUnder, nameUnder as nlNameUnder, nameAt as nlNameAt}
 use Rattle.line_nl_string.specs.StringText.{utf8Text}
-use Rattle.read_dns_name.specs.DnsName.{readName, labelsAt, steps, stepAt as nameStep, labelOf, jumpAt, jumpTo, left as nameLeft}
-use Rattle.line_dns_name.specs.DnsNameText.{byteText, labelText, partText, joined, nameText as dnsText}
-use Rattle.write_dns_name.specs.Writing.{pieces, labelsOf, labelBytes, coded, nameBytes, labelsHold, textHolds, codedHolds}
+use Rattle.read_dns_name.specs.DnsName.{readName, labelsAt, maxSteps, stepAt as nameStep, labelOf, jumpAt, jumpTo, left as nameLeft}
+use Rattle.line_dns_name.specs.DnsNameText.{byteText, labelText, partText, joined, dnsNameText as dnsText}
+use Rattle.write_dns_name.specs.Writing.{pieces, splitLabels, labelBytes, coded, nameBytes, labelsHold, textHolds, codedHolds}
 use Rattle.line_nl_auth.specs.Nl.{nlStart, nlOem, nlUtf8, nlText}
 use Rattle.respond.specs.Domain.{domainPart}
 use Rattle.respond.specs.Decision.{decisionOn}
@@ -64,7 +64,7 @@ pair-list-example =
     record { length-written = refl; bytes-written = refl; pairs = refl; no-room = refl; kept = refl; odd-name = refl; with-all = refl }
 
 nl-auth-example : NlAuthExample
-unfolding nlHeadBytes stringBytes bytesUnder oemBytes nameUnder utf8Bytes labelsOf labelsHold textHolds codedHolds requestBytes responseBytes checkZeros checkLabels checkCoded checkStrings under checkUnder checkRequest requestAnswer requestOut responseAnswer responseOut le16 le32
+unfolding nlHeadBytes zeroTerminated bytesUnder oemBytes nameBytesUnder utf8Bytes splitLabels labelsHold textHolds codedHolds requestBytes responseBytes checkZeros checkLabels checkCoded checkStrings under checkUnder checkRequest requestAnswer requestOut responseAnswer responseOut le16 le32
 nl-auth-example =
     record {
       request-length = refl;
@@ -76,7 +76,7 @@ nl-auth-example =
     }
 
 nl-names-example : NlNamesExample
-unfolding readNlAuth readRequest readUtf8 stringUnder nlNameUnder nlNameAt readName labelsAt steps nameStep labelOf jumpAt jumpTo nameLeft utf8Text dnsText joined partText labelText byteText unitText escape hexDigit hex decimalSize decimal numberWord flagsWord stringWord nlStart nlOem nlUtf8 nlText nlAuthLine nlHeadBytes nameUnder utf8Bytes requestBytes checkZeros checkLabels checkCoded checkStrings under checkUnder checkRequest requestAnswer requestOut bytesUnder oemBytes pieces labelsOf labelBytes coded nameBytes labelsHold textHolds codedHolds le16 le32
+unfolding readNlAuth readRequest readUtf8 stringUnder nlNameUnder nlNameAt readName labelsAt maxSteps nameStep labelOf jumpAt jumpTo nameLeft utf8Text dnsText joined partText labelText byteText unitText escape hexDigit hex decimalSize decimal numberWord flagsWord stringWord nlStart nlOem nlUtf8 nlText nlAuthLine nlHeadBytes nameBytesUnder utf8Bytes requestBytes checkZeros checkLabels checkCoded checkStrings under checkUnder checkRequest requestAnswer requestOut bytesUnder oemBytes pieces splitLabels labelBytes coded nameBytes labelsHold textHolds codedHolds le16 le32
 nl-names-example = record { names-line = refl; names-jumps = refl; name-written = refl; stop-in-label = refl; empty-label = refl }
 
 pub examples-hold : ExamplesHold

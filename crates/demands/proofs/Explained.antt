@@ -27,13 +27,13 @@ use Rattle.head.specs.Head.{kindOf}
 use Rattle.line_checks.specs.declared.Figures.{Figures as Given}
 use Rattle.line_checks.specs.Checks.{checkLines}
 use Rattle.verdict.specs.Verdict.{readAs}
-use Rattle.explain.specs.Explain.{fieldsOf, numbered, figuresOf, noFigures, ofPair, figuresAs, explainedAs, explanation}
+use Rattle.explain.specs.Explain.{fieldsByNumber, fieldNumbered, figuresOf, noFigures, ofPair, figuresAs, explainedAs, explanation}
 use Rattle.explain.proofs.Laws.{no-head}
-use Rattle.demands.specs.Order.{placeIn}
+use Rattle.demands.specs.Order.{rankIn}
 use Rattle.demands.specs.Message.{Format, negotiate, authenticate, challenge, Nonempty, lenOf, offsetOf}
 use Rattle.demands.specs.PairList.{idOf, sizeOf}
 use Rattle.demands.specs.TakenExactly.{RefusalIs, RefusedWith, InfoBytes}
-use Rattle.demands.specs.Explained.{Figures, State, held, failed, not-reached, printedChecks, printOf, formatOf, TakenAs, RefusedAs, FailsAt, at-field, at-pair, FiguresAre, OneOf, Before, Told, ExplainedExactly}
+use Rattle.demands.specs.Explained.{Figures, State, held, failed, not-reached, printedChecks, printOf, formatOf, TakenAs, RefusedAs, FailsAt, at-field, at-pair, FiguresAre, OneOf, Before, TrueStates, ExplainedExactly}
 use Rattle.demands.proofs.Message.{Stands}
 use Rattle.demands.proofs.Message.Fields.{AllStand}
 use Rattle.demands.proofs.TakenExactly.{six}
@@ -46,31 +46,31 @@ use Rattle.demands.proofs.Message.Chain.{up-to-9}
 
 -- ---- the fields by number are those of their heads
 
-numbered-stands : (k : Format) (s : List ℕ) (fs : List (ℕ × Field)) (j i : ℕ) → AllStand k s j fs → j ≤ i → i < j + length fs → Stands k s i (numbered i fs)
+numbered-stands : (k : Format) (s : List ℕ) (fs : List (ℕ × Field)) (j i : ℕ) → AllStand k s j fs → j ≤ i → i < j + length fs → Stands k s i (fieldNumbered i fs)
 numbered-stands k s [] j i a l r = absurd (omega arith)
 numbered-stands k s (f ∷ fs) j i a l r = go (eqb i (f .0)) refl (λ x y. numbered-stands k s fs (j + 1) i (a .2) x y) where
-  go : (t : Bool) → eqb i (f .0) ≡ t → (j + 1 ≤ i → i < j + 1 + length fs → Stands k s i (numbered i fs)) → Stands k s i (cond t (f .1) (numbered i fs))
+  go : (t : Bool) → eqb i (f .0) ≡ t → (j + 1 ≤ i → i < j + 1 + length fs → Stands k s i (fieldNumbered i fs)) → Stands k s i (cond t (f .1) (fieldNumbered i fs))
   go true p rest = subst (λ (x : ℕ). Stands k s x (f .1)) (sym (eqb-true i (f .0) p ∙ a .0)) (a .1)
   go false p rest =
       let other : i ≡ j → ⊥ = λ e. eqb-false i (f .0) p (e ∙ sym (a .0)) in
       rest (omega (arith, other)) (omega arith)
 
-field-stands : (k : Kind) (s : List ℕ) (i : ℕ) → Nonempty (formatOf k) s i → Stands (formatOf k) s i (numbered i (fieldsOf k s))
+field-stands : (k : Kind) (s : List ℕ) (i : ℕ) → Nonempty (formatOf k) s i → Stands (formatOf k) s i (fieldNumbered i (fieldsByNumber k s))
 field-stands Negotiate s i w =
     let x = nego-two s (Stands negotiate s) (λ j f v. v) in
-    numbered-stands negotiate s (fieldsOf Negotiate s) 1 i (refl, x .0, (refl, x .1, tt)) (w .first) (omega (arith, w .last))
+    numbered-stands negotiate s (fieldsByNumber Negotiate s) 1 i (refl, x .0, (refl, x .1, tt)) (w .first) (omega (arith, w .last))
 field-stands Challenge s i w =
     let x = chal-two s (Stands challenge s) (λ j f v. v) in
-    numbered-stands challenge s (fieldsOf Challenge s) 1 i (refl, x .0, (refl, x .1, tt)) (w .first) (omega (arith, w .last))
+    numbered-stands challenge s (fieldsByNumber Challenge s) 1 i (refl, x .0, (refl, x .1, tt)) (w .first) (omega (arith, w .last))
 field-stands Authenticate s i w =
     let x = six s (Stands authenticate s) (λ j f v. v) in
-    numbered-stands authenticate s (fieldsOf Authenticate s) 1 i (refl, x .0, (refl, x .1, (refl, x .2, (refl, x .3, (refl, x .4, (refl, x .5, tt)))))) (w .first) (omega (arith, w .last))
+    numbered-stands authenticate s (fieldsByNumber Authenticate s) 1 i (refl, x .0, (refl, x .1, (refl, x .2, (refl, x .3, (refl, x .4, (refl, x .5, tt)))))) (w .first) (omega (arith, w .last))
 
 pub head-is : (k : Kind) (s : List ℕ) (i : ℕ) → Nonempty (formatOf k) s i →
-    (numbered i (fieldsOf k s) .offset ≡ offsetOf (formatOf k) s i) × (numbered i (fieldsOf k s) .len ≡ lenOf (formatOf k) s i)
-head-is k s i w = go (isEmpty (numbered i (fieldsOf k s))) refl (field-stands k s i w) where
-  go : (t : Bool) → isEmpty (numbered i (fieldsOf k s)) ≡ t → Stands (formatOf k) s i (numbered i (fieldsOf k s)) →
-      (numbered i (fieldsOf k s) .offset ≡ offsetOf (formatOf k) s i) × (numbered i (fieldsOf k s) .len ≡ lenOf (formatOf k) s i)
+    (fieldNumbered i (fieldsByNumber k s) .offset ≡ offsetOf (formatOf k) s i) × (fieldNumbered i (fieldsByNumber k s) .len ≡ lenOf (formatOf k) s i)
+head-is k s i w = go (isEmpty (fieldNumbered i (fieldsByNumber k s))) refl (field-stands k s i w) where
+  go : (t : Bool) → isEmpty (fieldNumbered i (fieldsByNumber k s)) ≡ t → Stands (formatOf k) s i (fieldNumbered i (fieldsByNumber k s)) →
+      (fieldNumbered i (fieldsByNumber k s) .offset ≡ offsetOf (formatOf k) s i) × (fieldNumbered i (fieldsByNumber k s) .len ≡ lenOf (formatOf k) s i)
   go true p v = absurd (v .empty p w)
   go false p v = (v .offset p, v .len p)
 
@@ -112,7 +112,7 @@ pair-inside k s n i p w c b q x z = go (w .fails) where
 -- ---- the figures
 
 figures-are : (k : Kind) (s : List ℕ) (e : Refusal) (n i p : ℕ) → RefusalIs e n i p → Why k s n i p →
-    FiguresAre k s n i p (shown (figuresOf s (numbered (fieldOf e) (fieldsOf k s)) e))
+    FiguresAre k s n i p (shown (figuresOf s (fieldNumbered (fieldOf e) (fieldsByNumber k s)) e))
 unfolding figuresOf
 figures-are k s e n i p r w =
     record {
@@ -144,28 +144,28 @@ module _ (k : Kind) (s : List ℕ) where
   abbrev state : ℕ → State
   state = stateOf given checks
 
-  state-before : (m : ℕ) → placeIn checks m < placeIn checks (given .number) → state m ≡ held
+  state-before : (m : ℕ) → rankIn checks m < rankIn checks (given .number) → state m ≡ held
   state-before m h = simp (lt-ltb _ _ h)
 
   state-at : (m : ℕ) → m ≡ given .number → state m ≡ failed (shown given)
   state-at m e =
-      let not-before : ltb (placeIn checks m) (placeIn checks (given .number)) ≡ false = rw e (le-ltb (placeIn checks (given .number)) (placeIn checks (given .number)) (omega arith)) in
+      let not-before : ltb (rankIn checks m) (rankIn checks (given .number)) ≡ false = rw e (le-ltb (rankIn checks (given .number)) (rankIn checks (given .number)) (omega arith)) in
       simp (not-before, eq-eqb m (given .number) e)
 
-  state-beyond : (m : ℕ) → placeIn checks (given .number) < placeIn checks m → state m ≡ not-reached
+  state-beyond : (m : ℕ) → rankIn checks (given .number) < rankIn checks m → state m ≡ not-reached
   state-beyond m h =
-      let other : m ≡ given .number → ⊥ = λ e. let z = ap (placeIn checks) e in omega (arith, z) in
-      simp (le-ltb (placeIn checks m) (placeIn checks (given .number)) (omega arith), ne-eqb m (given .number) other)
+      let other : m ≡ given .number → ⊥ = λ e. let z = ap (rankIn checks) e in omega (arith, z) in
+      simp (le-ltb (rankIn checks m) (rankIn checks (given .number)) (omega arith), ne-eqb m (given .number) other)
 
-  held-before : (m : ℕ) → state m ≡ held → placeIn checks m < placeIn checks (given .number)
-  held-before m h = go (ltb (placeIn checks m) (placeIn checks (given .number))) (eqb m (given .number)) refl h where
-    go : (t u : Bool) → ltb (placeIn checks m) (placeIn checks (given .number)) ≡ t → stateBy t u (shown given) ≡ held → placeIn checks m < placeIn checks (given .number)
+  held-before : (m : ℕ) → state m ≡ held → rankIn checks m < rankIn checks (given .number)
+  held-before m h = go (ltb (rankIn checks m) (rankIn checks (given .number))) (eqb m (given .number)) refl h where
+    go : (t u : Bool) → ltb (rankIn checks m) (rankIn checks (given .number)) ≡ t → stateBy t u (shown given) ≡ held → rankIn checks m < rankIn checks (given .number)
     go true u p q = ltb-true _ _ p
     go false true p q = absurd (let z : _≡_ {A = ℕ} 0 1 = cc in omega arith)
     go false false p q = absurd (let z : _≡_ {A = ℕ} 0 1 = cc in omega arith)
 
   failed-at : (m : ℕ) (f : Figures) → state m ≡ failed f → (m ≡ given .number) × (f ≡ shown given)
-  failed-at m f h = go (ltb (placeIn checks m) (placeIn checks (given .number))) (eqb m (given .number)) refl h where
+  failed-at m f h = go (ltb (rankIn checks m) (rankIn checks (given .number))) (eqb m (given .number)) refl h where
     go : (t u : Bool) → eqb m (given .number) ≡ u → stateBy t u (shown given) ≡ failed f → (m ≡ given .number) × (f ≡ shown given)
     go true u p q = absurd (let z : _≡_ {A = ℕ} 0 1 = cc in omega arith)
     go false true p q = (eqb-true _ _ p, cc)
@@ -175,7 +175,7 @@ module _ (k : Kind) (s : List ℕ) where
   unfolding figuresAs
   given-taken t = simp (taken-clear (readAs k s) t)
 
-  given-refused : (e : Refusal) → readAs k s ≡ Not e → given ≡ figuresOf s (numbered (fieldOf e) (fieldsOf k s)) e
+  given-refused : (e : Refusal) → readAs k s ≡ Not e → given ≡ figuresOf s (fieldNumbered (fieldOf e) (fieldsByNumber k s)) e
   unfolding figuresAs
   given-refused e h = simp h
 
@@ -184,21 +184,21 @@ module _ (k : Kind) (s : List ℕ) where
   number-is n i p r = let x = refused-not (readAs k s) n i p r in ap (λ (g : Given). g .number) (given-refused (x .0) (x .1)) ∙ x .2 .0
 
   -- no check has number 0
-  none-is-0 : placeIn checks 0 ≡ length checks
+  none-is-0 : rankIn checks 0 ≡ length checks
   none-is-0 = go k where
-    go : (k : Kind) → placeIn (printedChecks k) 0 ≡ length (printedChecks k)
+    go : (k : Kind) → rankIn (printedChecks k) 0 ≡ length (printedChecks k)
     go Negotiate = refl
     go Challenge = refl
     go Authenticate = refl
 
-  pub told : Told k s state
+  pub told : TrueStates k s state
   unfolding figuresOf
   told =
       record {
         all-held = λ t n l. state-before n (rw (given-taken t, none-is-0) l);
         only-taken = λ h. ⊎-elim (λ t. t)
             (λ x. let w = why k s _ _ _ (x .1) in
-            absurd (omega (arith, held-before (numberOf (x .0)) (h (numberOf (x .0)) (w .one)), ap (placeIn checks) (number-is _ _ _ (x .1))))) (either (readAs k s));
+            absurd (omega (arith, held-before (numberOf (x .0)) (h (numberOf (x .0)) (w .one)), ap (rankIn checks) (number-is _ _ _ (x .1))))) (either (readAs k s));
         named = λ n i p r.
             let w = why k s n i p r in
             let x = refused-not (readAs k s) n i p r in
@@ -219,7 +219,7 @@ module _ (k : Kind) (s : List ℕ) where
         go : Either (readAs k s) → RefusedAs k s n (f .field) (f .at)
         go (inl t) =
             let zero : n ≡ 0 = is .0 ∙ ap (λ (g : Given). g .number) (given-taken t) in
-            absurd (let z = ap (placeIn checks) zero in omega (arith, z, none-is-0))
+            absurd (let z = ap (rankIn checks) zero in omega (arith, z, none-is-0))
         go (inr x) =
             let r = refused-not (readAs k s) _ _ _ (x .1) in
             let g = given-refused (r .0) (r .1) in

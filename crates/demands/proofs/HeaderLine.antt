@@ -23,15 +23,15 @@ use Rattle.place.specs.Written.{answered, outAfter, roomHolds}
 use Rattle.base64.specs.Base64.{alphabet, letter, three, two, one, encode, isLetter, valueOf, groupHolds, groupBytes, isBase64, decode}
 use Rattle.base64.proofs.Alphabet.{is-letter}
 use Rattle.base64.proofs.Back.{back, encoded-base64, there, one-text}
-use Rattle.http_header.specs.HttpHeader.{messageHolds, headerLine, checkExport, exportAnswer, exportOut, schemeHolds, afterSpaces, textOf, base64Holds, checkText, checkImport, importAnswer, importOut}
+use Rattle.http_header.specs.HttpHeader.{messageHolds, headerLine, checkExport, exportAnswer, exportOut, schemeHolds, afterSpaces, textAfterScheme, base64Holds, checkText, checkImport, importAnswer, importOut}
 use Rattle.http_header.proofs.Laws.{line-length, line-fits}
 use Rattle.c_number.specs.Number.{writtenNumber}
-use Rattle.demands.specs.Answers.{TellsWritten}
-use Rattle.demands.specs.Order.{placeIn}
+use Rattle.demands.specs.Answers.{DecodesWritten}
+use Rattle.demands.specs.Order.{rankIn}
 use Rattle.demands.specs.WrittenExactly.{WrittenExactly}
-use Rattle.demands.specs.HeaderLine.{ExportIs, ImportIs, decodedSize, ImportFails, importOrder, HeaderIsImported, lineSize, ExportFails, HeaderIsExported, ExportKept, ImportKept, ExportTells, ImportTells, ExportShort, ImportShort, Gives, Bytes, ImportOfExport, LineOf, OneMessage, CaseAndSpacesIgnored, BytesUnread, EveryByteCounts, WorkedLines}
+use Rattle.demands.specs.HeaderLine.{ExportIs, ImportIs, decodedSize, ImportFails, importOrder, HeaderIsImported, lineSize, ExportFails, HeaderIsExported, ExportKept, ImportKept, ExportDecodes, ImportDecodes, ExportShort, ImportShort, Gives, Bytes, ImportOfExport, LineOf, OneMessage, CaseAndSpacesIgnored, BytesUnread, EveryByteCounts, WorkedLines}
 use Rattle.demands.proofs.Bools.{failed-false, chained, after-held, both-ways}
-use Rattle.demands.proofs.Answers.Told.{tells-refusal, tells-length}
+use Rattle.demands.proofs.Answers.Decoded.{decodes-refusal, decodes-length}
 use Rattle.demands.proofs.Kept.{by-verdict as kept-by-verdict}
 use Rattle.demands.proofs.Order.Rank.{FreeBy, JudgedBy, first-by}
 use Rattle.demands.proofs.WrittenExactly.{Rows, rows, free-at-first, next, room-judged, by-verdict}
@@ -41,20 +41,20 @@ use Rattle.demands.proofs.HeaderLine.Lines.{scheme-held, held-scheme, s
 -- ---- refused exactly when
 
 -- a writing whose length is known where its verdict is clear
-by-clear : (order : List ℕ) (F : ℕ → ℕ → Type 0) → Rows order F → (k : ℕ) → placeIn order k ≡ length order → (v : Verdict) (bytes : List ℕ) (size : ℕ) →
-    (v ≡ Clear → length bytes ≡ size) → JudgedBy (placeIn order) F k v → WrittenExactly (answered v bytes) order F size
+by-clear : (order : List ℕ) (F : ℕ → ℕ → Type 0) → Rows order F → (k : ℕ) → rankIn order k ≡ length order → (v : Verdict) (bytes : List ℕ) (size : ℕ) →
+    (v ≡ Clear → length bytes ≡ size) → JudgedBy (rankIn order) F k v → WrittenExactly (answered v bytes) order F size
 by-clear order F r k e Clear bytes size l j = by-verdict order F r k e Clear bytes size (l refl) j
 by-clear order F r k e (Not d) bytes size l j = by-verdict order F r k e (Not d) (replicate size 0) size (length-replicate size 0) j
 
 module _ (room : ℕ) (t : List ℕ) where
   abbrev text : List ℕ
-  text = textOf t
+  text = textAfterScheme t
 
   abbrev F : ℕ → ℕ → Type 0
   F = ImportFails room t text
 
   abbrev rank : ℕ → ℕ
-  rank = placeIn importOrder
+  rank = rankIn importOrder
 
   text-judged : FreeBy rank F 58 0 → JudgedBy rank F 0 (checkText room text)
   unfolding checkText
@@ -102,12 +102,12 @@ module _ (room : ℕ) (m : List ℕ) where
   abbrev G : ℕ → ℕ → Type 0
   G = ExportFails room m
 
-  export-judged : JudgedBy (placeIn (1 ∷ 33 ∷ [])) G 0 (checkExport room m)
+  export-judged : JudgedBy (rankIn (1 ∷ 33 ∷ [])) G 0 (checkExport room m)
   unfolding checkExport
   export-judged =
       let none = free-at-first (1 ∷ 33 ∷ []) G 1 refl in
-      chained (JudgedBy (placeIn (1 ∷ 33 ∷ [])) G 0) (messageHolds (length m)) (Not TooLong) _
-      (λ f. first-by (placeIn (1 ∷ 33 ∷ [])) G 1 0 none (refl, leb-false (length m) 65535 (failed-false _ f)))
+      chained (JudgedBy (rankIn (1 ∷ 33 ∷ [])) G 0) (messageHolds (length m)) (Not TooLong) _
+      (λ f. first-by (rankIn (1 ∷ 33 ∷ [])) G 1 0 none (refl, leb-false (length m) 65535 (failed-false _ f)))
       (λ h.
       room-judged (1 ∷ 33 ∷ []) G room (lineSize m) (length (headerLine m)) (line-length m) (λ l. (refl, l)) (λ j x. x .1) refl (omega arith)
       (next (1 ∷ 33 ∷ []) G 1 33 refl (omega arith) none (λ j x. omega (arith, x .1, leb-true (length m) 65535 (held-true _ h)))))
@@ -123,22 +123,22 @@ header-is-exported room m =
 -- what a line's message needs where its import is not refused
 pub record ImportHolds (room : ℕ) (t : List ℕ) : Type 0 where
   pub scheme : schemeHolds t ≡ Held
-  pub in-base64 : isBase64 (textOf t) ≡ true
-  pub size : length (decode (textOf t)) ≤ 65535
-  pub room-there : length (decode (textOf t)) ≤ room
+  pub in-base64 : isBase64 (textAfterScheme t) ≡ true
+  pub size : length (decode (textAfterScheme t)) ≤ 65535
+  pub room-there : length (decode (textAfterScheme t)) ≤ room
 
 pub import-holds : (room : ℕ) (t : List ℕ) → checkImport room t ≡ Clear → ImportHolds room t
 unfolding checkImport checkText
 import-holds room t h =
     let s = after-held (schemeHolds t) WrongScheme _ h in
-    let g = after-held (base64Holds (textOf t)) WrongBase64 _ (s .1) in
-    let n = after-held (messageHolds (length (decode (textOf t)))) TooLong _ (g .1) in
-    let r = after-held (roomHolds (length (decode (textOf t))) room) NoRoom _ (n .1) in
+    let g = after-held (base64Holds (textAfterScheme t)) WrongBase64 _ (s .1) in
+    let n = after-held (messageHolds (length (decode (textAfterScheme t)))) TooLong _ (g .1) in
+    let r = after-held (roomHolds (length (decode (textAfterScheme t))) room) NoRoom _ (n .1) in
     record {
       scheme = s .0;
-      in-base64 = held-true (isBase64 (textOf t)) (g .0);
-      size = leb-true (length (decode (textOf t))) 65535 (held-true _ (n .0));
-      room-there = leb-true (length (decode (textOf t))) room (held-true _ (r .0));
+      in-base64 = held-true (isBase64 (textAfterScheme t)) (g .0);
+      size = leb-true (length (decode (textAfterScheme t))) 65535 (held-true _ (n .0));
+      room-there = leb-true (length (decode (textAfterScheme t))) room (held-true _ (r .0));
     }
 
 pub export-kept : ExportKept
@@ -148,41 +148,41 @@ export-kept out m = kept-by-verdict (checkExport (length out) m) (headerLine m) 
 pub import-kept : ImportKept
 unfolding importAnswer importOut
 import-kept out t =
-    kept-by-verdict (checkImport (length out) t) (decode (textOf t)) out (λ h. import-holds (length out) t h .room-there)
+    kept-by-verdict (checkImport (length out) t) (decode (textAfterScheme t)) out (λ h. import-holds (length out) t h .room-there)
 
 -- ---- from C
 
 module _ (room : ℕ) (m : List ℕ) where
   abbrev ExportTold : Verdict → Type 0
-  ExportTold v = TellsWritten (writtenNumber (answered v (headerLine m))) (answered v (headerLine m))
+  ExportTold v = DecodesWritten (writtenNumber (answered v (headerLine m))) (answered v (headerLine m))
 
   export-told : ExportTold (checkExport room m)
   unfolding checkExport
   export-told =
-      chained ExportTold (messageHolds (length m)) (Not TooLong) _ (λ f. tells-refusal TooLong (omega arith))
-      (λ h. chained ExportTold (roomHolds (length (headerLine m)) room) (Not NoRoom) Clear (λ f. tells-refusal NoRoom (omega arith))
-      (λ k. tells-length (length (headerLine m)) (omega (arith, line-length m, leb-true (length m) 65535 (held-true _ h)))))
+      chained ExportTold (messageHolds (length m)) (Not TooLong) _ (λ f. decodes-refusal TooLong (omega arith))
+      (λ h. chained ExportTold (roomHolds (length (headerLine m)) room) (Not NoRoom) Clear (λ f. decodes-refusal NoRoom (omega arith))
+      (λ k. decodes-length (length (headerLine m)) (omega (arith, line-length m, leb-true (length m) 65535 (held-true _ h)))))
 
 module _ (room : ℕ) (t : List ℕ) where
   abbrev ImportTold : Verdict → Type 0
-  ImportTold v = TellsWritten (writtenNumber (answered v (decode (textOf t)))) (answered v (decode (textOf t)))
+  ImportTold v = DecodesWritten (writtenNumber (answered v (decode (textAfterScheme t)))) (answered v (decode (textAfterScheme t)))
 
   import-told : ImportTold (checkImport room t)
   unfolding checkImport checkText
   import-told =
-      chained ImportTold (schemeHolds t) (Not WrongScheme) _ (λ f. tells-refusal WrongScheme (omega arith))
-      (λ s. chained ImportTold (base64Holds (textOf t)) (Not WrongBase64) _ (λ f. tells-refusal WrongBase64 (omega arith))
-      (λ g. chained ImportTold (messageHolds (length (decode (textOf t)))) (Not TooLong) _ (λ f. tells-refusal TooLong (omega arith))
-      (λ h. chained ImportTold (roomHolds (length (decode (textOf t))) room) (Not NoRoom) Clear (λ f. tells-refusal NoRoom (omega arith))
-      (λ k. tells-length (length (decode (textOf t))) (omega (arith, leb-true (length (decode (textOf t))) 65535 (held-true _ h)))))))
+      chained ImportTold (schemeHolds t) (Not WrongScheme) _ (λ f. decodes-refusal WrongScheme (omega arith))
+      (λ s. chained ImportTold (base64Holds (textAfterScheme t)) (Not WrongBase64) _ (λ f. decodes-refusal WrongBase64 (omega arith))
+      (λ g. chained ImportTold (messageHolds (length (decode (textAfterScheme t)))) (Not TooLong) _ (λ f. decodes-refusal TooLong (omega arith))
+      (λ h. chained ImportTold (roomHolds (length (decode (textAfterScheme t))) room) (Not NoRoom) Clear (λ f. decodes-refusal NoRoom (omega arith))
+      (λ k. decodes-length (length (decode (textAfterScheme t))) (omega (arith, leb-true (length (decode (textAfterScheme t))) 65535 (held-true _ h)))))))
 
-pub export-tells : ExportTells
+pub export-decodes : ExportDecodes
 unfolding exportAnswer
-export-tells room m = export-told room m
+export-decodes room m = export-told room m
 
-pub import-tells : ImportTells
+pub import-decodes : ImportDecodes
 unfolding importAnswer
-import-tells room t = import-told room t
+import-decodes room t = import-told room t
 
 -- ---- import of an export
 
@@ -212,8 +212,8 @@ export-is out m n h = exported out m n h
 pub import-is : ImportIs
 unfolding importAnswer importOut
 import-is out t b n a h =
-    let k = import-holds (length out) t (clear-answer (decode (textOf t)) out n (checkImport (length out) t) h) in
-    ap encode (front (decode (textOf t)) out n (checkImport (length out) t) h) ∙ there (textOf t) (k .in-base64) ∙ sym (text-is t b a)
+    let k = import-holds (length out) t (clear-answer (decode (textAfterScheme t)) out n (checkImport (length out) t) h) in
+    ap encode (front (decode (textAfterScheme t)) out n (checkImport (length out) t) h) ∙ there (textAfterScheme t) (k .in-base64) ∙ sym (text-is t b a)
 
 short-message : (room : ℕ) (m : List ℕ) (n : ℕ) → exportAnswer room m ≡ Length n → length m ≤ 65535
 unfolding exportAnswer checkExport
@@ -230,8 +230,8 @@ unfolding importAnswer
 import-short room t n h =
     omega (
       arith,
-      import-holds room t (clear-answer (decode (textOf t)) [] n (checkImport room t) h) .size,
-      length-answer (decode (textOf t)) [] n (checkImport room t) h,
+      import-holds room t (clear-answer (decode (textAfterScheme t)) [] n (checkImport room t) h) .size,
+      length-answer (decode (textAfterScheme t)) [] n (checkImport room t) h,
     )
 
 are-bytes : (m : List ℕ) → Bytes m → areBytes m ≡ true
@@ -253,8 +253,8 @@ starts (a ∷ b ∷ []) h = starts-so _ (no-space (a / 4) (omega (arith, ltb-tru
 starts (a ∷ b ∷ c ∷ m) h = starts-so _ (no-space (a / 4) (omega (arith, ltb-true a 256 (and-left _ (areBytes (b ∷ c ∷ m)) h))))
 
 module _ (m : List ℕ) (h : areBytes m ≡ true) where
-  text-back : textOf (headerLine m) ≡ encode m
-  unfolding textOf headerLine
+  text-back : textAfterScheme (headerLine m) ≡ encode m
+  unfolding textAfterScheme headerLine
   text-back = starts m h
 
   scheme-back : schemeHolds (headerLine m) ≡ Held
@@ -268,7 +268,7 @@ module _ (m : List ℕ) (h : areBytes m ≡ true) where
   check-back room size g =
       simp (scheme-back, text-back, encoded-base64 m h, back m h, le-leb (length m) 65535 size, le-leb (length m) room g)
 
-  message-back : decode (textOf (headerLine m)) ≡ m
+  message-back : decode (textAfterScheme (headerLine m)) ≡ m
   message-back = ap decode text-back ∙ back m h
 
   gives-back : (out : List ℕ) → length m ≤ 65535 → length m ≤ length out → Gives (headerLine m) out m
@@ -291,26 +291,26 @@ import-of-export m out other n b e room =
 -- a line that gives a message has its checks held, and its text stands for the message
 record Given (t m : List ℕ) : Type 0 where
   scheme : schemeHolds t ≡ Held
-  in-base64 : isBase64 (textOf t) ≡ true
-  stands-for : decode (textOf t) ≡ m
+  in-base64 : isBase64 (textAfterScheme t) ≡ true
+  stands-for : decode (textAfterScheme t) ≡ m
 
 given : (t out m : List ℕ) → Gives t out m → Given t m
 unfolding importAnswer importOut
 given t out m g =
-    let h = import-holds (length out) t (clear-answer (decode (textOf t)) out (length m) (checkImport (length out) t) (g .answer)) in
+    let h = import-holds (length out) t (clear-answer (decode (textAfterScheme t)) out (length m) (checkImport (length out) t) (g .answer)) in
     record {
       scheme = h .scheme;
       in-base64 = h .in-base64;
-      stands-for = sym (front (decode (textOf t)) out (length m) (checkImport (length out) t) (g .answer)) ∙ g .message;
+      stands-for = sym (front (decode (textAfterScheme t)) out (length m) (checkImport (length out) t) (g .answer)) ∙ g .message;
     }
 
 pub one-message : OneMessage
 one-message s t out other m g h =
     let a = given s out m g in
     let b = given t other m h in
-    let same = one-text (textOf s) (textOf t) (a .in-base64) (b .in-base64) (a .stands-for ∙ sym (b .stands-for)) in
+    let same = one-text (textAfterScheme s) (textAfterScheme t) (a .in-base64) (b .in-base64) (a .stands-for ∙ sym (b .stands-for)) in
     record {
-      text = textOf s;
+      text = textAfterScheme s;
       one = line-of s (held-scheme s (a .scheme));
       other = subst (λ (x : List ℕ). LineOf x t) (sym same) (line-of t (held-scheme t (b .scheme)));
     }
@@ -339,12 +339,12 @@ pub every-byte-counts : EveryByteCounts
 every-byte-counts m k out other n p hm hk em ek e =
     let a = are-bytes m hm in
     let b = are-bytes k hk in
-    sym (message-back m a) ∙ ap (λ (t : List ℕ). decode (textOf t)) (sym (exported out m n em) ∙ e ∙ exported other k p ek) ∙ message-back k b
+    sym (message-back m a) ∙ ap (λ (t : List ℕ). decode (textAfterScheme t)) (sym (exported out m n em) ∙ e ∙ exported other k p ek) ∙ message-back k b
 
 -- ---- worked lines
 
 pub worked-lines : WorkedLines
-unfolding alphabet isLetter valueOf groupHolds groupBytes three two one headerLine checkExport exportAnswer exportOut schemeHolds textOf checkText checkImport importAnswer importOut
+unfolding alphabet isLetter valueOf groupHolds groupBytes three two one headerLine checkExport exportAnswer exportOut schemeHolds textAfterScheme checkText checkImport importAnswer importOut
 worked-lines =
     record {
       written = refl;

@@ -16,7 +16,7 @@ use Rattle.write_authenticate.proofs.Sent as AuthenticateSent
 use Rattle.write_negotiate.specs.Writing as N
 use Rattle.write_negotiate.specs.Writing.{negotiateBytes, flagsToWrite}
 use Rattle.write_negotiate.proofs.Sent as NegotiateSent
-use Rattle.write_dns_name.specs.Writing.{labelsOf, labelBytes, coded, nameBytes}
+use Rattle.write_dns_name.specs.Writing.{splitLabels, labelBytes, coded, nameBytes}
 use Rattle.nl_auth_flags.specs.declared.NlAuthFlags.{NlAuthFlags}
 use Rattle.nl_auth_flags.specs.Flags.{known}
 use Rattle.write_nl_auth.specs.Writing as R
@@ -134,17 +134,17 @@ unfolding coded labelBytes
 labelled-is [] = refl
 labelled-is (l ∷ ls) = ap (λ (x : List ℕ). (length l ∷ l) ++ x) (labelled-is ls)
 
-name-is : (t : List ℕ) → nameBytes t ≡ labelled (labelsOf t)
+name-is : (t : List ℕ) → nameBytes t ≡ labelled (splitLabels t)
 unfolding nameBytes
-name-is t = labelled-is (labelsOf t)
+name-is t = labelled-is (splitLabels t)
 
 request-laid-out : (flags : NlAuthFlags) (a b c d e : List ℕ) → RequestLaidOut (requestBytes (known flags) a b c d e) (flags .bits) a b c d e
-unfolding requestBytes R.headBytes R.stringBytes R.bytesUnder R.oemBytes R.nameUnder R.utf8Bytes le32 le16
+unfolding requestBytes R.typeAndFlags R.zeroTerminated R.bytesUnder R.oemBytes R.nameBytesUnder R.utf8Bytes le32 le16
 request-laid-out flags a b c d e =
     record {
-      c-labels = labelsOf c;
-      d-labels = labelsOf d;
-      e-labels = labelsOf e;
+      c-labels = splitLabels c;
+      d-labels = splitLabels d;
+      e-labels = splitLabels e;
       c-text = text-labels c;
       d-text = text-labels d;
       e-text = text-labels e;
@@ -160,5 +160,5 @@ nl-request-by-layout out flags a b c d e n h =
     (request-laid-out flags a b c d e)
 
 pub nl-response-by-layout : NlResponseByLayout
-unfolding R.responseBytes R.headBytes le32 le16
+unfolding R.responseBytes R.typeAndFlags le32 le16
 nl-response-by-layout out n h = response-is out n h

@@ -17,7 +17,7 @@ use borrow.Author.Tests.{ltb-true, leb-false}
 use Rattle.wire.proofs.Bools.{and-left, and-right}
 use Rattle.line_words.specs.Digits.{hexDigit, hex}
 use Rattle.line_words.specs.Name.{escape, unitText, textOf, nameText}
-use Rattle.line_dns_name.specs.DnsNameText.{byteText, labelText, partText, joined, nameText as dnsText}
+use Rattle.line_dns_name.specs.DnsNameText.{byteText, labelText, partText, joined, dnsNameText as dnsText}
 use Rattle.wire.specs.declared.refusal.Refusal.{Refusal}
 use Rattle.wire.specs.declared.refusal.Refusal.the-variants.{NoRoom}
 use Rattle.wire.specs.Refusal.{numberOf, fieldOf, placeOf}

@@ -13,7 +13,7 @@ use Rattle.read_challenge.specs.declared.Reading.the-variants.{Taken as Challen
 use Rattle.read_negotiate.specs.declared.Fields.{Fields as NegotiateFields}
 use Rattle.read_negotiate.specs.declared.Reading.{Reading as NegotiateReading}
 use Rattle.read_negotiate.specs.declared.Reading.the-variants.{Taken as NegotiateTaken, Refused as NegotiateRefused}
-use Rattle.demands.specs.MaxLen.{bareAuthenticate, bareChallenge, bareNegotiate}
+use Rattle.demands.specs.MaxLen.{authenticateWithoutMaxLen, challengeWithoutMaxLen, negotiateWithoutMaxLen}
 use Rattle.demands.proofs.Bools.{true-not-false}
 
 -- a record as it is, or without its MaxLen
@@ -46,7 +46,7 @@ unfolding kept
 as-it-is (Taken a) = refl
 as-it-is (Refused e) = refl
 
-pub bare-is : (r : Reading) → bareAuthenticate r ≡ keptReading false r
+pub bare-is : (r : Reading) → authenticateWithoutMaxLen r ≡ keptReading false r
 unfolding kept
 bare-is (Taken a) = refl
 bare-is (Refused e) = refl
@@ -68,7 +68,7 @@ unfolding kept
 challenge-as-it-is (ChallengeTaken c) = refl
 challenge-as-it-is (ChallengeRefused e) = refl
 
-pub challenge-bare-is : (r : ChallengeReading) → bareChallenge r ≡ keptChallenge false r
+pub challenge-bare-is : (r : ChallengeReading) → challengeWithoutMaxLen r ≡ keptChallenge false r
 unfolding kept
 challenge-bare-is (ChallengeTaken c) = refl
 challenge-bare-is (ChallengeRefused e) = refl
@@ -87,7 +87,7 @@ unfolding kept
 negotiate-as-it-is (NegotiateTaken x) = refl
 negotiate-as-it-is (NegotiateRefused e) = refl
 
-pub negotiate-bare-is : (r : NegotiateReading) → bareNegotiate r ≡ keptNegotiate false r
+pub negotiate-bare-is : (r : NegotiateReading) → negotiateWithoutMaxLen r ≡ keptNegotiate false r
 unfolding kept
 negotiate-bare-is (NegotiateTaken x) = refl
 negotiate-bare-is (NegotiateRefused e) = refl

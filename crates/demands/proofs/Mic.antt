@@ -25,22 +25,22 @@ use Rattle.read_authenticate.specs.Authenticate.{readAuthenticate}
 use Rattle.mic.specs.declared.Checking.the-variants.{Compared, Refused}
 use Rattle.head.specs.declared.Kind.the-variants.{Negotiate, Challenge}
 use Rattle.verdict.specs.Verdict.{authVerdict, readAs}
-use Rattle.mic.specs.Mic.{zeroed, micOf, keyHolds, authenticateVerdict, checkMessages, whenClear, workOut, checkMic}
+use Rattle.mic.specs.Mic.{zeroed, micOf, keySizeHolds, authenticateVerdict, checkInputs, whenClear, computedMic, checkMic}
 use Rattle.mic.proofs.Laws.{passed}
 use Rattle.place.specs.Written.{roomHolds}
 use Rattle.c_number.specs.Number.{refusalNumber, bit}
 use Rattle.c_number.specs.Outcome.{callNumber, callOut, outcomeNumber}
 use Rattle.c_mic.specs.Numbers.{handedOut, micOutcome, checkingNumber}
-use Rattle.demands.specs.Answers.{isRefused, TellsLength, TellsRefusal, TellsOutcome, TellsVerdict}
-use Rattle.demands.specs.FromC.{work-out-mic}
+use Rattle.demands.specs.Answers.{isRefused, DecodesLength, DecodesRefusal, DecodesOutcome, DecodesVerdict}
+use Rattle.demands.specs.FromC.{compute-mic}
 use Rattle.demands.specs.Kept.{Front}
 use Rattle.demands.specs.Message.{negotiate, challenge, authenticate, MicThere, Fails}
 use Rattle.demands.specs.TakenExactly.{RefusalIs, Judged, NoneFails, FirstFails, InfoBytes, ChallengeHolds, ChallengeFails, in-fields, in-list}
-use Rattle.demands.specs.Mic.{MicHolds, MicFails, wrong-key, in-negotiate, in-challenge, in-authenticate, no-mic, MicJudged, MicRefusedZeros, MicIs, micNumber, MicTells, TellsChecking, CheckMicTells, MicAgree, MicBlind, SameMicRefusals, MicSecret, MicUnwritten, MicKept}
+use Rattle.demands.specs.Mic.{MicHolds, MicFails, wrong-key, in-negotiate, in-challenge, in-authenticate, no-mic, MicJudged, MicRefusedZeros, MicIs, micNumber, MicDecodes, DecodesChecking, CheckMicDecodes, MicAgree, MicBlind, SameMicRefusals, MicSecret, MicUnwritten, MicKept}
 use Rattle.demands.proofs.Alike.{same-part}
-use Rattle.demands.proofs.Answers.{call-tells}
+use Rattle.demands.proofs.Answers.{call-decodes}
 use Rattle.demands.proofs.Answers.SmallFields.{SmallV, mic-small}
-use Rattle.demands.proofs.Answers.Told.{tells-length, tells-refusal}
+use Rattle.demands.proofs.Answers.Decoded.{decodes-length, decodes-refusal}
 use Rattle.demands.proofs.First64.{authenticate-same}
 use Rattle.demands.proofs.Judged.{judged-same, check-judged, as-verdict, judged-then}
 use Rattle.demands.proofs.Kept.CallFront.{at-front, mic-length}
@@ -88,11 +88,11 @@ module _ (size : ℕ) (nego chal info auth : List ℕ) (known : InfoBytes chal i
       FirstFails (Fails negotiate nego) n i p ⊎ (NoneFails (Fails negotiate nego) × (
       ChallengeFails chal info n i p ⊎ (ChallengeHolds chal info × AuthFails n i p)))))
 
-  in-turn : Judged (checkMessages size nego chal auth) AllHolds FirstFailed
-  unfolding checkMessages
+  in-turn : Judged (checkInputs size nego chal auth) AllHolds FirstFailed
+  unfolding checkInputs
   in-turn =
-      subst (λ (v : Verdict). Judged v AllHolds FirstFailed) (as-verdict (keyHolds size) WrongSessionKey _)
-      (judged-then (after (keyHolds size) (Not WrongSessionKey) Clear) _ (check-judged (size ≡ 16) (eqb size 16) WrongSessionKey (eqb-true size 16) (eqb-false size 16)) (λ k.
+      subst (λ (v : Verdict). Judged v AllHolds FirstFailed) (as-verdict (keySizeHolds size) WrongSessionKey _)
+      (judged-then (after (keySizeHolds size) (Not WrongSessionKey) Clear) _ (check-judged (size ≡ 16) (eqb size 16) WrongSessionKey (eqb-true size 16) (eqb-false size 16)) (λ k.
       judged-then (readAs Negotiate nego) _ (negotiate-judged nego) (λ n.
       judged-then (readAs Challenge chal) _ (challenge-judged chal info known) (λ c. auth-judged))))
 
@@ -112,8 +112,8 @@ module _ (size : ℕ) (nego chal info auth : List ℕ) (known : InfoBytes chal i
   failed-first n i p (in-authenticate k none c f z) = inr (k, inr (none, inr (c, inl (f, z))))
   failed-first n i p (no-mic k none c f m a b z) = inr (k, inr (none, inr (c, inr (f, (m, (sym a, sym b, sym z))))))
 
-  all-judged : Judged (checkMessages size nego chal auth) (MicHolds size nego chal info auth) (MicFails size nego chal info auth)
-  all-judged = judged-same (checkMessages size nego chal auth) holds (λ n i p. (first-failed n i p, failed-first n i p)) in-turn where
+  all-judged : Judged (checkInputs size nego chal auth) (MicHolds size nego chal info auth) (MicFails size nego chal info auth)
+  all-judged = judged-same (checkInputs size nego chal auth) holds (λ n i p. (first-failed n i p, failed-first n i p)) in-turn where
     holds : AllHolds ↔ MicHolds size nego chal info auth
     holds = (
       λ x. record { key = x .0; nego-taken = x .1 .0; chal-taken = x .1 .1 .0; auth-taken = x .1 .1 .1 .0; mic = x .1 .1 .1 .1 },
@@ -121,15 +121,15 @@ module _ (size : ℕ) (nego chal info auth : List ℕ) (known : InfoBytes chal i
     )
 
 pub mic-judged : MicJudged
-unfolding workOut
+unfolding computedMic
 mic-judged key nego chal info auth known = all-judged (length key) nego chal info auth known
 
 pub mic-refused-zeros : MicRefusedZeros
-unfolding workOut
+unfolding computedMic
 mic-refused-zeros key nego chal auth e h = simp h
 
 pub mic-is : MicIs
-unfolding workOut micOf zeroed
+unfolding computedMic micOf zeroed
 mic-is key nego chal auth h = simp h
 
 -- ---- sixteen bytes, and whether they stand at 72
@@ -156,13 +156,13 @@ not-refused true = refl
 not-refused false = refl
 
 pub mic-agree : MicAgree
-unfolding workOut checkMic callNumber
+unfolding computedMic checkMic callNumber
 mic-agree key nego chal auth =
     record {
-      refused = refused-both (checkMessages (length key) nego chal auth) (standsAt auth 72 mic);
-      yes = yes-both (checkMessages (length key) nego chal auth) refl;
-      refused-from-c = λ room l. simp (le-leb 16 room l) (top-same (checkMessages (length key) nego chal auth) (standsAt auth 72 mic));
-      same-number = λ room l h. simp (le-leb 16 room l) (number-same (checkMessages (length key) nego chal auth) (standsAt auth 72 mic) h);
+      refused = refused-both (checkInputs (length key) nego chal auth) (standsAt auth 72 mic);
+      yes = yes-both (checkInputs (length key) nego chal auth) refl;
+      refused-from-c = λ room l. simp (le-leb 16 room l) (top-same (checkInputs (length key) nego chal auth) (standsAt auth 72 mic));
+      same-number = λ room l h. simp (le-leb 16 room l) (number-same (checkInputs (length key) nego chal auth) (standsAt auth 72 mic) h);
     }
   where
     mic : List ℕ
@@ -181,7 +181,7 @@ mic-agree key nego chal auth =
     number-same Clear b h = absurd (omega (arith, not-refused b, h))
     number-same (Not e) b h = refl
 
-    yes-both : (v : Verdict) → checkMessages (length key) nego chal auth ≡ v →
+    yes-both : (v : Verdict) → checkInputs (length key) nego chal auth ≡ v →
         (onClear Refused v (Compared (standsAt auth 72 mic)) ≡ Compared true) ↔ ((v ≡ Clear) × (take 16 (drop 72 auth) ≡ whenClear v mic))
     yes-both Clear e = (
       λ h. (refl, there-same auth mic (passed (length key) nego chal auth e .mic-inside) (mic-length key nego chal auth) (let b : standsAt auth 72 mic ≡ true = cc in b)),
@@ -192,17 +192,17 @@ mic-agree key nego chal auth =
 -- ---- what the verdict depends on
 
 verdict-same : (s t : List ℕ) → length s ≡ length t → ((p : ℕ) → p < 64 → getD s p 0 ≡ getD t p 0) → (n : ℕ) (nego chal : List ℕ) →
-    checkMessages n nego chal s ≡ checkMessages n nego chal t
-unfolding checkMessages
+    checkInputs n nego chal s ≡ checkInputs n nego chal t
+unfolding checkInputs
 verdict-same s t long first n nego chal = simp (authenticate-same s t long first)
 
 -- ---- the MIC's own bytes
 
 pub mic-blind : MicBlind
-unfolding workOut micOf zeroed
+unfolding computedMic micOf zeroed
 mic-blind key nego chal s t d =
     let at : (p : ℕ) → ((72 ≤ p) × (p < 88) → ⊥) → getD s p 0 ≡ getD t p 0 = λ p out. ⊎-elim (λ e. e) (λ x. absurd (out x)) (d .elsewhere p) in
-    let v : checkMessages (length key) nego chal s ≡ checkMessages (length key) nego chal t =
+    let v : checkInputs (length key) nego chal s ≡ checkInputs (length key) nego chal t =
     verdict-same s t (d .length-same) (λ p l. at p (λ x. omega arith)) (length key) nego chal in
     let a : take 72 s ≡ take 72 t = same-part s t (d .length-same) 0 72 (λ p l m. at p (λ x. omega arith)) in
     let all : (u : List ℕ) → take (length u) (drop 88 u) ≡ drop 88 u = λ u. take-all (length u) (drop 88 u) (simp length-drop (omega arith)) in
@@ -228,64 +228,64 @@ refused-by Clear a b h = absurd (omega (arith, not-refused a, h))
 refused-by (Not e) a b h = refl
 
 -- both calls have the same refusals where the messages' checks have the same outcome
-pub same-refusals : (key nego chal s key′ nego′ chal′ t : List ℕ) → checkMessages (length key) nego chal s ≡ checkMessages (length key′) nego′ chal′ t →
+pub same-refusals : (key nego chal s key′ nego′ chal′ t : List ℕ) → checkInputs (length key) nego chal s ≡ checkInputs (length key′) nego′ chal′ t →
     SameMicRefusals key nego chal s key′ nego′ chal′ t
-unfolding workOut checkMic callNumber
+unfolding computedMic checkMic callNumber
 same-refusals key nego chal s key′ nego′ chal′ t v =
     let p = mic-agree key nego chal s in
     let q = mic-agree key′ nego′ chal′ t in
     let yes = standsAt s 72 (micOf key nego chal s) in
     let yes′ = standsAt t 72 (micOf key′ nego′ chal′ t) in
     record {
-      worked = v;
+      computed = v;
       checked = λ e. (λ h. q .refused e .1 (sym v ∙ p .refused e .0 h), λ h. p .refused e .1 (v ∙ q .refused e .0 h));
       from-c = λ room.
           ap (λ (x : ℕ). after (roomHolds 16 room) (refusalNumber NoRoom) x)
-          (ap (λ (w : Verdict). outcomeNumber (handedOut w (whenClear (checkMessages (length key) nego chal s) (micOf key nego chal s)))) v
-          ∙ number-by (checkMessages (length key′) nego′ chal′ t) _ _);
+          (ap (λ (w : Verdict). outcomeNumber (handedOut w (whenClear (checkInputs (length key) nego chal s) (micOf key nego chal s)))) v
+          ∙ number-by (checkInputs (length key′) nego′ chal′ t) _ _);
       check-refused =
-          checked-by (checkMessages (length key) nego chal s) yes yes′
+          checked-by (checkInputs (length key) nego chal s) yes yes′
           ∙ ap (λ (w : Verdict). isRefused (checkingNumber (onClear Refused w (Compared yes′)))) v;
       check-from-c = λ h.
-          refused-by (checkMessages (length key) nego chal s) yes yes′ h
+          refused-by (checkInputs (length key) nego chal s) yes yes′ h
           ∙ ap (λ (w : Verdict). checkingNumber (onClear Refused w (Compared yes′))) v;
     }
 
 pub mic-secret : MicSecret
 mic-secret key key′ nego chal s t k long first =
     same-refusals key nego chal s key′ nego chal t
-    (verdict-same s t long first (length key) nego chal ∙ ap (λ (n : ℕ). checkMessages n nego chal t) k)
+    (verdict-same s t long first (length key) nego chal ∙ ap (λ (n : ℕ). checkInputs n nego chal t) k)
 
 -- ---- from C
 
-pub mic-tells : MicTells
-unfolding workOut
-mic-tells room key nego chal auth =
-    let w = call-tells (work-out-mic key nego chal auth) room in
-    (w .0, λ l. go (checkMessages (length key) nego chal auth) (w .1 l))
+pub mic-decodes : MicDecodes
+unfolding computedMic
+mic-decodes room key nego chal auth =
+    let w = call-decodes (compute-mic key nego chal auth) room in
+    (w .0, λ l. go (checkInputs (length key) nego chal auth) (w .1 l))
   where
     mic : List ℕ
     mic = micOf key nego chal auth
 
-    go : (v : Verdict) → TellsOutcome (callNumber 16 (handedOut v (whenClear v mic)) room) (handedOut v (whenClear v mic)) →
-        TellsVerdict (callNumber 16 (handedOut v (whenClear v mic)) room) v
+    go : (v : Verdict) → DecodesOutcome (callNumber 16 (handedOut v (whenClear v mic)) room) (handedOut v (whenClear v mic)) →
+        DecodesVerdict (callNumber 16 (handedOut v (whenClear v mic)) room) v
     go Clear w = w
     go (Not e) w = w
 
-pub check-mic-tells : CheckMicTells
+pub check-mic-decodes : CheckMicDecodes
 unfolding checkMic
-check-mic-tells key nego chal auth =
-    go (checkMessages (length key) nego chal auth) (standsAt auth 72 (micOf key nego chal auth)) (mic-small (length key) nego chal auth)
+check-mic-decodes key nego chal auth =
+    go (checkInputs (length key) nego chal auth) (standsAt auth 72 (micOf key nego chal auth)) (mic-small (length key) nego chal auth)
   where
-    go : (v : Verdict) (b : Bool) → SmallV v → TellsChecking (checkingNumber (onClear Refused v (Compared b))) (onClear Refused v (Compared b))
-    go Clear true w = tells-length 1 (omega arith)
-    go Clear false w = tells-length 0 (omega arith)
-    go (Not e) b w = tells-refusal e w
+    go : (v : Verdict) (b : Bool) → SmallV v → DecodesChecking (checkingNumber (onClear Refused v (Compared b))) (onClear Refused v (Compared b))
+    go Clear true w = decodes-length 1 (omega arith)
+    go Clear false w = decodes-length 0 (omega arith)
+    go (Not e) b w = decodes-refusal e w
 
 -- ---- kept
 
 -- no message is refused 33
-not-33 : (n : ℕ) (nego chal auth : List ℕ) (e : Refusal) → checkMessages n nego chal auth ≡ Not e → numberOf e ≡ 33 → ⊥
+not-33 : (n : ℕ) (nego chal auth : List ℕ) (e : Refusal) → checkInputs n nego chal auth ≡ Not e → numberOf e ≡ 33 → ⊥
 not-33 n nego chal auth e h = go (info-there chal) where
   go : (b : List ℕ) × InfoBytes chal b → numberOf e ≡ 33 → ⊥
   go i = fails-otherwise (all-judged n nego chal (i .0) auth (i .1) .refused (numberOf e) (fieldOf e) (placeOf e) .0 (rw h (refl, refl, refl))) where
@@ -298,19 +298,19 @@ not-33 n nego chal auth e h = go (info-there chal) where
     fails-otherwise (no-mic k none c f t a b z) q = omega (arith, a)
 
 pub mic-kept : MicKept
-unfolding workOut callOut
-mic-kept key nego chal auth out = go (leb 16 (length out)) refl (checkMessages (length key) nego chal auth) refl where
+unfolding computedMic callOut
+mic-kept key nego chal auth out = go (leb 16 (length out)) refl (checkInputs (length key) nego chal auth) refl where
   mic : List ℕ
   mic = micOf key nego chal auth
 
-  told : (length out < 16 → TellsRefusal (micNumber (length out) key nego chal auth) NoRoom)
-      × (16 ≤ length out → TellsVerdict (micNumber (length out) key nego chal auth) (workOut key nego chal auth .verdict))
-  told = mic-tells (length out) key nego chal auth
+  told : (length out < 16 → DecodesRefusal (micNumber (length out) key nego chal auth) NoRoom)
+      × (16 ≤ length out → DecodesVerdict (micNumber (length out) key nego chal auth) (computedMic key nego chal auth .verdict))
+  told = mic-decodes (length out) key nego chal auth
 
-  unwritten : (d : Refusal) → 16 ≤ length out → checkMessages (length key) nego chal auth ≡ Not d →
-      callOut 16 (micOutcome (workOut key nego chal auth)) out ≡ out → MicUnwritten key nego chal auth out d
+  unwritten : (d : Refusal) → 16 ≤ length out → checkInputs (length key) nego chal auth ≡ Not d →
+      callOut 16 (micOutcome (computedMic key nego chal auth)) out ≡ out → MicUnwritten key nego chal auth out d
   unwritten d l h same =
-      let t : TellsRefusal (micNumber (length out) key nego chal auth) d = subst (TellsVerdict (micNumber (length out) key nego chal auth)) h (told .1 l) in
+      let t : DecodesRefusal (micNumber (length out) key nego chal auth) d = subst (DecodesVerdict (micNumber (length out) key nego chal auth)) h (told .1 l) in
       record {
         unchanged = same;
         answer = t;
@@ -318,13 +318,13 @@ mic-kept key nego chal auth out = go (leb 16 (length out)) refl (checkMessages (
         no-room = (λ q. absurd (not-33 (length key) nego chal auth d h (sym (t .number) ∙ q)), λ m. absurd (omega arith));
       }
 
-  go : (b : Bool) → leb 16 (length out) ≡ b → (v : Verdict) → checkMessages (length key) nego chal auth ≡ v →
-      ((micNumber (length out) key nego chal auth ≡ 0) × (workOut key nego chal auth .verdict ≡ Clear)
-      × Front (workOut key nego chal auth .mic) out (callOut 16 (micOutcome (workOut key nego chal auth)) out))
+  go : (b : Bool) → leb 16 (length out) ≡ b → (v : Verdict) → checkInputs (length key) nego chal auth ≡ v →
+      ((micNumber (length out) key nego chal auth ≡ 0) × (computedMic key nego chal auth .verdict ≡ Clear)
+      × Front (computedMic key nego chal auth .mic) out (callOut 16 (micOutcome (computedMic key nego chal auth)) out))
       ⊎ ((e : Refusal) × MicUnwritten key nego chal auth out e)
   go true e Clear h =
       let l = leb-true 16 (length out) e in
-      let t : TellsLength (micNumber (length out) key nego chal auth) 0 = subst (TellsVerdict (micNumber (length out) key nego chal auth)) h (told .1 l) in
+      let t : DecodesLength (micNumber (length out) key nego chal auth) 0 = subst (DecodesVerdict (micNumber (length out) key nego chal auth)) h (told .1 l) in
       inl (t .is-length, h, simp (e, h) (at-front mic out (omega (arith, l, mic-length key nego chal auth))))
   go true e (Not d) h = inr (d, unwritten d (leb-true 16 (length out) e) h (simp (e, h)))
   go false e v h =

@@ -20,7 +20,7 @@ use Rattle.md5.specs.Block.{step, steppedBy, turns, round, added, blockTaken}
 use Rattle.md5.specs.Digest.{padding, start, wordBytes, md5}
 use Rattle.hmac_md5.specs.Hmac.{filledOut, keyBlock, hmac}
 use Rattle.mic.specs.declared.Checking.the-variants.{Compared}
-use Rattle.mic.specs.Mic.{zeroed, micOf, checkMessages, workOut, checkMic}
+use Rattle.mic.specs.Mic.{zeroed, micOf, checkInputs, computedMic, checkMic}
 use Rattle.demands.specs.TakenExactly.{InfoBytes}
 use Rattle.demands.specs.Mic.{DifferInMic}
 use Rattle.demands.specs.MicExample.{key, nego, chal, info, auth, mic, otherChal, otherAuth, MicExample}
@@ -41,8 +41,8 @@ bytes-of-other =
     }
 
 -- the three readings, and those with another challenge and another MIC
-clear : (checkMessages 16 nego chal auth ≡ Clear) × (checkMessages 16 nego otherChal auth ≡ Clear) × (checkMessages 16 nego chal otherAuth ≡ Clear)
-unfolding checkMessages readNegotiate negotiateFieldsAt negotiateEnds negotiateBegins negotiateChecks readHead signatureHolds fieldAt fieldBytes readChallenge challengeReadingOf checkInfo fieldsOf challengeFieldsAt challengeEnds challengeBegins challengeNames challengeChecks checkPairs stepAt pairOf left readAuthenticate readingOf fieldsAt checkEnds checkBegins checkNames checkShared checkFields micPresent
+clear : (checkInputs 16 nego chal auth ≡ Clear) × (checkInputs 16 nego otherChal auth ≡ Clear) × (checkInputs 16 nego chal otherAuth ≡ Clear)
+unfolding checkInputs readNegotiate negotiateFieldsAt negotiateEnds negotiateBegins negotiateChecks readHead signatureHolds fieldAt fieldBytes readChallenge challengeReadingOf checkInfo fieldsOf challengeFieldsAt challengeEnds challengeBegins challengeNames challengeChecks checkPairs stepAt pairOf left readAuthenticate readingOf fieldsAt checkEnds checkBegins checkNames checkShared checkFields micPresent
 clear = (refl, refl, refl)
 
 worked-out : micOf key nego chal auth ≡ mic
@@ -61,13 +61,13 @@ differs = record { length-same = refl; elsewhere = λ p. go p (eqb p 72) refl } 
   go p false e = inl (sym (getD-set-other auth 72 p 0xB7 0 (eqb-false p 72 e)))
 
 pub mic-example : MicExample
-unfolding workOut checkMic checkMessages
+unfolding computedMic checkMic checkInputs
 mic-example =
     record {
       info-bytes = bytes-of-info;
       holds = mic-judged key nego chal info auth bytes-of-info .taken .0 (rw (clear .0) tt);
       verdict = clear .0;
-      worked = simp (clear .0, worked-out);
+      computed = simp (clear .0, worked-out);
       yes = mic-agree key nego chal auth .yes .1 (clear .0, simp (clear .0, worked-out));
       other-holds = mic-judged key nego otherChal info auth bytes-of-other .taken .0 (rw (clear .1) tt);
       no = no .0;

@@ -32,7 +32,7 @@ use Rattle.read_dns_name.proofs.Exact.{taken, refused}
 use Rattle.read_nl_auth.proofs.Names.{own-bytes}
 use Rattle.read_nl_auth.proofs.Places.{nl-auth-placeless}
 use Rattle.nl_auth_flags.specs.Flags.{nbDomain, nbComputer, dnsDomain, dnsHost, utf8Computer, stringsHold}
-use Rattle.read_nl_auth.specs.NlAuth.{noString, beforeZero, holdsZero, stringAt, stringUnder, onFound, refusalIn, nameString, onName, nameAt, nameUnder, onNamed, flagsAt, readUtf8, readRequest, readResponse, readNlAuth}
+use Rattle.read_nl_auth.specs.NlAuth.{noString, stringLength, holdsZero, stringAt, stringUnder, onFound, refusalIn, nameString, onName, nameAt, nameUnder, onNamed, flagsAt, readUtf8, readRequest, readResponse, readNlAuth}
 use Rattle.demands.specs.Order.{check}
 use Rattle.demands.specs.NlAuth.{typeOf, numbered, maskOf, BitSet, ZeroAt, StandsAt, plain, name, FaultIn, no-zero, in-name, Strings, StartsAt, StringFails, NlFails, stepOf, NlFirst}
 use Rattle.demands.specs.OwnBytes.{OwnString, OwnName, OwnRequest, OwnResponse, NlAuthOwn}
@@ -46,23 +46,23 @@ use Rattle.demands.proofs.Bools.{both-ways, failed-false, or-left, or-r
 -- ---- one string
 
 -- before the first zero byte of a list there is none
-pub before-nonzero : (l : List ℕ) (k : ℕ) → k < beforeZero l → getD l k 0 ≡ 0 → ⊥
+pub before-nonzero : (l : List ℕ) (k : ℕ) → k < stringLength l → getD l k 0 ≡ 0 → ⊥
 before-nonzero [] k h e = omega arith
 before-nonzero (b ∷ bs) zero h e = go (eqb b 0) refl h where
-  go : (t : Bool) → eqb b 0 ≡ t → 0 < cond t 0 (suc (beforeZero bs)) → ⊥
+  go : (t : Bool) → eqb b 0 ≡ t → 0 < cond t 0 (suc (stringLength bs)) → ⊥
   go true p q = omega arith
   go false p q = eqb-false b 0 p e
 before-nonzero (b ∷ bs) (suc k) h e = go (eqb b 0) h (λ l. before-nonzero bs k l e) where
-  go : (t : Bool) → suc k < cond t 0 (suc (beforeZero bs)) → (k < beforeZero bs → ⊥) → ⊥
+  go : (t : Bool) → suc k < cond t 0 (suc (stringLength bs)) → (k < stringLength bs → ⊥) → ⊥
   go true q rest = omega arith
   go false q rest = rest (omega arith)
 
 -- and where it is inside the list, it is zero
-pub at-zero : (l : List ℕ) → beforeZero l < length l → getD l (beforeZero l) 0 ≡ 0
+pub at-zero : (l : List ℕ) → stringLength l < length l → getD l (stringLength l) 0 ≡ 0
 at-zero [] h = refl
 at-zero (b ∷ bs) h = go (eqb b 0) refl h (at-zero bs) where
-  go : (t : Bool) → eqb b 0 ≡ t → cond t 0 (suc (beforeZero bs)) < suc (length bs) →
-      (beforeZero bs < length bs → getD bs (beforeZero bs) 0 ≡ 0) → getD (b ∷ bs) (cond t 0 (suc (beforeZero bs))) 0 ≡ 0
+  go : (t : Bool) → eqb b 0 ≡ t → cond t 0 (suc (stringLength bs)) < suc (length bs) →
+      (stringLength bs < length bs → getD bs (stringLength bs) 0 ≡ 0) → getD (b ∷ bs) (cond t 0 (suc (stringLength bs))) 0 ≡ 0
   go true p q rest = eqb-true b 0 p
   go false p q rest = rest (omega arith)
 
@@ -86,9 +86,9 @@ five P a b c d e k l r = go (eqb k 1) (eqb k 2) (eqb k 3) (eqb k 4) refl refl re
 
 module _ (s : List ℕ) where
   -- what stands from a place on
-  zero-found : (at : ℕ) → at ≤ length s → holdsZero (drop at s) ≡ true → ZeroAt s at (at + beforeZero (drop at s))
+  zero-found : (at : ℕ) → at ≤ length s → holdsZero (drop at s) ≡ true → ZeroAt s at (at + stringLength (drop at s))
   zero-found at l h =
-      let inside : beforeZero (drop at s) < length (drop at s) = ltb-true (beforeZero (drop at s)) (length (drop at s)) h in
+      let inside : stringLength (drop at s) < length (drop at s) = ltb-true (stringLength (drop at s)) (length (drop at s)) h in
       record {
         from = omega arith;
         inside = omega (arith, inside, length-drop at s);
@@ -102,7 +102,7 @@ module _ (s : List ℕ) where
   zero-missing : (at : ℕ) → holdsZero (drop at s) ≡ false → (q : ℕ) → ZeroAt s at q → ⊥
   zero-missing at h q z =
       before-nonzero (drop at s) (q - at)
-      (omega (arith, ltb-false (beforeZero (drop at s)) (length (drop at s)) h, length-drop at s, z .from, z .inside))
+      (omega (arith, ltb-false (stringLength (drop at s)) (length (drop at s)) h, length-drop at s, z .from, z .inside))
       (rw getD-drop (back (z .from) (z .zero)))
     where
       back : at ≤ q → getD s q 0 ≡ 0 → getD s (at + (q - at)) 0 ≡ 0
@@ -290,7 +290,7 @@ module _ (s : List ℕ) where
 
     -- A and B
     abbrev here : NlString
-    here = record { offset = at; len = beforeZero (drop at s); jumps = 0 }
+    here = record { offset = at; len = stringLength (drop at s); jumps = 0 }
 
     string : i ≤ 2 → (b : Bool) (e : Refusal) (x : NlString → ℕ → Reading) →
         (b ≡ true → BitSet s (maskOf i)) → (b ≡ false → BitSet s (maskOf i) → ⊥) → e ≡ Unterminated i →
@@ -298,15 +298,15 @@ module _ (s : List ℕ) where
         Judged (onFound (stringUnder b s at) (Refused e) x)
     unfolding stringUnder stringAt
     string i2 b e x on off is-e rest = go b on off where
-      found : (z : ZeroAt s at (at + beforeZero (drop at s))) → BitSet s (maskOf i) → Judged (x here (at + beforeZero (drop at s) + 1))
+      found : (z : ZeroAt s at (at + stringLength (drop at s))) → BitSet s (maskOf i) → Judged (x here (at + stringLength (drop at s) + 1))
       found z set =
-          let k = passed (at + beforeZero (drop at s) + 1) set (plain i2 z refl) in
-          rest here (at + beforeZero (drop at s) + 1)
+          let k = passed (at + stringLength (drop at s) + 1) set (plain i2 z refl) in
+          rest here (at + stringLength (drop at s) + 1)
           (record {
             there = λ h.
-                let w : at + beforeZero (drop at s) - at ≡ beforeZero (drop at s) = omega arith in (
+                let w : at + stringLength (drop at s) - at ≡ stringLength (drop at s) = omega arith in (
                   at,
-                  at + beforeZero (drop at s),
+                  at + stringLength (drop at s),
                   starts-at,
                   z,
                   refl,
@@ -319,9 +319,9 @@ module _ (s : List ℕ) where
           (k .0) (k .1)
 
       go : (c : Bool) → (c ≡ true → BitSet s (maskOf i)) → (c ≡ false → BitSet s (maskOf i) → ⊥) →
-          Judged (onFound (cond c (cond (holdsZero (drop at s)) (Found here (at + beforeZero (drop at s) + 1)) Missing) (Found noString at)) (Refused e) x)
+          Judged (onFound (cond c (cond (holdsZero (drop at s)) (Found here (at + stringLength (drop at s) + 1)) Missing) (Found noString at)) (Refused e) x)
       go true y n = by (holdsZero (drop at s)) refl where
-        by : (t : Bool) → holdsZero (drop at s) ≡ t → Judged (onFound (cond t (Found here (at + beforeZero (drop at s) + 1)) Missing) (Refused e) x)
+        by : (t : Bool) → holdsZero (drop at s) ≡ t → Judged (onFound (cond t (Found here (at + stringLength (drop at s) + 1)) Missing) (Refused e) x)
         by true p = found (zero-found at (at-behind .1) p) (y refl)
         by false p = rw is-e (raise 15 i free (fails 15 (y refl) (no-zero i2 refl (zero-missing at p))))
       go false y n =

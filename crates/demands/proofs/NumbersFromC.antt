@@ -40,7 +40,7 @@ use Rattle.read_nl_auth.specs.NlAuth.{labelsOf, readNlAuth}
 use Rattle.respond.specs.declared.decision.Decided.{Decided}
 use Rattle.respond.specs.declared.decision.Decided.the-variants.{Taken as Decides, Refused as Declines}
 use Rattle.respond.specs.Decision.{decisionOn}
-use Rattle.mic.specs.Mic.{workOut}
+use Rattle.mic.specs.Mic.{computedMic}
 use Rattle.c_number.specs.Number.{bit}
 use Rattle.c_number.specs.Outcome.{Outcome, numbers, refused}
 use Rattle.c_read.specs.Numbers.{negotiateNumbers, authenticateNumbers, challengeNumbers, timestampNumbers, serverNamesNumbers, nlAuthNumbers, negotiateOutcome, authenticateOutcome, challengeOutcome, timestampOutcome, serverNamesOutcome, nlAuthOutcome}
@@ -50,7 +50,7 @@ use Rattle.c_respond.specs.Respond.{decisionNumbers, decidedOutcome}
 use Rattle.c_mic.specs.Numbers.{handedOut}
 use Rattle.demands.specs.Answering.{TimestampIs}
 use Rattle.demands.specs.Asking.{AskedAt}
-use Rattle.demands.specs.FromC.{Call, read-negotiate, read-timestamp, read-server-names, read-nl-auth, count-pairs, find-pair, next-pair, decide, work-out-mic, outcome, TwoArrayCall, read-authenticate, read-challenge, twoArrayOutcome, bytesBeside}
+use Rattle.demands.specs.FromC.{Call, read-negotiate, read-timestamp, read-server-names, read-nl-auth, count-pairs, find-pair, next-pair, decide, compute-mic, outcome, TwoArrayCall, read-authenticate, read-challenge, twoArrayOutcome, bytesBeside}
 use Rattle.demands.specs.Message.{Format}
 use Rattle.demands.specs.NumbersFromC.{numberAt, YesOrNo, FieldNumbers, TimestampNumbers, PlainNumbers, NameNumbers, RequestNumbers, NlAuthNumbers, NumbersSay, TwoArraysSay, CallNumbersOwn, TwoArrayNumbersOwn, outcomeVerdict, ReadingsFromC}
 use Rattle.demands.specs.OwnBytes.{OwnField, OwnString, OwnName, OwnRequest, OwnResponse}
@@ -184,9 +184,9 @@ say (decide settings s) = go (decisionOn (settingsOf settings) s) refl where
       let o = decision-taken (settingsOf settings) s b info d .0 h in
       (front (d .flags .bits) (d .timestamp) ∙ o .1, stamp b (d .flags .bits) (d .timestamp) (o .2))
   go (Declines e) h = tt
-say (work-out-mic key nego chal auth) = go (workOut key nego chal auth .verdict) refl where
-  go : (v : Verdict) → workOut key nego chal auth .verdict ≡ v →
-      OnNumbers (NumbersSay (work-out-mic key nego chal auth)) (handedOut v (workOut key nego chal auth .mic))
+say (compute-mic key nego chal auth) = go (computedMic key nego chal auth .verdict) refl where
+  go : (v : Verdict) → computedMic key nego chal auth .verdict ≡ v →
+      OnNumbers (NumbersSay (compute-mic key nego chal auth)) (handedOut v (computedMic key nego chal auth .mic))
   go Clear h = mic-is key nego chal auth h
   go (Not e) h = tt
 

@@ -33,12 +33,12 @@ use Rattle.line_nl_string.specs.StringText.{utf8Text}
 use Rattle.read_dns_name.specs.declared.Reading.{Reading as NameReading}
 use Rattle.read_dns_name.specs.declared.Reading.the-variants.{Taken as Read}
 use Rattle.read_dns_name.specs.DnsName.{readName, labelsAt}
-use Rattle.line_dns_name.specs.DnsNameText.{nameText as dnsText}
-use Rattle.write_dns_name.specs.Writing.{labelsOf, nameBytes, textHolds, codedHolds}
+use Rattle.line_dns_name.specs.DnsNameText.{dnsNameText as dnsText}
+use Rattle.write_dns_name.specs.Writing.{splitLabels, nameBytes, textHolds, codedHolds}
 use Rattle.write_dns_name.proofs.Back.{back as name-back}
 use Rattle.nl_auth_flags.specs.Flags.{nbDomain, nbComputer, dnsDomain, dnsHost, utf8Computer, known, noFlags, stringsHold}
-use Rattle.read_nl_auth.specs.NlAuth.{noString, stringBytes as ownBytes, beforeZero, holdsZero, stringAt, stringUnder, refusalIn, nameString, onName, nameAt, nameUnder as readUnder, flagsAt, readUtf8, emptyStrings, readRequest, readResponse, readNlAuth}
-use Rattle.write_nl_auth.specs.Writing.{headBytes, stringBytes, bytesUnder, oemBytes, nameUnder, utf8Bytes, requestBytes, responseBytes, noZero, checkZeros, checkLabels, checkCoded, checkStrings, under, checkUnder, checkRequest, requestAnswer, requestOut, responseAnswer, responseOut}
+use Rattle.read_nl_auth.specs.NlAuth.{noString, stringBytes as ownBytes, stringLength, holdsZero, stringAt, stringUnder, refusalIn, nameString, onName, nameAt, nameUnder as readUnder, flagsAt, readUtf8, emptyStrings, readRequest, readResponse, readNlAuth}
+use Rattle.write_nl_auth.specs.Writing.{typeAndFlags, zeroTerminated, bytesUnder, oemBytes, nameBytesUnder, utf8Bytes, requestBytes, responseBytes, noZero, checkZeros, checkLabels, checkCoded, checkStrings, under, checkUnder, checkRequest, requestAnswer, requestOut, responseAnswer, responseOut}
 use Rattle.demands.specs.ReadBack.{NameBack, NlRequestReadsBack, NlResponseReadsBack}
 use Rattle.demands.proofs.DnsText.{text-labels, text-shown}
 use Rattle.demands.proofs.Kept.{request-holds, clear-both}
@@ -47,33 +47,33 @@ use Rattle.demands.proofs.Bools.{true-not-false, after-held, bit1, bit2
 -- ---- one string
 
 -- a string without a zero byte, its zero byte after it
-up-to-zero : (x rest : List ℕ) → holdsZero x ≡ false → beforeZero ((x ++ (0 ∷ [])) ++ rest) ≡ length x
+up-to-zero : (x rest : List ℕ) → holdsZero x ≡ false → stringLength ((x ++ (0 ∷ [])) ++ rest) ≡ length x
 up-to-zero [] rest h = refl
 up-to-zero (y ∷ ys) rest h = go (eqb y 0) refl h (up-to-zero ys rest) where
-  go : (t : Bool) → eqb y 0 ≡ t → ltb (cond t 0 (suc (beforeZero ys))) (suc (length ys)) ≡ false →
-      (holdsZero ys ≡ false → beforeZero ((ys ++ (0 ∷ [])) ++ rest) ≡ length ys) →
-      cond t 0 (suc (beforeZero ((ys ++ (0 ∷ [])) ++ rest))) ≡ suc (length ys)
+  go : (t : Bool) → eqb y 0 ≡ t → ltb (cond t 0 (suc (stringLength ys))) (suc (length ys)) ≡ false →
+      (holdsZero ys ≡ false → stringLength ((ys ++ (0 ∷ [])) ++ rest) ≡ length ys) →
+      cond t 0 (suc (stringLength ((ys ++ (0 ∷ [])) ++ rest))) ≡ suc (length ys)
   go true p q ih = absurd (omega (arith, ltb-false 0 (suc (length ys)) q))
   go false p q ih =
-      ap suc (ih (le-ltb (beforeZero ys) (length ys) (omega (arith, ltb-false (suc (beforeZero ys)) (suc (length ys)) q))))
+      ap suc (ih (le-ltb (stringLength ys) (length ys) (omega (arith, ltb-false (suc (stringLength ys)) (suc (length ys)) q))))
 
 -- string A or B that is written after `pre`
 abbrev stringFor : Bool → ℕ → List ℕ → NlString
 stringFor b at x = cond b (record { offset = at; len = length x; jumps = 0 }) noString
 
 module _ (s pre x rest : List ℕ) where
-  found : s ≡ pre ++ (stringBytes x ++ rest) → holdsZero x ≡ false →
-      stringAt s (length pre) ≡ Found (record { offset = length pre; len = length x; jumps = 0 }) (length (pre ++ stringBytes x))
-  unfolding stringAt stringBytes
+  found : s ≡ pre ++ (zeroTerminated x ++ rest) → holdsZero x ≡ false →
+      stringAt s (length pre) ≡ Found (record { offset = length pre; len = length x; jumps = 0 }) (length (pre ++ zeroTerminated x))
+  unfolding stringAt zeroTerminated
   found e h =
       let buffer : drop (length pre) s ≡ (x ++ (0 ∷ [])) ++ rest = ap (λ (l : List ℕ). drop (length pre) l) e ∙ drop-append-seam pre ((x ++ (0 ∷ [])) ++ rest) in
-      let zero : beforeZero ((x ++ (0 ∷ [])) ++ rest) ≡ length x = up-to-zero x rest h in
+      let zero : stringLength ((x ++ (0 ∷ [])) ++ rest) ≡ length x = up-to-zero x rest h in
       let next : length pre + length x + 1 ≡ length (pre ++ (x ++ (0 ∷ []))) = simp length-append (omega arith) in
       let inside : ltb (length x) (length ((x ++ (0 ∷ [])) ++ rest)) ≡ true = lt-ltb (length x) (length ((x ++ (0 ∷ [])) ++ rest)) (simp length-append (omega arith)) in
       simp (buffer, zero, inside, next)
 
-  bytes : s ≡ pre ++ (stringBytes x ++ rest) → ownBytes s (record { offset = length pre; len = length x; jumps = 0 }) ≡ x
-  unfolding stringBytes
+  bytes : s ≡ pre ++ (zeroTerminated x ++ rest) → ownBytes s (record { offset = length pre; len = length x; jumps = 0 }) ≡ x
+  unfolding zeroTerminated
   bytes e =
       own-bytes s (record { offset = length pre; len = length x; jumps = 0 }) (simp (e, length-append) (omega arith))
       ∙ ap (λ (l : List ℕ). take (length x) l) (ap (λ (l : List ℕ). drop (length pre) l) e ∙ drop-append-seam pre ((x ++ (0 ∷ [])) ++ rest) ∙ append-assoc x (0 ∷ []) rest)
@@ -112,9 +112,9 @@ module _ (s pre x rest : List ℕ) (e : s ≡ pre ++ (nameBytes x ++ rest)) (l :
       subst (λ (n : ℕ). readName (drop 8 s) n ≡ Read (record { jumps = 0; next = n + length (nameBytes x) })) place
       (ap (λ (k : List ℕ). readName k (length (drop 8 pre))) buffer ∙ name-back x (drop 8 pre) rest h g .0)
 
-  name-labels : labelsAt (drop 8 s) (length pre - 8) ≡ labelsOf x
+  name-labels : labelsAt (drop 8 s) (length pre - 8) ≡ splitLabels x
   name-labels =
-      subst (λ (n : ℕ). labelsAt (drop 8 s) n ≡ labelsOf x) place
+      subst (λ (n : ℕ). labelsAt (drop 8 s) n ≡ splitLabels x) place
       (ap (λ (k : List ℕ). labelsAt k (length (drop 8 pre))) buffer ∙ name-back x (drop 8 pre) rest h g .1)
 
   name-found : (i : ℕ) → nameAt s (length pre) i ≡ Named (record { offset = length pre; len = length (nameBytes x); jumps = 0 }) (length (pre ++ nameBytes x))
@@ -126,18 +126,18 @@ module _ (s pre x rest : List ℕ) (e : s ≡ pre ++ (nameBytes x ++ rest)) (l :
       ∙ ap (λ (n : ℕ). Named (record { offset = length pre; len = n; jumps = 0 }) (8 + (length pre - 8 + length (nameBytes x)))) len
       ∙ ap (λ (n : ℕ). Named (record { offset = length pre; len = length (nameBytes x); jumps = 0 }) n) next
 
-name-scan : (s pre x rest : List ℕ) (b : Bool) (i : ℕ) → s ≡ pre ++ (nameUnder b x ++ rest) → 8 ≤ length pre →
+name-scan : (s pre x rest : List ℕ) (b : Bool) (i : ℕ) → s ≡ pre ++ (nameBytesUnder b x ++ rest) → 8 ≤ length pre →
     textHolds (under b x) ≡ Held → codedHolds (under b x) ≡ Held →
-    readUnder b s (length pre) i ≡ Named (nameFor b (length pre) x) (length (pre ++ nameUnder b x))
-unfolding readUnder nameUnder under
+    readUnder b s (length pre) i ≡ Named (nameFor b (length pre) x) (length (pre ++ nameBytesUnder b x))
+unfolding readUnder nameBytesUnder under
 name-scan s pre x rest true i e l h g = name-found s pre x rest e l h g i
 name-scan s pre x rest false i e l h g = simp append-none
 
-name-same : (s pre x rest : List ℕ) (b : Bool) → s ≡ pre ++ (nameUnder b x ++ rest) → 8 ≤ length pre →
+name-same : (s pre x rest : List ℕ) (b : Bool) → s ≡ pre ++ (nameBytesUnder b x ++ rest) → 8 ≤ length pre →
     textHolds (under b x) ≡ Held → codedHolds (under b x) ≡ Held → b ≡ true → NameBack s (nameFor b (length pre) x) x
-unfolding nameUnder under utf8Text
+unfolding nameBytesUnder under utf8Text
 name-same s pre x rest true e l h g q =
-    let ls : labelsAt (drop 8 s) (length pre - 8) ≡ labelsOf x = name-labels s pre x rest e l h g in
+    let ls : labelsAt (drop 8 s) (length pre - 8) ≡ splitLabels x = name-labels s pre x rest e l h g in
     record {
       labels = rw ls (text-labels x);
       no-jumps = refl;
@@ -161,16 +161,16 @@ no-zero false x h e = absurd (true-not-false (sym e))
 
 -- what stands before each string
 abbrev pre1 : NlAuthFlags → List ℕ → List ℕ
-pre1 w a = headBytes 0 w ++ bytesUnder (nbDomain w) a
+pre1 w a = typeAndFlags 0 w ++ bytesUnder (nbDomain w) a
 
 abbrev pre2 : NlAuthFlags → List ℕ → List ℕ → List ℕ
 pre2 w a b = pre1 w a ++ bytesUnder (nbComputer w) b
 
 abbrev pre3 : NlAuthFlags → List ℕ → List ℕ → List ℕ → List ℕ
-pre3 w a b c = pre2 w a b ++ nameUnder (dnsDomain w) c
+pre3 w a b c = pre2 w a b ++ nameBytesUnder (dnsDomain w) c
 
 abbrev pre4 : NlAuthFlags → List ℕ → List ℕ → List ℕ → List ℕ → List ℕ
-pre4 w a b c d = pre3 w a b c ++ nameUnder (dnsHost w) d
+pre4 w a b c d = pre3 w a b c ++ nameBytesUnder (dnsHost w) d
 
 -- checks 34, 50 and 53 held at each string
 record Hold (a b c d e : List ℕ) : Type 0 where
@@ -212,7 +212,7 @@ back w a b c d e =
       «message_type» = 0;
       flags = w;
       strings = record {
-        «nb_domain» = stringFor (nbDomain w) (length (headBytes 0 w)) a;
+        «nb_domain» = stringFor (nbDomain w) (length (typeAndFlags 0 w)) a;
         «nb_computer» = stringFor (nbComputer w) (length (pre1 w a)) b;
         «dns_domain» = nameFor (dnsDomain w) (length (pre2 w a b)) c;
         «dns_host» = nameFor (dnsHost w) (length (pre3 w a b c)) d;
@@ -220,31 +220,31 @@ back w a b c d e =
       };
     }
 
-head-long : (t : ℕ) (w : NlAuthFlags) → length (headBytes t w) ≡ 8
-unfolding headBytes
+head-long : (t : ℕ) (w : NlAuthFlags) → length (typeAndFlags t w) ≡ 8
+unfolding typeAndFlags
 head-long t w = simp (length-append, length-le32)
 
 module _ (w : NlAuthFlags) (a b c d e : List ℕ) where
-  at0 : requestBytes w a b c d e ≡ headBytes 0 w ++ (bytesUnder (nbDomain w) a ++ (bytesUnder (nbComputer w) b ++ (nameUnder (dnsDomain w) c ++ (nameUnder (dnsHost w) d ++ nameUnder (utf8Computer w) e))))
+  at0 : requestBytes w a b c d e ≡ typeAndFlags 0 w ++ (bytesUnder (nbDomain w) a ++ (bytesUnder (nbComputer w) b ++ (nameBytesUnder (dnsDomain w) c ++ (nameBytesUnder (dnsHost w) d ++ nameBytesUnder (utf8Computer w) e))))
   unfolding requestBytes oemBytes utf8Bytes
-  at0 = ap (λ (l : List ℕ). headBytes 0 w ++ l) (append-assoc (bytesUnder (nbDomain w) a) (bytesUnder (nbComputer w) b) _)
+  at0 = ap (λ (l : List ℕ). typeAndFlags 0 w ++ l) (append-assoc (bytesUnder (nbDomain w) a) (bytesUnder (nbComputer w) b) _)
 
-  at1 : requestBytes w a b c d e ≡ pre1 w a ++ (bytesUnder (nbComputer w) b ++ (nameUnder (dnsDomain w) c ++ (nameUnder (dnsHost w) d ++ nameUnder (utf8Computer w) e)))
-  at1 = regroup (requestBytes w a b c d e) (headBytes 0 w) (bytesUnder (nbDomain w) a) _ at0
+  at1 : requestBytes w a b c d e ≡ pre1 w a ++ (bytesUnder (nbComputer w) b ++ (nameBytesUnder (dnsDomain w) c ++ (nameBytesUnder (dnsHost w) d ++ nameBytesUnder (utf8Computer w) e)))
+  at1 = regroup (requestBytes w a b c d e) (typeAndFlags 0 w) (bytesUnder (nbDomain w) a) _ at0
 
-  at2 : requestBytes w a b c d e ≡ pre2 w a b ++ (nameUnder (dnsDomain w) c ++ (nameUnder (dnsHost w) d ++ nameUnder (utf8Computer w) e))
+  at2 : requestBytes w a b c d e ≡ pre2 w a b ++ (nameBytesUnder (dnsDomain w) c ++ (nameBytesUnder (dnsHost w) d ++ nameBytesUnder (utf8Computer w) e))
   at2 = regroup (requestBytes w a b c d e) (pre1 w a) (bytesUnder (nbComputer w) b) _ at1
 
-  at3 : requestBytes w a b c d e ≡ pre3 w a b c ++ (nameUnder (dnsHost w) d ++ nameUnder (utf8Computer w) e)
-  at3 = regroup (requestBytes w a b c d e) (pre2 w a b) (nameUnder (dnsDomain w) c) _ at2
+  at3 : requestBytes w a b c d e ≡ pre3 w a b c ++ (nameBytesUnder (dnsHost w) d ++ nameBytesUnder (utf8Computer w) e)
+  at3 = regroup (requestBytes w a b c d e) (pre2 w a b) (nameBytesUnder (dnsDomain w) c) _ at2
 
-  at4 : requestBytes w a b c d e ≡ pre4 w a b c d ++ (nameUnder (utf8Computer w) e ++ [])
+  at4 : requestBytes w a b c d e ≡ pre4 w a b c d ++ (nameBytesUnder (utf8Computer w) e ++ [])
   at4 =
-      regroup (requestBytes w a b c d e) (pre3 w a b c) (nameUnder (dnsHost w) d) _ at3
-      ∙ ap (λ (l : List ℕ). pre4 w a b c d ++ l) (sym (append-none (nameUnder (utf8Computer w) e)))
+      regroup (requestBytes w a b c d e) (pre3 w a b c) (nameBytesUnder (dnsHost w) d) _ at3
+      ∙ ap (λ (l : List ℕ). pre4 w a b c d ++ l) (sym (append-none (nameBytesUnder (utf8Computer w) e)))
 
-  at5 : requestBytes w a b c d e ≡ pre4 w a b c d ++ nameUnder (utf8Computer w) e
-  at5 = regroup (requestBytes w a b c d e) (pre3 w a b c) (nameUnder (dnsHost w) d) _ at3
+  at5 : requestBytes w a b c d e ≡ pre4 w a b c d ++ nameBytesUnder (utf8Computer w) e
+  at5 = regroup (requestBytes w a b c d e) (pre3 w a b c) (nameBytesUnder (dnsHost w) d) _ at3
 
   -- each stands behind the head
   pub long2 : 8 ≤ length (pre2 w a b)
@@ -266,30 +266,30 @@ module _ (w : NlAuthFlags) (a b c d e : List ℕ) where
         name-scan (requestBytes w a b c d e) (pre2 w a b) c _ (dnsDomain w) 3 at2 long2 (h .labels-c) (h .coded-c),
         name-scan (requestBytes w a b c d e) (pre3 w a b c) d _ (dnsHost w) 4 at3 long3 (h .labels-d) (h .coded-d),
         name-scan (requestBytes w a b c d e) (pre4 w a b c d) e _ (utf8Computer w) 5 at4 long4 (h .labels-e) (h .coded-e),
-        eq-eqb (length (pre4 w a b c d ++ nameUnder (utf8Computer w) e)) (length (requestBytes w a b c d e)) (ap length (sym at5)),
+        eq-eqb (length (pre4 w a b c d ++ nameBytesUnder (utf8Computer w) e)) (length (requestBytes w a b c d e)) (ap length (sym at5)),
       )
 
   request-back : stringsHold w ≡ Held → StringsHold w a b c d e → readRequest w (requestBytes w a b c d e) ≡ Taken (back w a b c d e)
   unfolding readRequest
   request-back held all =
       let s = requestBytes w a b c d e in
-      let s1 : stringUnder (nbDomain w) s 8 ≡ Found (stringFor (nbDomain w) (length (headBytes 0 w)) a) (length (pre1 w a)) =
-      subst (λ (k : ℕ). stringUnder (nbDomain w) s k ≡ Found (stringFor (nbDomain w) (length (headBytes 0 w)) a) (length (pre1 w a))) (head-long 0 w)
-      (scan s (headBytes 0 w) a _ (nbDomain w) at0 (no-zero (nbDomain w) a (all .zero-a))) in
+      let s1 : stringUnder (nbDomain w) s 8 ≡ Found (stringFor (nbDomain w) (length (typeAndFlags 0 w)) a) (length (pre1 w a)) =
+      subst (λ (k : ℕ). stringUnder (nbDomain w) s k ≡ Found (stringFor (nbDomain w) (length (typeAndFlags 0 w)) a) (length (pre1 w a))) (head-long 0 w)
+      (scan s (typeAndFlags 0 w) a _ (nbDomain w) at0 (no-zero (nbDomain w) a (all .zero-a))) in
       simp (
         held,
         s1,
         scan s (pre1 w a) b _ (nbComputer w) at1 (no-zero (nbComputer w) b (all .zero-b)),
-        utf8-back (stringFor (nbDomain w) (length (headBytes 0 w)) a) (stringFor (nbComputer w) (length (pre1 w a)) b) all,
+        utf8-back (stringFor (nbDomain w) (length (typeAndFlags 0 w)) a) (stringFor (nbComputer w) (length (pre1 w a)) b) all,
       )
 
   -- the head reads back
   type-back : u32At (requestBytes w a b c d e) 0 ≡ 0
-  unfolding headBytes
+  unfolding typeAndFlags
   type-back = ap (λ (l : List ℕ). u32At l 0) (at0 ∙ append-assoc (le32 0) (le32 (w .bits)) _) ∙ back32 [] _ 0 0 refl
 
   flags-back : u32At (requestBytes w a b c d e) 4 ≡ w .bits
-  unfolding headBytes
+  unfolding typeAndFlags
   flags-back = ap (λ (l : List ℕ). u32At l 4) (at0 ∙ append-assoc (le32 0) (le32 (w .bits)) _) ∙ back32 (le32 0) _ (w .bits) 4 (length-le32 0)
 
   long : 8 ≤ length (requestBytes w a b c d e)
@@ -323,7 +323,7 @@ nl-request-reads-back out flags a b c d e n h =
       read = read-back w a b c d e (low (flags .bits)) (r .strings) k (r .size);
       message-type = refl;
       flags-same = refl;
-      a-same = λ q. scan-bytes (requestBytes w a b c d e) (headBytes 0 w) a _ (nbDomain w) (at0 w a b c d e) (bit 0x1 (bit1 (flags .bits)) q);
+      a-same = λ q. scan-bytes (requestBytes w a b c d e) (typeAndFlags 0 w) a _ (nbDomain w) (at0 w a b c d e) (bit 0x1 (bit1 (flags .bits)) q);
       b-same = λ q. scan-bytes (requestBytes w a b c d e) (pre1 w a) b _ (nbComputer w) (at1 w a b c d e) (bit 0x2 (bit2 (flags .bits)) q);
       c-same = λ q. name-same (requestBytes w a b c d e) (pre2 w a b) c _ (dnsDomain w) (at2 w a b c d e) (long2 w a b c d e) (k .labels-c) (k .coded-c) (bit 0x4 (bit4 (flags .bits)) q);
       d-same = λ q. name-same (requestBytes w a b c d e) (pre3 w a b c) d _ (dnsHost w) (at3 w a b c d e) (long3 w a b c d e) (k .labels-d) (k .coded-d) (bit 0x8 (bit8 (flags .bits)) q);
@@ -338,7 +338,7 @@ nl-request-reads-back out flags a b c d e n h =
 
 -- a response that is written
 pub response-is : (out : List ℕ) (n : ℕ) → responseAnswer (length out) ≡ Length n → take n (responseOut out) ≡ responseBytes
-unfolding responseAnswer responseOut responseBytes headBytes le32 le16
+unfolding responseAnswer responseOut responseBytes typeAndFlags le32 le16
 response-is out n h = go (leb 9 (length out)) h where
   go : (t : Bool) → after (checked t) (Unwritten NoRoom) (Length 9) ≡ Length n → take n (after (checked t) out (atFront responseBytes out)) ≡ responseBytes
   go true p = subst (λ (k : ℕ). take k (atFront responseBytes out) ≡ responseBytes) (same p) refl where
@@ -347,7 +347,7 @@ response-is out n h = go (leb 9 (length out)) h where
   go false p = absurd (let z : _≡_ {A = ℕ} 0 1 = cc in omega arith)
 
 pub nl-response-reads-back : NlResponseReadsBack
-unfolding responseBytes headBytes readNlAuth readResponse le32 le16
+unfolding responseBytes typeAndFlags readNlAuth readResponse le32 le16
 nl-response-reads-back out n h =
     rw (response-is out n h)
     (record { message = record { «message_type» = 1; flags = noFlags; strings = emptyStrings }; read = refl; message-type = refl; flags = refl })

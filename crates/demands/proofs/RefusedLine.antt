@@ -40,7 +40,7 @@ use Rattle.demands.specs.LineShows.{RefusedBy, refused, Opens}
 use Rattle.demands.specs.TakenExactly.{RefusalIs, RefusedWith, nlVerdict}
 use Rattle.demands.specs.RefusedLine.{refusedBytes, NlRefusedAs, RefusedLineExactly, IsNoRoom, RefusedPrintExactly, RefusedLineExample}
 use Rattle.demands.proofs.Answers.SmallFields.{SmallC, negotiate-small, challenge-small, authenticate-small, nl-auth-small}
-use Rattle.demands.proofs.Answers.Told.{Small, number-small}
+use Rattle.demands.proofs.Answers.Decoded.{Small, number-small}
 use Rattle.demands.proofs.Judged.{fails-is, refused-not, refused-as}
 use Rattle.demands.proofs.LineShows.{line-refused, opens-refusal, nl-refused, nl-opens-refusal}
 use Rattle.demands.proofs.LineShows.Lines.{refusedWords}

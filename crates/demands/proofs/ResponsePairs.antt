@@ -19,7 +19,7 @@ use Rattle.place.specs.declared.written.Written.{Written}
 use Rattle.place.specs.declared.written.Written.the-variants.{Length, Refused}
 use Rattle.place.specs.Place.{le16}
 use Rattle.place.specs.Written.{answered, outAfter, sizeHolds, roomHolds}
-use Rattle.write_response_pairs.specs.ResponsePairs.{pairWith, leftOut, kept, bitsDue, addsFlags, pairBytes, bytesOf, listFor, evenName, checkList, listAnswer, listOut, writeAnswer, writeOut}
+use Rattle.write_response_pairs.specs.ResponsePairs.{pairWith, leftOut, kept, bitsDue, addsFlags, pairBytes, pairsBytes, listFor, evenTargetName, checkList, listAnswer, listOut, writeAnswer, writeOut}
 use Rattle.write_response_pairs.proofs.Fits.{length-pair}
 use Rattle.write_response_pairs.proofs.Sent.{list-empty, list-parts, list-size}
 use Rattle.wire.specs.declared.check.Verdict.{Verdict}
@@ -29,7 +29,7 @@ use Rattle.wire.specs.declared.refusal.Refusal.the-variants.{OddNameToWrite, To
 use Rattle.wire.specs.Refusal.{numberOf, fieldOf, placeOf}
 use Rattle.wire.proofs.Places.{placeless-number}
 use Rattle.wire.proofs.Laws.{held-true}
-use Rattle.demands.specs.Order.{FirstIn, placeIn}
+use Rattle.demands.specs.Order.{FirstIn, rankIn}
 use Rattle.demands.specs.PairList.{idOf, sizeOf, nextOf, PairAt, EndAt, WellFormed, end, pair, Holds, empty, listed, FirstWith}
 use Rattle.demands.specs.InTurn.{KthPair}
 use Rattle.demands.specs.Kept.{Kept}
@@ -60,7 +60,7 @@ pub record Sound (room : ℕ) (name : List ℕ) (size : ℕ) : Type 0 where
 pub sound : (room : ℕ) (name : List ℕ) (size : ℕ) → checkList room name size ≡ Clear → Sound room name size
 unfolding checkList
 sound room name size h =
-    let a = after-held (evenName name) (OddNameToWrite 2) _ h in
+    let a = after-held (evenTargetName name) (OddNameToWrite 2) _ h in
     let z = after-held (sizeHolds size) TooLongToWrite _ (a .1) in
     let r = after-held (roomHolds size room) NoRoom Clear (z .1) in
     record {
@@ -266,24 +266,24 @@ end-pair-alone out s b name bind mark n sixteen info h none =
 
 module _ (b : List ℕ) (some : 0 < length b) where
   abbrev sizeAt : ℕ → ℕ
-  sizeAt at = length (bytesOf (kept (valuesAt b at)))
+  sizeAt at = length (pairsBytes (kept (valuesAt b at)))
 
   kept-size : (at k : ℕ) → KeptSize b at k → k ≡ sizeAt at
-  kept-size at k (no-more e q) = q ∙ sym (ap (λ (ps : List Valued). length (bytesOf (kept ps))) (values-end b some at e))
+  kept-size at k (no-more e q) = q ∙ sym (ap (λ (ps : List Valued). length (pairsBytes (kept ps))) (values-end b some at e))
   kept-size at k (passed-over w o r) =
       kept-size (nextOf b at) k r
-      ∙ sym (ap (λ (ps : List Valued). length (bytesOf (kept ps))) (values-pair b some at w) ∙ go (leftOut (idAt b at)) refl)
+      ∙ sym (ap (λ (ps : List Valued). length (pairsBytes (kept ps))) (values-pair b some at w) ∙ go (leftOut (idAt b at)) refl)
     where
       go : (t : Bool) → leftOut (idAt b at) ≡ t →
-          length (bytesOf (cond t (kept (valuesAt b (nextOf b at))) (came b some at ∷ kept (valuesAt b (nextOf b at))))) ≡ sizeAt (nextOf b at)
+          length (pairsBytes (cond t (kept (valuesAt b (nextOf b at))) (came b some at ∷ kept (valuesAt b (nextOf b at))))) ≡ sizeAt (nextOf b at)
       go true e = refl
       go false e = absurd (in-is b some at e o)
   kept-size at k (counted {m = m} w o q r) =
       q ∙ ap (λ (x : ℕ). 4 + sizeOf b at + x) (kept-size (nextOf b at) m r)
-      ∙ sym (ap (λ (ps : List Valued). length (bytesOf (kept ps))) (values-pair b some at w) ∙ go (leftOut (idAt b at)) refl)
+      ∙ sym (ap (λ (ps : List Valued). length (pairsBytes (kept ps))) (values-pair b some at w) ∙ go (leftOut (idAt b at)) refl)
     where
       go : (t : Bool) → leftOut (idAt b at) ≡ t →
-          length (bytesOf (cond t (kept (valuesAt b (nextOf b at))) (came b some at ∷ kept (valuesAt b (nextOf b at))))) ≡ 4 + sizeOf b at + sizeAt (nextOf b at)
+          length (pairsBytes (cond t (kept (valuesAt b (nextOf b at))) (came b some at ∷ kept (valuesAt b (nextOf b at))))) ≡ 4 + sizeOf b at + sizeAt (nextOf b at)
       go true e = absurd (o (out-is b some at e))
       go false e = simp (length-append, length-pair, value-long b some at w)
 
@@ -307,11 +307,11 @@ list-long : (b name bind : List ℕ) (mark : Bool) (size : ℕ) → length bind 
 unfolding listFor
 list-long b name bind mark size sixteen (of-end e q) = list-size (bitsDue b name mark) b name bind ∙ simp (eq-eqb (length b) 0 e) (sym q)
 list-long b name bind mark size sixteen (of-flags {k} some r f q) =
-    let m = kept-size b some 0 k r ∙ ap (λ (ps : List Valued). length (bytesOf (kept ps))) (values-start b) in
+    let m = kept-size b some 0 k r ∙ ap (λ (ps : List Valued). length (pairsBytes (kept ps))) (values-start b) in
     list-size (bitsDue b name mark) b name bind
     ∙ simp (ne-eqb (length b) 0 (λ z. omega arith), adds-is b name mark .1 f) (omega (arith, m, q, sixteen))
 list-long b name bind mark size sixteen (of-two {k} some r f q) =
-    let m = kept-size b some 0 k r ∙ ap (λ (ps : List Valued). length (bytesOf (kept ps))) (values-start b) in
+    let m = kept-size b some 0 k r ∙ ap (λ (ps : List Valued). length (pairsBytes (kept ps))) (values-start b) in
     let none = go (addsFlags (bitsDue b name mark) (valuesOf b)) refl in
     list-size (bitsDue b name mark) b name bind
     ∙ simp (ne-eqb (length b) 0 (λ z. omega arith), none) (omega (arith, m, q, sixteen))
@@ -330,7 +330,7 @@ module _ (room : ℕ) (name : List ℕ) (size : ℕ) where
   F = ResponsePairsFail room name size
 
   abbrev rank : ℕ → ℕ
-  rank = placeIn order
+  rank = rankIn order
 
   list-rows : Rows order F
   list-rows = rows order F (λ n i z h. simp (z .0, z .1 .0, z .1 .1 .0) at h)
@@ -342,7 +342,7 @@ module _ (room : ℕ) (name : List ℕ) (size : ℕ) where
   unfolding checkList
   list-judged m e =
       let none = free-at-first order F 31 refl in
-      chained (JudgedBy rank F 0) (evenName name) (Not (OddNameToWrite 2)) _
+      chained (JudgedBy rank F 0) (evenTargetName name) (Not (OddNameToWrite 2)) _
       (λ f. first-by rank F 31 2 (skip-by rank F 31 2 none (λ j l x. omega (arith, l, x .0))) (refl, odd (eqb-false (length name % 2) 0 (failed-false _ f))))
       (λ h. size-judged order F size m _ e
       (λ l. (refl, l)) (λ j x. x .1) refl (omega arith)

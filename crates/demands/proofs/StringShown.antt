@@ -25,13 +25,13 @@ use Rattle.demands.specs.Kept.{Kept}
 use Rattle.demands.specs.NlAuth.{maskOf}
 use Rattle.demands.specs.TakenExactly.{RefusedWith, nlVerdict}
 use Rattle.demands.specs.WrittenExactly.{WritingRefusedWith}
-use Rattle.demands.specs.StringShown.{wordOf, TextsAsInLine, StringShown, NoOtherText, NoTextWithoutBit, TextKept, TextIgnored, TextShort, TextTells}
+use Rattle.demands.specs.StringShown.{shownWord, TextsAsInLine, StringShown, NoOtherText, NoTextWithoutBit, TextKept, TextIgnored, TextShort, TextDecodes}
 use Rattle.c_number.specs.Number.{writtenNumber}
-use Rattle.demands.specs.Answers.{TellsWritten, nl-auth-line}
+use Rattle.demands.specs.Answers.{DecodesWritten, nl-auth-line}
 use Rattle.demands.proofs.Answers.{short-tells}
 use Rattle.demands.proofs.Answers.LineShort.{line-short}
 use Rattle.demands.proofs.Answers.SmallFields.{nl-auth-small}
-use Rattle.demands.proofs.Answers.Told.{tells-refusal}
+use Rattle.demands.proofs.Answers.Decoded.{decodes-refusal}
 use Rattle.demands.proofs.Kept.{by-verdict, line-kept}
 use Rattle.demands.proofs.NlAuth.{five, nl-auth-judged}
 use Rattle.demands.proofs.Ignored.NlIgnored.{nl-auth-ignored}
@@ -110,7 +110,7 @@ text-ignored s t which out d = go (nl-auth-ignored s t d) (readNlAuth s) refl wh
 -- ---- from C
 
 -- a text stands in the line, with its label or alone
-in-word : (s : List ℕ) (m : NlAuth) (i : ℕ) → 1 ≤ i → i ≤ 5 → length (stringText s m i) ≤ length (wordOf s m i)
+in-word : (s : List ℕ) (m : NlAuth) (i : ℕ) → 1 ≤ i → i ≤ 5 → length (stringText s m i) ≤ length (shownWord s m i)
 in-word s m i a b = go (has (m .flags .bits) (maskOf i)) refl where
   label : List ℕ
   label = getD (ascii " a=" ∷ ascii " b=" ∷ ascii " c=" ∷ ascii " d=" ∷ ascii " e=" ∷ []) (i - 1) []
@@ -123,7 +123,7 @@ in-line : (s : List ℕ) (m : NlAuth) (which : ℕ) → length (stringText s m w
 in-line s m which = go (leb 1 which) (leb which 5) refl refl where
   words : length (nlText s m)
       ≡ length (nlStart (m .«message_type») (m .flags .bits))
-      + (length (wordOf s m 1) + (length (wordOf s m 2) + (length (wordOf s m 3) + (length (wordOf s m 4) + (length (wordOf s m 5) + 1)))))
+      + (length (shownWord s m 1) + (length (shownWord s m 2) + (length (shownWord s m 3) + (length (shownWord s m 4) + (length (shownWord s m 5) + 1)))))
   words = ap length (texts-as-in-line s m) ∙ simp length-append
 
   none : (1 ≤ which → which ≤ 5 → ⊥) → length (stringText s m which) ≤ length (nlText s m)
@@ -142,11 +142,11 @@ pub text-short : TextShort
 unfolding nlAuthLine
 text-short s m which h = let line : length (nlText s m) < 0x100000 = rw h at (line-short (nl-auth-line s)) in omega (arith, line, in-line s m which)
 
-pub text-tells : TextTells
+pub text-decodes : TextDecodes
 unfolding textAnswer
-text-tells s which out = go (readNlAuth s) refl where
+text-decodes s which out = go (readNlAuth s) refl where
   go : (r : Reading) → readNlAuth s ≡ r →
-      TellsWritten (writtenNumber (onReading r (λ m. bytesAnswer (stringText s m which) out) (λ e. Refused e)))
+      DecodesWritten (writtenNumber (onReading r (λ m. bytesAnswer (stringText s m which) out) (λ e. Refused e)))
       (onReading r (λ m. bytesAnswer (stringText s m which) out) (λ e. Refused e))
   go (Taken m) p = short-tells (stringText s m which) out (omega (arith, text-short s m which p))
-  go (Not e) p = tells-refusal e (nl-auth-small s e p)
+  go (Not e) p = decodes-refusal e (nl-auth-small s e p)

@@ -11,7 +11,7 @@ use Rattle.demands.specs.Message.{challenge, FlagSet, Set}
 use Rattle.demands.specs.PairList.{FirstFault}
 use Rattle.demands.specs.TakenExactly.{ChallengeHolds, ChallengeFails, in-fields, in-list}
 use Rattle.demands.specs.Answering.{Declined, by-reading, by-20, by-21}
-use Rattle.demands.specs.ThinCalls.{ThinCall, for-bench, to-old-server, for-relay, goesBy, demands128, ThinSettings, SettingsByBits, HeaderDefaults, ThinCallsRefuse}
+use Rattle.demands.specs.ThinCalls.{ThinCall, for-bench, to-old-server, for-relay, settingsFor, demands128, ThinSettings, SettingsByBits, HeaderDefaults, ThinCallsRefuse}
 use Rattle.demands.proofs.Bools.{both-ways}
 use Rattle.demands.proofs.Answering.{respond-answered}
 use Rattle.demands.proofs.PairList.{first-number}
@@ -48,23 +48,23 @@ module _ (call : ThinCall) (s b : List ℕ) where
   abbrev Weak : Type 0
   Weak = ChallengeHolds s b × (demands128 call ≡ true) × (Set challenge s 0x20000000 → ⊥)
 
-  weak-20 : Declined (goesBy call) s b 20 0 0 ↔ Weak
+  weak-20 : Declined (settingsFor call) s b 20 0 0 ↔ Weak
   weak-20 = (told, λ w. by-20 refl refl refl (w .0) (thin-settings call .demand-128 ∙ w .1, w .2)) where
-    told : Declined (goesBy call) s b 20 0 0 → Weak
+    told : Declined (settingsFor call) s b 20 0 0 → Weak
     told (by-reading f) = absurd (not-20 s b 0 0 f)
     told (by-20 p q z h f) = (h, sym (thin-settings call .demand-128) ∙ f .0, f .1)
     told (by-21 p q z h k f) = absurd (omega (arith, p))
 
-  never-21 : (i place : ℕ) → Declined (goesBy call) s b 21 i place → ⊥
+  never-21 : (i place : ℕ) → Declined (settingsFor call) s b 21 i place → ⊥
   never-21 i place (by-reading f) = not-21 s b i place f
   never-21 i place (by-20 p q z h f) = omega (arith, p)
   never-21 i place (by-21 p q z h k f) =
-      ⊎-elim (λ y. both-ways (goesBy call .integrity) y (thin-settings call .integrity))
-      (λ y. both-ways (goesBy call .confidentiality) y (thin-settings call .confidentiality)) (f .1)
+      ⊎-elim (λ y. both-ways (settingsFor call .integrity) y (thin-settings call .integrity))
+      (λ y. both-ways (settingsFor call .confidentiality) y (thin-settings call .confidentiality)) (f .1)
 
 pub thin-calls-refuse : ThinCallsRefuse
 thin-calls-refuse call s b x v8 m16 info =
-    let a = respond-answered (goesBy call) s b x v8 m16 info (something-to-send (goesBy call) s b x) in (
+    let a = respond-answered (settingsFor call) s b x v8 m16 info (something-to-send (settingsFor call) s b x) in (
       (
         λ r. ⊎-elim (λ d. weak-20 call s b .0 d) (λ f. absurd (f .1 .fails)) (a .refused 20 0 0 .0 r),
         λ w. a .refused 20 0 0 .1 (inl (weak-20 call s b .1 w)),

@@ -47,13 +47,13 @@ abbrev pub placeIn : ℕ → ℕ
 placeIn answer = answer / 0x10000 % 0x800000000000
 
 -- a success: the top bit is clear, and the answer is the length of what was written, or 0
-pub record TellsLength (answer n : ℕ) : Type 0 where
+pub record DecodesLength (answer n : ℕ) : Type 0 where
   pub top-bit : isRefused answer ≡ 0
   pub is-length : answer ≡ n
 
 -- a refusal: the top bit is set, and the macros give document 01's number and field, and the place; a place that has no room there is
 -- told as the largest that has
-pub record TellsRefusal (answer : ℕ) (e : Refusal) : Type 0 where
+pub record DecodesRefusal (answer : ℕ) (e : Refusal) : Type 0 where
   pub top-bit : isRefused answer ≡ 1
   pub number : numberIn answer ≡ numberOf e
   pub field : fieldIn answer ≡ fieldOf e
@@ -62,34 +62,34 @@ pub record TellsRefusal (answer : ℕ) (e : Refusal) : Type 0 where
 
 -- ---- the calls that hand out numbers: 33 where an array is too short, and else what the outcome is
 
-abbrev pub TellsOutcome : ℕ → Outcome → Type 0
-TellsOutcome answer (numbers xs) = TellsLength answer 0
-TellsOutcome answer (refused e) = TellsRefusal answer e
+abbrev pub DecodesOutcome : ℕ → Outcome → Type 0
+DecodesOutcome answer (numbers xs) = DecodesLength answer 0
+DecodesOutcome answer (refused e) = DecodesRefusal answer e
 
-abbrev pub CallTells : Type 0
-CallTells =
+abbrev pub CallDecodes : Type 0
+CallDecodes =
     (c : Call) (room : ℕ) →
-    (room < count c → TellsRefusal (callNumber (count c) (outcome c) room) NoRoom)
-    × (count c ≤ room → TellsOutcome (callNumber (count c) (outcome c) room) (outcome c))
+    (room < count c → DecodesRefusal (callNumber (count c) (outcome c) room) NoRoom)
+    × (count c ≤ room → DecodesOutcome (callNumber (count c) (outcome c) room) (outcome c))
 
-abbrev pub TwoArraysTell : Type 0
-TwoArraysTell =
+abbrev pub TwoArraysDecode : Type 0
+TwoArraysDecode =
     (c : TwoArrayCall) (room room′ : ℕ) →
-    ((room < numberCount c) ⊎ (room′ < byteCount c) → TellsRefusal (twoArrayNumber (numberCount c) (byteCount c) (twoArrayOutcome c) room room′) NoRoom)
-    × (numberCount c ≤ room → byteCount c ≤ room′ → TellsOutcome (twoArrayNumber (numberCount c) (byteCount c) (twoArrayOutcome c) room room′) (twoArrayOutcome c))
+    ((room < numberCount c) ⊎ (room′ < byteCount c) → DecodesRefusal (twoArrayNumber (numberCount c) (byteCount c) (twoArrayOutcome c) room room′) NoRoom)
+    × (numberCount c ≤ room → byteCount c ≤ room′ → DecodesOutcome (twoArrayNumber (numberCount c) (byteCount c) (twoArrayOutcome c) room room′) (twoArrayOutcome c))
 
-abbrev pub TellsVerdict : ℕ → Verdict → Type 0
-TellsVerdict answer Clear = TellsLength answer 0
-TellsVerdict answer (Not e) = TellsRefusal answer e
+abbrev pub DecodesVerdict : ℕ → Verdict → Type 0
+DecodesVerdict answer Clear = DecodesLength answer 0
+DecodesVerdict answer (Not e) = DecodesRefusal answer e
 
-abbrev pub CheckPairsTells : Type 0
-CheckPairsTells = (list : List ℕ) → TellsVerdict (verdictNumber (checkPairs list)) (checkPairs list)
+abbrev pub CheckPairsDecodes : Type 0
+CheckPairsDecodes = (list : List ℕ) → DecodesVerdict (verdictNumber (checkPairs list)) (checkPairs list)
 
 -- ---- the calls that write
 
-abbrev pub TellsWritten : ℕ → Written → Type 0
-TellsWritten answer (Length n) = TellsLength answer n
-TellsWritten answer (Refused e) = TellsRefusal answer e
+abbrev pub DecodesWritten : ℕ → Written → Type 0
+DecodesWritten answer (Length n) = DecodesLength answer n
+DecodesWritten answer (Refused e) = DecodesRefusal answer e
 
 -- a message, or the pair list of request 2/12; Version and MIC are of 8 and 16 bytes, as the calls take them
 pub data Writing : Type 0 where
@@ -112,8 +112,8 @@ writingAnswer (write-response-pairs room s name unverified bindings) = pairsAnsw
 abbrev pub WritingShort : Type 0
 WritingShort = (w : Writing) (n : ℕ) → writingAnswer w ≡ Length n → n ≤ 65535
 
-abbrev pub WritingTells : Type 0
-WritingTells = (w : Writing) → TellsWritten (writtenNumber (writingAnswer w)) (writingAnswer w)
+abbrev pub WritingDecodes : Type 0
+WritingDecodes = (w : Writing) → DecodesWritten (writtenNumber (writingAnswer w)) (writingAnswer w)
 
 -- a line; `out` is the output of a program's call
 pub data LineCall : Type 0 where
@@ -125,29 +125,29 @@ pub data LineCall : Type 0 where
   ntlm-program-line : (msg out : List ℕ) → LineCall
   nl-auth-program-line : (msg out : List ℕ) → LineCall
 
-abbrev pub lineOf : LineCall → List ℕ
-lineOf (negotiate-line msg) = negotiateLine msg
-lineOf (authenticate-line msg) = authenticateLine msg
-lineOf (challenge-line msg) = challengeLine msg
-lineOf (nl-auth-line msg) = nlAuthLine msg
-lineOf (ntlm-line msg) = ntlmLine msg
-lineOf (ntlm-program-line msg out) = shownLine (ntlmLine msg) out
-lineOf (nl-auth-program-line msg out) = shownLine (nlAuthLine msg) out
+abbrev pub calledLine : LineCall → List ℕ
+calledLine (negotiate-line msg) = negotiateLine msg
+calledLine (authenticate-line msg) = authenticateLine msg
+calledLine (challenge-line msg) = challengeLine msg
+calledLine (nl-auth-line msg) = nlAuthLine msg
+calledLine (ntlm-line msg) = ntlmLine msg
+calledLine (ntlm-program-line msg out) = shownLine (ntlmLine msg) out
+calledLine (nl-auth-program-line msg out) = shownLine (nlAuthLine msg) out
 
 -- a line has under 2^20 bytes
 abbrev pub LineShort : Type 0
-LineShort = (l : LineCall) → length (lineOf l) < 0x100000
+LineShort = (l : LineCall) → length (calledLine l) < 0x100000
 
-abbrev pub LineTells : Type 0
-LineTells = (l : LineCall) (out : List ℕ) → TellsWritten (writtenNumber (bytesAnswer (lineOf l) out)) (bytesAnswer (lineOf l) out)
+abbrev pub LineDecodes : Type 0
+LineDecodes = (l : LineCall) (out : List ℕ) → DecodesWritten (writtenNumber (bytesAnswer (calledLine l) out)) (bytesAnswer (calledLine l) out)
 
 -- a copy, of a field's bytes or of the domain to send: no longer than the output that the caller lends
 abbrev pub CopyFits : Type 0
 CopyFits = (bytes out : List ℕ) (n : ℕ) → bytesAnswer bytes out ≡ Length n → n ≤ length out
 
 -- so that its top bit is clear where the output has under 2^63 bytes
-abbrev pub CopyTells : Type 0
-CopyTells = (bytes out : List ℕ) → length out < 0x8000000000000000 → TellsWritten (writtenNumber (bytesAnswer bytes out)) (bytesAnswer bytes out)
+abbrev pub CopyDecodes : Type 0
+CopyDecodes = (bytes out : List ℕ) → length out < 0x8000000000000000 → DecodesWritten (writtenNumber (bytesAnswer bytes out)) (bytesAnswer bytes out)
 
 -- ---- answering a challenge, with every settings
 
@@ -156,15 +156,15 @@ RespondShort =
     (settings : Settings) (s : List ℕ) (x : Supplied) (y : Answer) → length (x .version) ≡ 8 → length (x .mic) ≡ 16 →
     respondTo settings s x .answer ≡ Sent y → y .len ≤ 65535
 
-abbrev pub TellsAnswered : ℕ → Answered → Type 0
-TellsAnswered answer (Sent x) = TellsLength answer (x .len)
-TellsAnswered answer (Unanswered e) = TellsRefusal answer e
+abbrev pub DecodesAnswered : ℕ → Answered → Type 0
+DecodesAnswered answer (Sent x) = DecodesLength answer (x .len)
+DecodesAnswered answer (Unanswered e) = DecodesRefusal answer e
 
-pub record AnswerTells (answer : Answered) (room number : ℕ) : Type 0 where
-  pub short : room < 2 → TellsRefusal number NoRoom
-  pub told : 2 ≤ room → TellsAnswered number answer
+pub record AnswerDecodes (answer : Answered) (room number : ℕ) : Type 0 where
+  pub short : room < 2 → DecodesRefusal number NoRoom
+  pub decoded : 2 ≤ room → DecodesAnswered number answer
 
-abbrev pub RespondTells : Type 0
-RespondTells =
+abbrev pub RespondDecodes : Type 0
+RespondDecodes =
     (settings : Settings) (s : List ℕ) (x : Supplied) (xs : List ℕ) → length (x .version) ≡ 8 → length (x .mic) ≡ 16 →
-    AnswerTells (respondTo settings s x .answer) (length xs) (respondFromC settings s x xs .number)
+    AnswerDecodes (respondTo settings s x .answer) (length xs) (respondFromC settings s x xs .number)

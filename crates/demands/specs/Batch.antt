@@ -74,7 +74,7 @@ Each R (x ∷ xs) [] = ⊥
 -- ---- the call: "1 for the buffer, changing no entry"
 
 -- from C, by the header's macros: 1 with field and place 0
-pub record TellsTooLong (answer : ℕ) : Type 0 where
+pub record DecodesTooLong (answer : ℕ) : Type 0 where
   pub top-bit : isRefused answer ≡ 1
   pub number : numberIn answer ≡ 1
   pub field : fieldIn answer ≡ 0
@@ -84,7 +84,7 @@ abbrev pub BatchAnswers : Type 0
 BatchAnswers =
     (s : List ℕ) (es : List Entry) →
     (length s ≤ 65535 → (bufferVerdict s ≡ Clear) × (verdictNumber (bufferVerdict s) ≡ 0) × Each (EntryAnswered s) es (filled s es))
-    × (65535 < length s → (bufferVerdict s ≡ Refused TooLong) × TellsTooLong (verdictNumber (bufferVerdict s)) × (filled s es ≡ es))
+    × (65535 < length s → (bufferVerdict s ≡ Refused TooLong) × DecodesTooLong (verdictNumber (bufferVerdict s)) × (filled s es ≡ es))
 
 -- ---- "Demand 3 here reads: two buffers of one length that differ only inside the secrets that count, or a MIC that is there, of
 -- ---- listed AUTHENTICATE messages, and in no byte that any listed message has as a name, in its first 64 bytes or in a challenge, get
@@ -95,8 +95,8 @@ Listed e [] = ⊥
 Listed e (x ∷ xs) = (e ≡ x) ⊎ Listed e xs
 
 -- the byte at p of the buffer is one of the message's
-abbrev pub Within : Entry → ℕ → Type 0
-Within e p = (e .start ≤ p) × (p < e .start + e .length)
+abbrev pub InMessage : Entry → ℕ → Type 0
+InMessage e p = (e .start ≤ p) × (p < e .start + e .length)
 
 -- the names of each kind
 abbrev pub NameOf : Kind → ℕ → Type 0
@@ -117,13 +117,13 @@ module _ (es : List Entry) (s : List ℕ) where
     pub entry : Entry
     pub listed : Listed entry es
     pub marked : Marked entry Authenticate
-    pub within : Within entry p
+    pub within : InMessage entry p
     pub secret : Secret (message s entry) (p - entry .start)
 
   pub record DifferInListedSecrets (t : List ℕ) : Type 0 where
     pub length-same : length s ≡ length t
     pub only-secrets : (p : ℕ) → (getD s p 0 ≡ getD t p 0) ⊎ ListedSecret p
-    pub open-same : (e : Entry) → Listed e es → Inside s e → (p : ℕ) → Within e p → Open s e p → getD s p 0 ≡ getD t p 0
+    pub open-same : (e : Entry) → Listed e es → Inside s e → (p : ℕ) → InMessage e p → Open s e p → getD s p 0 ≡ getD t p 0
 
   -- demand 2: two buffers of one length in which each listed message differs only in ignored bytes
   pub record DifferInListedIgnored (t : List ℕ) : Type 0 where
@@ -143,8 +143,8 @@ BatchIgnored = (es : List Entry) (s t : List ℕ) → DifferInListedIgnored es s
 -- ---- the theorems speak of something
 
 -- a challenge, and P1 after it, each listed; the old answers are some numbers
-abbrev pub night : List ℕ
-night = challengeMessage ++ p1
+abbrev pub twoMessages : List ℕ
+twoMessages = challengeMessage ++ p1
 
 abbrev entryAt : ℕ → ℕ → ℕ → Entry
 entryAt start len mark = record { start = start; length = len; mark = mark; answer = record { number = 7; field = 8; place = 9 } }
@@ -152,26 +152,26 @@ entryAt start len mark = record { start = start; length = len; mark = mark; answ
 abbrev answeredAs : Entry → ℕ → ℕ → ℕ → Entry
 answeredAs e n i p = record { start = e .start; length = e .length; mark = e .mark; answer = record { number = n; field = i; place = p } }
 
-abbrev pub nightList : List Entry
-nightList = entryAt 0 100 2 ∷ entryAt 100 120 3 ∷ []
+abbrev pub twoEntries : List Entry
+twoEntries = entryAt 0 100 2 ∷ entryAt 100 120 3 ∷ []
 
 -- another first byte of P1's NT response
-abbrev pub otherNight : List ℕ
-otherNight = set night 196 0xBB
+abbrev pub otherSecretBuffer : List ℕ
+otherSecretBuffer = set twoMessages 196 0xBB
 
 -- another MaxLen of the challenge's first field
-abbrev pub ignoredNight : List ℕ
-ignoredNight = set night 14 0xFF
+abbrev pub otherIgnoredBuffer : List ℕ
+otherIgnoredBuffer = set twoMessages 14 0xFF
 
 -- the challenge with length 5 in its second pair, at 76 of the message, after one byte
 abbrev faulty : List ℕ
 faulty = 0 ∷ set challengeMessage 78 5
 
 pub record BatchExample : Type 0 where
-  pub differ : DifferInListedSecrets nightList night otherNight × (night ≡ otherNight → ⊥)
-  pub ignored : DifferInListedIgnored nightList night ignoredNight × (night ≡ ignoredNight → ⊥)
+  pub differ : DifferInListedSecrets twoEntries twoMessages otherSecretBuffer × (twoMessages ≡ otherSecretBuffer → ⊥)
+  pub ignored : DifferInListedIgnored twoEntries twoMessages otherIgnoredBuffer × (twoMessages ≡ otherIgnoredBuffer → ⊥)
   -- both taken; P1 read as a challenge, which it isn't; a place past the end by one; the end itself with no bytes; a mark of 4
-  pub answers : filled night (nightList ++ (entryAt 100 120 2 ∷ entryAt 100 121 3 ∷ entryAt 220 0 3 ∷ entryAt 0 100 4 ∷ [])) ≡
+  pub answers : filled twoMessages (twoEntries ++ (entryAt 100 120 2 ∷ entryAt 100 121 3 ∷ entryAt 220 0 3 ∷ entryAt 0 100 4 ∷ [])) ≡
       (answeredAs (entryAt 0 100 2) 0 0 0 ∷ answeredAs (entryAt 100 120 3) 0 0 0 ∷ answeredAs (entryAt 100 120 2) 4 0 0
       ∷ answeredAs (entryAt 100 121 3) 54 0 0 ∷ answeredAs (entryAt 220 0 3) 2 0 0 ∷ answeredAs (entryAt 0 100 4) 4 0 0 ∷ [])
   -- the pair place counts from the entry's message

@@ -21,7 +21,7 @@ use Rattle.head.specs.declared.Kind.the-variants.{Authenticate as AsAuthenticat
 use Rattle.verdict.specs.Verdict.{readAs}
 use Rattle.c_number.specs.Number.{writtenNumber}
 use Rattle.write_canonical.specs.Canonical.{Meaning, canonicalAnswer, canonicalOut}
-use Rattle.demands.specs.Answers.{TellsWritten}
+use Rattle.demands.specs.Answers.{DecodesWritten}
 use Rattle.demands.specs.Bench.{p1}
 use Rattle.demands.specs.LaidOut.{LaidOut}
 use Rattle.demands.specs.Message.{authenticate, lenOf, Nonempty, Fails, DifferInIgnored}
@@ -152,8 +152,8 @@ CanonicalSecret = (s t : List ℕ) → DifferInSecrets s t → SecretsWritten s 
 abbrev pub CanonicalShort : Type 0
 CanonicalShort = (room : ℕ) (s : List ℕ) (n : ℕ) → canonicalAnswer room s ≡ Length n → n ≤ 65535
 
-abbrev pub CanonicalTells : Type 0
-CanonicalTells = (room : ℕ) (s : List ℕ) → TellsWritten (writtenNumber (canonicalAnswer room s)) (canonicalAnswer room s)
+abbrev pub CanonicalDecodes : Type 0
+CanonicalDecodes = (room : ℕ) (s : List ℕ) → DecodesWritten (writtenNumber (canonicalAnswer room s)) (canonicalAnswer room s)
 
 -- ---- the theorems speak of something: P1 is its own canonical form
 

@@ -28,12 +28,12 @@ readOn base n [] = n
 readOn base n (c ∷ cs) = readOn base (n * base + worthOf c) cs
 
 -- the value of digits in a base
-abbrev pub valueOf : ℕ → List ℕ → ℕ
-valueOf base text = readOn base 0 text
+abbrev pub digitsValue : ℕ → List ℕ → ℕ
+digitsValue base text = readOn base 0 text
 
 -- a number in decimal: only the text "0" begins with '0'
 pub record IsDecimalOf (n : ℕ) (text : List ℕ) : Type 0 where
-  pub value : valueOf 10 text ≡ n
+  pub value : digitsValue 10 text ≡ n
   pub some : 0 < length text
   pub digits : (i : ℕ) → i < length text → IsDecimalDigit (getD text i 0)
   pub no-leading-zero : getD text 0 0 ≡ 48 → text ≡ ascii "0"
@@ -43,7 +43,7 @@ DecimalHasValue = (n : ℕ) → IsDecimalOf n (decimal n)
 
 -- a number in k hex digits
 pub record IsHexOf (k n : ℕ) (text : List ℕ) : Type 0 where
-  pub value : n < 16 ^ k → valueOf 16 text ≡ n
+  pub value : n < 16 ^ k → digitsValue 16 text ≡ n
   pub count : length text ≡ k
   pub digits : (i : ℕ) → i < k → IsHexDigit (getD text i 0)
 

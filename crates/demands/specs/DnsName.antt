@@ -10,8 +10,8 @@ use lib.ListN.{length, getD}
 use Rattle.read_dns_name.specs.declared.Reading.{Reading}
 use Rattle.read_dns_name.specs.declared.Reading.the-variants.{Taken, Refused}
 use Rattle.read_dns_name.specs.DnsName.{readName, labelsAt, numberOf}
-use Rattle.read_dns_name.specs.Rfc1035.{NameAt, FirstFault}
-use Rattle.line_dns_name.specs.DnsNameText.{nameText}
+use Rattle.read_dns_name.specs.Rfc1035.{NameAt, FirstNameFault}
+use Rattle.line_dns_name.specs.DnsNameText.{dnsNameText}
 
 abbrev pub NameRefusedWith : Reading → ℕ → Type 0
 NameRefusedWith (Taken m) n = ⊥
@@ -23,13 +23,13 @@ NameIsTaken =
     ((readName s start ≡ Taken (record { jumps = jumps; next = next })) × (labelsAt s start ≡ ls)) ↔ NameAt s start ls jumps next
 
 abbrev pub NameIsRefused : Type 0
-NameIsRefused = (s : List ℕ) (start n : ℕ) → NameRefusedWith (readName s start) n ↔ FirstFault s start n
+NameIsRefused = (s : List ℕ) (start n : ℕ) → NameRefusedWith (readName s start) n ↔ FirstNameFault s start n
 
 -- every place has a name or a first fault, and never two: so a reading ends, and there is one reading only
 abbrev pub NameOrFault : Type 0
 NameOrFault =
     (s : List ℕ) (start : ℕ) →
-    ((ls : List (List ℕ)) × (jumps : ℕ) × (next : ℕ) × NameAt s start ls jumps next) ⊎ ((n : ℕ) × FirstFault s start n)
+    ((ls : List (List ℕ)) × (jumps : ℕ) × (next : ℕ) × NameAt s start ls jumps next) ⊎ ((n : ℕ) × FirstNameFault s start n)
 
 abbrev pub OneName : Type 0
 OneName =
@@ -38,11 +38,11 @@ OneName =
 
 abbrev pub NameNoFault : Type 0
 NameNoFault =
-    (s : List ℕ) (start : ℕ) (ls : List (List ℕ)) (jumps next n : ℕ) → NameAt s start ls jumps next → FirstFault s start n → ⊥
+    (s : List ℕ) (start : ℕ) (ls : List (List ℕ)) (jumps next n : ℕ) → NameAt s start ls jumps next → FirstNameFault s start n → ⊥
 
 -- so many bytes always suffice for the text of one
 abbrev pub NameShort : Type 0
-NameShort = (s : List ℕ) (start : ℕ) → length (nameText (labelsAt s start)) ≤ 1020
+NameShort = (s : List ℕ) (start : ℕ) → length (dnsNameText (labelsAt s start)) ≤ 1020
 
 -- ---- "We write without jumps, from text split at full stops; empty text is the zero byte alone."
 

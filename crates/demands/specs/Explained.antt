@@ -19,12 +19,12 @@ use Rattle.head.specs.Head.{kindOf}
 use Rattle.verdict.specs.Verdict.{readAs}
 use Rattle.c_number.specs.Number.{writtenNumber}
 use Rattle.explain.specs.Explain.{explanation}
-use Rattle.demands.specs.Answers.{TellsWritten}
+use Rattle.demands.specs.Answers.{DecodesWritten}
 use Rattle.demands.specs.Bench.{p1}
 use Rattle.demands.specs.Examples.{negotiateMessage, challengeMessage}
 use Rattle.demands.specs.Ignored.{DifferAsRead}
 use Rattle.demands.specs.Message.{Format, negotiate, authenticate, challenge, lenOf, offsetOf, Fails}
-use Rattle.demands.specs.Order.{placeIn, check}
+use Rattle.demands.specs.Order.{rankIn, check}
 use Rattle.demands.specs.PairList.{idOf, sizeOf, nextOf, PairAt, Fails10, Fails11, Fails12, Fails13}
 use Rattle.demands.specs.Secret.{DifferInSecrets}
 use Rattle.demands.specs.TakenExactly.{IsTaken, RefusedWith, InfoBytes}
@@ -130,12 +130,12 @@ pub record FiguresAre (k : Kind) (s : List ℕ) (n i p : ℕ) (f : Figures) : Ty
 
 -- check n is one of these, and comes before another
 abbrev pub OneOf : List ℕ → ℕ → Type 0
-OneOf checks n = placeIn checks n < length checks
+OneOf checks n = rankIn checks n < length checks
 
 abbrev pub Before : List ℕ → ℕ → ℕ → Type 0
-Before checks m n = placeIn checks m < placeIn checks n
+Before checks m n = rankIn checks m < rankIn checks n
 
-pub record Told (k : Kind) (s : List ℕ) (state : ℕ → State) : Type 0 where
+pub record TrueStates (k : Kind) (s : List ℕ) (state : ℕ → State) : Type 0 where
   -- an accepted message shows all held, and only an accepted one does
   pub all-held : TakenAs k s → (n : ℕ) → OneOf (printedChecks k) n → state n ≡ held
   pub only-taken : ((n : ℕ) → OneOf (printedChecks k) n → state n ≡ held) → TakenAs k s
@@ -152,7 +152,7 @@ pub record Told (k : Kind) (s : List ℕ) (state : ℕ → State) : Type 0 where
 
 -- the print is one line for each check of the kind, in its order, with a state that is true of it
 abbrev pub ExplainedExactly : Type 0
-ExplainedExactly = (s : List ℕ) → (state : ℕ → State) × (explanation s ≡ printOf state (printedChecks (kindOf s))) × Told (kindOf s) s state
+ExplainedExactly = (s : List ℕ) → (state : ℕ → State) × (explanation s ≡ printOf state (printedChecks (kindOf s))) × TrueStates (kindOf s) s state
 
 -- ---- demands 1 to 3; what a call of it answers, changes and leaves is that of every line (`LineIsWritten`, `LineStands`, `LineKept`)
 
@@ -173,10 +173,10 @@ abbrev pub ExplainedShort : Type 0
 ExplainedShort = (s : List ℕ) → ((i : ℕ) → getD s i 0 < 256) → length (explanation s) ≤ 322
 
 -- so that from C no length of a message of bytes is taken for a refusal
-abbrev pub ExplainedTells : Type 0
-ExplainedTells =
+abbrev pub ExplainedDecodes : Type 0
+ExplainedDecodes =
     (s out : List ℕ) → ((i : ℕ) → getD s i 0 < 256) →
-    TellsWritten (writtenNumber (bytesAnswer (explanation s) out)) (bytesAnswer (explanation s) out)
+    DecodesWritten (writtenNumber (bytesAnswer (explanation s) out)) (bytesAnswer (explanation s) out)
 
 -- ---- examples, worked out by hand
 

@@ -14,7 +14,7 @@ use Rattle.c_pairs.specs.Pairs.{countOutcome, searchOutcome, askedOutcome}
 use Rattle.c_respond.specs.Settings.{settingsOf}
 use Rattle.c_respond.specs.Respond.{decidedOutcome}
 use Rattle.target_info.specs.TargetInfo.{findPair}
-use Rattle.mic.specs.Mic.{workOut}
+use Rattle.mic.specs.Mic.{computedMic}
 use Rattle.c_mic.specs.Numbers.{micOutcome}
 
 -- ---- with one array
@@ -28,7 +28,7 @@ pub data Call : Type 0 where
   find-pair : (list : List ℕ) (id : ℕ) → Call
   next-pair : (list : List ℕ) (at : ℕ) → Call
   decide : (settings : ℕ) (msg : List ℕ) → Call
-  work-out-mic : (key nego chal auth : List ℕ) → Call
+  compute-mic : (key nego chal auth : List ℕ) → Call
 
 -- how many numbers it hands out; of a MIC they are bytes
 abbrev pub count : Call → ℕ
@@ -40,7 +40,7 @@ count (count-pairs list) = 1
 count (find-pair list id) = 3
 count (next-pair list at) = 5
 count (decide settings msg) = 3
-count (work-out-mic key nego chal auth) = 16
+count (compute-mic key nego chal auth) = 16
 
 abbrev pub outcome : Call → Outcome
 outcome (read-negotiate msg) = negotiateOutcome (readNegotiate msg)
@@ -51,7 +51,7 @@ outcome (count-pairs list) = countOutcome (countPairs list)
 outcome (find-pair list id) = searchOutcome (findPair (record { id = id }) list)
 outcome (next-pair list at) = askedOutcome (askAt list at)
 outcome (decide settings msg) = decidedOutcome (decisionOn (settingsOf settings) msg)
-outcome (work-out-mic key nego chal auth) = micOutcome (workOut key nego chal auth)
+outcome (compute-mic key nego chal auth) = micOutcome (computedMic key nego chal auth)
 
 -- ---- with two: the second is for the bytes of a MIC or of ServerChallenge
 

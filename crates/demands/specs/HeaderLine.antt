@@ -14,7 +14,7 @@ use Rattle.place.specs.declared.written.Written.the-variants.{Length}
 use Rattle.base64.specs.Base64.{alphabet, encode}
 use Rattle.http_header.specs.HttpHeader.{exportAnswer, exportOut, importAnswer, importOut}
 use Rattle.c_number.specs.Number.{writtenNumber}
-use Rattle.demands.specs.Answers.{TellsWritten}
+use Rattle.demands.specs.Answers.{DecodesWritten}
 use Rattle.demands.specs.Order.{check}
 use Rattle.demands.specs.Kept.{Kept}
 use Rattle.demands.specs.WrittenExactly.{WritingRefusedWith, WrittenExactly, Fails33}
@@ -52,11 +52,11 @@ abbrev pub NotBase64 : List ℕ → Type 0
 NotBase64 b = WrongCharacter b ⊎ (WrongPadding b ⊎ (WrongGroup b ⊎ WrongLastBits b))
 
 -- how many bytes a text stands for: three for each group, less one for each '=' at the end
-abbrev pub padding : List ℕ → ℕ
-padding b = cond (eqb (getD b (length b - 2) 0) 0x3D) 2 (cond (eqb (getD b (length b - 1) 0) 0x3D) 1 0)
+abbrev pub paddingCount : List ℕ → ℕ
+paddingCount b = cond (eqb (getD b (length b - 2) 0) 0x3D) 2 (cond (eqb (getD b (length b - 1) 0) 0x3D) 1 0)
 
 abbrev pub decodedSize : List ℕ → ℕ
-decodedSize b = length b / 4 * 3 - padding b
+decodedSize b = length b / 4 * 3 - paddingCount b
 
 -- ---- the parts of a line t
 
@@ -140,11 +140,11 @@ abbrev pub ImportKept : Type 0
 ImportKept = (out t : List ℕ) → Kept (importAnswer (length out) t) out (importOut out t)
 
 -- "A refusal gives its number and field", from C; so many bytes always suffice
-abbrev pub ExportTells : Type 0
-ExportTells = (room : ℕ) (m : List ℕ) → TellsWritten (writtenNumber (exportAnswer room m)) (exportAnswer room m)
+abbrev pub ExportDecodes : Type 0
+ExportDecodes = (room : ℕ) (m : List ℕ) → DecodesWritten (writtenNumber (exportAnswer room m)) (exportAnswer room m)
 
-abbrev pub ImportTells : Type 0
-ImportTells = (room : ℕ) (t : List ℕ) → TellsWritten (writtenNumber (importAnswer room t)) (importAnswer room t)
+abbrev pub ImportDecodes : Type 0
+ImportDecodes = (room : ℕ) (t : List ℕ) → DecodesWritten (writtenNumber (importAnswer room t)) (importAnswer room t)
 
 abbrev pub ExportShort : Type 0
 ExportShort = (room : ℕ) (m : List ℕ) (n : ℕ) → exportAnswer room m ≡ Length n → n ≤ 87385
@@ -171,16 +171,16 @@ ImportOfExport =
 -- ---- "two texts give one message only if they differ in nothing but the case of the word or the count of spaces"
 
 -- these letters, given by their capitals, each in either case
-abbrev pub Spelt : List ℕ → List ℕ → Type 0
-Spelt [] [] = Unit
-Spelt [] (c ∷ word) = ⊥
-Spelt (k ∷ capitals) [] = ⊥
-Spelt (k ∷ capitals) (c ∷ word) = InCase k c × Spelt capitals word
+abbrev pub EqualIgnoringCase : List ℕ → List ℕ → Type 0
+EqualIgnoringCase [] [] = Unit
+EqualIgnoringCase [] (c ∷ word) = ⊥
+EqualIgnoringCase (k ∷ capitals) [] = ⊥
+EqualIgnoringCase (k ∷ capitals) (c ∷ word) = InCase k c × EqualIgnoringCase capitals word
 
 pub record LineOf (b t : List ℕ) : Type 0 where
   pub word : List ℕ
   pub spaces : ℕ
-  pub spelt : Spelt (ascii "NTLM") word
+  pub letters : EqualIgnoringCase (ascii "NTLM") word
   pub some : 1 ≤ spaces
   pub whole : t ≡ word ++ (replicate spaces 0x20 ++ b)
 
@@ -194,12 +194,12 @@ abbrev pub OneMessage : Type 0
 OneMessage = (s t out other m : List ℕ) → Gives s out m → Gives t other m → DifferInCaseOrSpaces s t
 
 -- and such lines are answered alike
-pub record AnsweredAlike (s t : List ℕ) : Type 0 where
+pub record ImportedAlike (s t : List ℕ) : Type 0 where
   pub answer : (room : ℕ) → importAnswer room s ≡ importAnswer room t
   pub output : (out : List ℕ) → importOut out s ≡ importOut out t
 
 abbrev pub CaseAndSpacesIgnored : Type 0
-CaseAndSpacesIgnored = (s t : List ℕ) → DifferInCaseOrSpaces s t → AnsweredAlike s t
+CaseAndSpacesIgnored = (s t : List ℕ) → DifferInCaseOrSpaces s t → ImportedAlike s t
 
 -- ---- "Bytes go unread, so demand 2's word on MaxLen and ignored bytes leaves both calls out."
 

@@ -32,11 +32,11 @@ use Rattle.respond.specs.declared.decision.Settings.{Settings}
 use Rattle.respond.specs.Answer.{Supplied, respondTo}
 use Rattle.respond.specs.Decision.{decisionOn}
 use Rattle.respond.specs.Domain.{domainPart}
-use Rattle.demands.specs.MaxLen.{bareAuthenticate, bareChallenge, bareNegotiate, EndsInMax, AlikeButMax}
+use Rattle.demands.specs.MaxLen.{authenticateWithoutMaxLen, challengeWithoutMaxLen, negotiateWithoutMaxLen, EndsInMax, AlikeButMax}
 use Rattle.demands.specs.Message.{negotiate, authenticate, challenge, DifferInIgnored, SameMaxLen}
 use Rattle.demands.specs.NlAuth.{typeOf}
 use Rattle.demands.specs.TakenExactly.{IsTaken}
-use Rattle.demands.specs.ThinCalls.{ThinCall, goesBy}
+use Rattle.demands.specs.ThinCalls.{ThinCall, settingsFor}
 
 -- a field has the same bytes in both
 abbrev pub SameBytes : List ℕ → List ℕ → Field → Type 0
@@ -53,7 +53,7 @@ pub record SameFields (s t : List ℕ) (f : Fields) : Type 0 where
 
 -- they get the same answer but for MaxLen: flags, places, MIC or refusal, and each field's bytes
 pub record SameAnswer (s t : List ℕ) : Type 0 where
-  pub reading : bareAuthenticate (readAuthenticate s .reading) ≡ bareAuthenticate (readAuthenticate t .reading)
+  pub reading : authenticateWithoutMaxLen (readAuthenticate s .reading) ≡ authenticateWithoutMaxLen (readAuthenticate t .reading)
   pub mic : readAuthenticate s .mic ≡ readAuthenticate t .mic
   pub whole : SameMaxLen authenticate s t → readAuthenticate s ≡ readAuthenticate t
   pub bytes : (a : Authenticate) → readAuthenticate s .reading ≡ Taken a → SameFields s t (a .fields)
@@ -63,7 +63,7 @@ AuthenticateIgnored = (s t : List ℕ) → DifferInIgnored authenticate s t → 
 
 -- for CHALLENGE also the timestamp and the server's names
 pub record SameChallenge (s t : List ℕ) : Type 0 where
-  pub reading : bareChallenge (readChallenge s .reading) ≡ bareChallenge (readChallenge t .reading)
+  pub reading : challengeWithoutMaxLen (readChallenge s .reading) ≡ challengeWithoutMaxLen (readChallenge t .reading)
   pub server-challenge : readChallenge s .«server_challenge» ≡ readChallenge t .«server_challenge»
   pub whole : SameMaxLen challenge s t → readChallenge s ≡ readChallenge t
   pub timestamp : timestampOf s ≡ timestampOf t
@@ -76,7 +76,7 @@ ChallengeIgnored = (s t : List ℕ) → DifferInIgnored challenge s t → SameCh
 
 -- NEGOTIATE
 pub record SameNegotiate (s t : List ℕ) : Type 0 where
-  pub reading : bareNegotiate (readNegotiate s) ≡ bareNegotiate (readNegotiate t)
+  pub reading : negotiateWithoutMaxLen (readNegotiate s) ≡ negotiateWithoutMaxLen (readNegotiate t)
   pub whole : SameMaxLen negotiate s t → readNegotiate s ≡ readNegotiate t
   pub domain : (m : Negotiate) → readNegotiate s ≡ NegotiateTaken m → SameBytes s t (m .fields .domain)
   pub workstation : (m : Negotiate) → readNegotiate s ≡ NegotiateTaken m → SameBytes s t (m .fields .workstation)
@@ -176,4 +176,4 @@ RespondIgnored = (settings : Settings) (s t : List ℕ) → DifferInIgnored chal
 
 -- so does each of the three thin calls
 abbrev pub ThinCallsIgnored : Type 0
-ThinCallsIgnored = (call : ThinCall) (s t : List ℕ) → DifferInIgnored challenge s t → SameAnswering (goesBy call) s t
+ThinCallsIgnored = (call : ThinCall) (s t : List ℕ) → DifferInIgnored challenge s t → SameAnswering (settingsFor call) s t

@@ -100,8 +100,8 @@ NegotiateByLayout =
 
 -- ---- NL_AUTH: type, flags, and one string for each set bit, A first
 
-abbrev pub under : ℕ → ℕ → List ℕ → List ℕ
-under bits mask string = cond (eqb (bits / mask % 2) 1) string []
+abbrev pub underBit : ℕ → ℕ → List ℕ → List ℕ
+underBit bits mask string = cond (eqb (bits / mask % 2) 1) string []
 
 -- a name: each label after its length byte, and the zero byte
 abbrev pub labelled : List (List ℕ) → List ℕ
@@ -119,8 +119,8 @@ pub record RequestLaidOut (w : List ℕ) (bits : ℕ) (a b c d e : List ℕ) : T
   pub message-type : take 4 w ≡ le32 0
   pub flags : take 4 (drop 4 w) ≡ le32 (bits % 0x20)
   pub strings : drop 8 w ≡
-      under bits 0x1 (a ++ (0 ∷ [])) ++ (under bits 0x2 (b ++ (0 ∷ [])) ++
-      (under bits 0x4 (labelled c-labels) ++ (under bits 0x8 (labelled d-labels) ++ under bits 0x10 (labelled e-labels))))
+      underBit bits 0x1 (a ++ (0 ∷ [])) ++ (underBit bits 0x2 (b ++ (0 ∷ [])) ++
+      (underBit bits 0x4 (labelled c-labels) ++ (underBit bits 0x8 (labelled d-labels) ++ underBit bits 0x10 (labelled e-labels))))
 
 abbrev pub NlRequestByLayout : Type 0
 NlRequestByLayout =

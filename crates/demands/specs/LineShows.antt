@@ -14,7 +14,7 @@ use Rattle.wire.specs.Number.{has}
 use Rattle.wire.specs.Refusal.{numberOf, fieldOf, placeOf}
 use Rattle.field.specs.Field.{fieldBytes}
 use Rattle.line_words.specs.Name.{nameText}
-use Rattle.line_dns_name.specs.DnsNameText.{nameText as dnsText}
+use Rattle.line_dns_name.specs.DnsNameText.{dnsNameText as dnsText}
 use Rattle.head.specs.declared.Kind.{Kind}
 use Rattle.head.specs.declared.Kind.the-variants.{Negotiate as AsNegotiate, Challenge as AsChallenge, Authenticate as AsAuthenticate}
 use Rattle.head.specs.Head.{kindOf}

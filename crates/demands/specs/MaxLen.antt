@@ -17,42 +17,42 @@ use Rattle.demands.specs.Message.{Format, lenOf, maxLenOf, Counts}
 use Rattle.demands.specs.TakenExactly.{IsTaken}
 
 -- a field's record without its MaxLen
-abbrev pub bare : Field → Field
-bare f = record { offset = f .offset; len = f .len; «max_len» = 0 }
+abbrev pub withoutMaxLen : Field → Field
+withoutMaxLen f = record { offset = f .offset; len = f .len; «max_len» = 0 }
 
 -- ---- an answer without it: flags, places, whether a MIC is there, or the refusal
 
-abbrev pub bareAuthenticate : Reading → Reading
-bareAuthenticate (Taken a) =
+abbrev pub authenticateWithoutMaxLen : Reading → Reading
+authenticateWithoutMaxLen (Taken a) =
     Taken (record {
       flags = a .flags;
       fields = record {
-        lm = bare (a .fields .lm);
-        nt = bare (a .fields .nt);
-        domain = bare (a .fields .domain);
-        user = bare (a .fields .user);
-        workstation = bare (a .fields .workstation);
-        key = bare (a .fields .key);
+        lm = withoutMaxLen (a .fields .lm);
+        nt = withoutMaxLen (a .fields .nt);
+        domain = withoutMaxLen (a .fields .domain);
+        user = withoutMaxLen (a .fields .user);
+        workstation = withoutMaxLen (a .fields .workstation);
+        key = withoutMaxLen (a .fields .key);
       };
       «mic_present» = a .«mic_present»;
     })
-bareAuthenticate (Refused e) = Refused e
+authenticateWithoutMaxLen (Refused e) = Refused e
 
-abbrev pub bareChallenge : ChallengeReading → ChallengeReading
-bareChallenge (ChallengeTaken c) =
+abbrev pub challengeWithoutMaxLen : ChallengeReading → ChallengeReading
+challengeWithoutMaxLen (ChallengeTaken c) =
     ChallengeTaken (record {
       flags = c .flags;
-      fields = record { «target_name» = bare (c .fields .«target_name»); «target_info» = bare (c .fields .«target_info») };
+      fields = record { «target_name» = withoutMaxLen (c .fields .«target_name»); «target_info» = withoutMaxLen (c .fields .«target_info») };
     })
-bareChallenge (ChallengeRefused e) = ChallengeRefused e
+challengeWithoutMaxLen (ChallengeRefused e) = ChallengeRefused e
 
-abbrev pub bareNegotiate : NegotiateReading → NegotiateReading
-bareNegotiate (NegotiateTaken m) =
+abbrev pub negotiateWithoutMaxLen : NegotiateReading → NegotiateReading
+negotiateWithoutMaxLen (NegotiateTaken m) =
     NegotiateTaken (record {
       flags = m .flags;
-      fields = record { domain = bare (m .fields .domain); workstation = bare (m .fields .workstation) };
+      fields = record { domain = withoutMaxLen (m .fields .domain); workstation = withoutMaxLen (m .fields .workstation) };
     })
-bareNegotiate (NegotiateRefused e) = NegotiateRefused e
+negotiateWithoutMaxLen (NegotiateRefused e) = NegotiateRefused e
 
 -- ---- the last word: "a digit for each field in order: 1 where a field that counts has MaxLen unlike Len, else 0"
 

@@ -15,10 +15,10 @@ use Rattle.wire.specs.declared.refusal.Refusal.the-variants.{NoRoom}
 use Rattle.hmac_md5.specs.Hmac.{hmac}
 use Rattle.mic.specs.declared.Checking.{Checking}
 use Rattle.mic.specs.declared.Checking.the-variants.{Compared, Refused}
-use Rattle.mic.specs.Mic.{workOut, checkMic}
+use Rattle.mic.specs.Mic.{computedMic, checkMic}
 use Rattle.c_number.specs.Outcome.{callNumber, callOut}
 use Rattle.c_mic.specs.Numbers.{micOutcome, checkingNumber}
-use Rattle.demands.specs.Answers.{isRefused, numberIn, TellsLength, TellsRefusal, TellsVerdict}
+use Rattle.demands.specs.Answers.{isRefused, numberIn, DecodesLength, DecodesRefusal, DecodesVerdict}
 use Rattle.demands.specs.Kept.{Front}
 use Rattle.demands.specs.Message.{negotiate, challenge, authenticate, Fails, MicThere, DifferInIgnored}
 use Rattle.demands.specs.Order.{First}
@@ -49,49 +49,49 @@ pub data MicFails (size : ℕ) (nego chal info auth : List ℕ) (n i p : ℕ) : 
 abbrev pub MicJudged : Type 0
 MicJudged =
     (key nego chal info auth : List ℕ) → InfoBytes chal info →
-    Judged (workOut key nego chal auth .verdict) (MicHolds (length key) nego chal info auth) (MicFails (length key) nego chal info auth)
+    Judged (computedMic key nego chal auth .verdict) (MicHolds (length key) nego chal info auth) (MicFails (length key) nego chal info auth)
 
 -- a refusal gives sixteen zeros
 abbrev pub MicRefusedZeros : Type 0
 MicRefusedZeros =
-    (key nego chal auth : List ℕ) (e : Refusal) → workOut key nego chal auth .verdict ≡ Not e → workOut key nego chal auth .mic ≡ replicate 16 0
+    (key nego chal auth : List ℕ) (e : Refusal) → computedMic key nego chal auth .verdict ≡ Not e → computedMic key nego chal auth .mic ≡ replicate 16 0
 
 -- what it is: HMAC-MD5 over the three messages, "with the sixteen MIC bytes taken as zero"
 abbrev pub MicIs : Type 0
 MicIs =
-    (key nego chal auth : List ℕ) → workOut key nego chal auth .verdict ≡ Clear →
-    workOut key nego chal auth .mic ≡ hmac key (nego ++ (chal ++ (take 72 auth ++ (replicate 16 0 ++ drop 88 auth))))
+    (key nego chal auth : List ℕ) → computedMic key nego chal auth .verdict ≡ Clear →
+    computedMic key nego chal auth .mic ≡ hmac key (nego ++ (chal ++ (take 72 auth ++ (replicate 16 0 ++ drop 88 auth))))
 
 -- ---- the answers of the C interface
 
 -- that of dialtable_mic, with an array of so many bytes, and that of dialtable_check_mic
 abbrev pub micNumber : ℕ → List ℕ → List ℕ → List ℕ → List ℕ → ℕ
-micNumber room key nego chal auth = callNumber 16 (micOutcome (workOut key nego chal auth)) room
+micNumber room key nego chal auth = callNumber 16 (micOutcome (computedMic key nego chal auth)) room
 
 abbrev pub checkNumber : List ℕ → List ℕ → List ℕ → List ℕ → ℕ
 checkNumber key nego chal auth = checkingNumber (checkMic key nego chal auth)
 
 -- the header's macros take out of the first 33 where the array is too short, and else the refusal, or it is 0
-abbrev pub MicTells : Type 0
-MicTells =
+abbrev pub MicDecodes : Type 0
+MicDecodes =
     (room : ℕ) (key nego chal auth : List ℕ) →
-    (room < 16 → TellsRefusal (micNumber room key nego chal auth) NoRoom)
-    × (16 ≤ room → TellsVerdict (micNumber room key nego chal auth) (workOut key nego chal auth .verdict))
+    (room < 16 → DecodesRefusal (micNumber room key nego chal auth) NoRoom)
+    × (16 ≤ room → DecodesVerdict (micNumber room key nego chal auth) (computedMic key nego chal auth .verdict))
 
 -- and out of the second the refusal, or it is 1 for yes and 0 for no
-abbrev pub TellsChecking : ℕ → Checking → Type 0
-TellsChecking answer (Compared true) = TellsLength answer 1
-TellsChecking answer (Compared false) = TellsLength answer 0
-TellsChecking answer (Refused e) = TellsRefusal answer e
+abbrev pub DecodesChecking : ℕ → Checking → Type 0
+DecodesChecking answer (Compared true) = DecodesLength answer 1
+DecodesChecking answer (Compared false) = DecodesLength answer 0
+DecodesChecking answer (Refused e) = DecodesRefusal answer e
 
-abbrev pub CheckMicTells : Type 0
-CheckMicTells = (key nego chal auth : List ℕ) → TellsChecking (checkNumber key nego chal auth) (checkMic key nego chal auth)
+abbrev pub CheckMicDecodes : Type 0
+CheckMicDecodes = (key nego chal auth : List ℕ) → DecodesChecking (checkNumber key nego chal auth) (checkMic key nego chal auth)
 
 -- ---- the two calls agree
 
 pub record Agree (key nego chal auth : List ℕ) : Type 0 where
-  pub refused : (e : Refusal) → (checkMic key nego chal auth ≡ Refused e) ↔ (workOut key nego chal auth .verdict ≡ Not e)
-  pub yes : (checkMic key nego chal auth ≡ Compared true) ↔ ((workOut key nego chal auth .verdict ≡ Clear) × (take 16 (drop 72 auth) ≡ workOut key nego chal auth .mic))
+  pub refused : (e : Refusal) → (checkMic key nego chal auth ≡ Refused e) ↔ (computedMic key nego chal auth .verdict ≡ Not e)
+  pub yes : (checkMic key nego chal auth ≡ Compared true) ↔ ((computedMic key nego chal auth .verdict ≡ Clear) × (take 16 (drop 72 auth) ≡ computedMic key nego chal auth .mic))
   -- from C, where the array has its room: both are refused or none, and a refusal is the same number
   pub refused-from-c : (room : ℕ) → 16 ≤ room → isRefused (micNumber room key nego chal auth) ≡ isRefused (checkNumber key nego chal auth)
   pub same-number : (room : ℕ) → 16 ≤ room → isRefused (checkNumber key nego chal auth) ≡ 1 → micNumber room key nego chal auth ≡ checkNumber key nego chal auth
@@ -106,23 +106,23 @@ pub record DifferInMic (s t : List ℕ) : Type 0 where
   pub elsewhere : (p : ℕ) → (getD s p 0 ≡ getD t p 0) ⊎ ((72 ≤ p) × (p < 88))
 
 abbrev pub MicBlind : Type 0
-MicBlind = (key nego chal s t : List ℕ) → DifferInMic s t → workOut key nego chal s ≡ workOut key nego chal t
+MicBlind = (key nego chal s t : List ℕ) → DifferInMic s t → computedMic key nego chal s ≡ computedMic key nego chal t
 
 -- ---- what is worked out, put at 72 of the AUTHENTICATE, makes the check say yes, and any other sixteen bytes make it say no
 
 pub record PutIn (key nego chal auth bytes : List ℕ) : Type 0 where
-  pub yes : bytes ≡ workOut key nego chal auth .mic → checkMic key nego chal (sets auth 72 bytes) ≡ Compared true
-  pub no : (bytes ≡ workOut key nego chal auth .mic → ⊥) → checkMic key nego chal (sets auth 72 bytes) ≡ Compared false
+  pub yes : bytes ≡ computedMic key nego chal auth .mic → checkMic key nego chal (sets auth 72 bytes) ≡ Compared true
+  pub no : (bytes ≡ computedMic key nego chal auth .mic → ⊥) → checkMic key nego chal (sets auth 72 bytes) ≡ Compared false
 
 abbrev pub MicPutIn : Type 0
 MicPutIn =
-    (key nego chal auth bytes : List ℕ) → workOut key nego chal auth .verdict ≡ Clear → length bytes ≡ 16 → PutIn key nego chal auth bytes
+    (key nego chal auth bytes : List ℕ) → computedMic key nego chal auth .verdict ≡ Clear → length bytes ≡ 16 → PutIn key nego chal auth bytes
 
 -- ---- by what the refusals don't go
 
 -- both calls are refused twice, with the same refusal, or not at all
 pub record SameMicRefusals (key nego chal auth key′ nego′ chal′ auth′ : List ℕ) : Type 0 where
-  pub worked : workOut key nego chal auth .verdict ≡ workOut key′ nego′ chal′ auth′ .verdict
+  pub computed : computedMic key nego chal auth .verdict ≡ computedMic key′ nego′ chal′ auth′ .verdict
   pub checked : (e : Refusal) → (checkMic key nego chal auth ≡ Refused e) ↔ (checkMic key′ nego′ chal′ auth′ ≡ Refused e)
   pub from-c : (room : ℕ) → micNumber room key nego chal auth ≡ micNumber room key′ nego′ chal′ auth′
   -- a check from C: both are refused or none, and where one is refused both have its number
@@ -146,15 +146,15 @@ MicSecret =
 
 -- refused with e: 33 exactly where the array has under 16 bytes, and else what the verdict is
 pub record MicUnwritten (key nego chal auth out : List ℕ) (e : Refusal) : Type 0 where
-  pub unchanged : callOut 16 (micOutcome (workOut key nego chal auth)) out ≡ out
-  pub answer : TellsRefusal (micNumber (length out) key nego chal auth) e
-  pub which : ((length out < 16) × (e ≡ NoRoom)) ⊎ ((16 ≤ length out) × (workOut key nego chal auth .verdict ≡ Not e))
+  pub unchanged : callOut 16 (micOutcome (computedMic key nego chal auth)) out ≡ out
+  pub answer : DecodesRefusal (micNumber (length out) key nego chal auth) e
+  pub which : ((length out < 16) × (e ≡ NoRoom)) ⊎ ((16 ≤ length out) × (computedMic key nego chal auth .verdict ≡ Not e))
   pub no-room : (numberIn (micNumber (length out) key nego chal auth) ≡ 33) ↔ (length out < 16)
 
 abbrev pub MicKept : Type 0
 MicKept =
     (key nego chal auth out : List ℕ) →
     ((micNumber (length out) key nego chal auth ≡ 0)
-    × (workOut key nego chal auth .verdict ≡ Clear)
-    × Front (workOut key nego chal auth .mic) out (callOut 16 (micOutcome (workOut key nego chal auth)) out))
+    × (computedMic key nego chal auth .verdict ≡ Clear)
+    × Front (computedMic key nego chal auth .mic) out (callOut 16 (micOutcome (computedMic key nego chal auth)) out))
     ⊎ ((e : Refusal) × MicUnwritten key nego chal auth out e)

@@ -7,7 +7,7 @@ use lib.ListN.{set, take, drop}
 use Rattle.wire.specs.declared.check.Verdict.the-variants.{Clear}
 use Rattle.wire.specs.declared.refusal.Refusal.the-variants.{WrongSessionKey}
 use Rattle.mic.specs.declared.Checking.the-variants.{Compared, Refused}
-use Rattle.mic.specs.Mic.{workOut, checkMic}
+use Rattle.mic.specs.Mic.{computedMic, checkMic}
 use Rattle.demands.specs.TakenExactly.{InfoBytes}
 use Rattle.demands.specs.Mic.{MicHolds, DifferInMic}
 
@@ -68,8 +68,8 @@ otherAuth = set auth 72 0xB7
 pub record MicExample : Type 0 where
   pub info-bytes : InfoBytes chal info
   pub holds : MicHolds 16 nego chal info auth
-  pub verdict : workOut key nego chal auth .verdict ≡ Clear
-  pub worked : workOut key nego chal auth .mic ≡ mic
+  pub verdict : computedMic key nego chal auth .verdict ≡ Clear
+  pub computed : computedMic key nego chal auth .mic ≡ mic
   pub yes : checkMic key nego chal auth ≡ Compared true
   -- "no" for another challenge, of which all the rest still holds
   pub other-holds : MicHolds 16 nego otherChal info auth

@@ -8,7 +8,7 @@ use mathlib.Core.List.{List, [], _∷_}
 use lib.Dec.{leb}
 use lib.ListN.{length, take, drop, getD}
 use Rattle.wire.specs.Number.{u32At}
-use Rattle.read_dns_name.specs.Rfc1035.{NameAt, FirstFault}
+use Rattle.read_dns_name.specs.Rfc1035.{NameAt, FirstNameFault}
 use Rattle.demands.specs.Order.{check}
 use Rattle.demands.specs.Message.{FlagSet}
 
@@ -45,7 +45,7 @@ pub data StandsAt (s : List ℕ) (i p next : ℕ) : Type 0 where
 -- string i, which starts at p, has the fault of this number: "15 for a string without its zero byte", and a name's first fault
 pub data FaultIn (s : List ℕ) (i p number : ℕ) : Type 0 where
   no-zero : i ≤ 2 → number ≡ 15 → ((q : ℕ) → ZeroAt s p q → ⊥) → FaultIn s i p number
-  in-name : 3 ≤ i → FirstFault (drop 8 s) (p - 8) number → FaultIn s i p number
+  in-name : 3 ≤ i → FirstNameFault (drop 8 s) (p - 8) number → FaultIn s i p number
 
 -- these strings stand one after the other from p on, and the next one would start at r; a clear bit has none
 abbrev pub Strings : List ℕ → List ℕ → ℕ → ℕ → Type 0

@@ -19,7 +19,7 @@ use Rattle.read_nl_auth.specs.NlAuth.{readNlAuth}
 use Rattle.verdict.specs.Verdict.{negoVerdict, chalVerdict, authVerdict}
 use Rattle.c_number.specs.Outcome.{Outcome, numbers, refused}
 use Rattle.demands.specs.Answering.{TimestampIs}
-use Rattle.demands.specs.FromC.{Call, read-negotiate, read-timestamp, read-server-names, read-nl-auth, count-pairs, find-pair, next-pair, decide, work-out-mic, outcome, TwoArrayCall, read-authenticate, read-challenge, twoArrayOutcome, bytesBeside}
+use Rattle.demands.specs.FromC.{Call, read-negotiate, read-timestamp, read-server-names, read-nl-auth, count-pairs, find-pair, next-pair, decide, compute-mic, outcome, TwoArrayCall, read-authenticate, read-challenge, twoArrayOutcome, bytesBeside}
 use Rattle.demands.specs.Message.{Format, negotiate, authenticate, challenge, lenOf, maxLenOf, offsetOf, Counts, Nonempty, MicThere}
 use Rattle.demands.specs.NlAuth.{typeOf, maskOf, BitSet, ZeroAt, StartsAt}
 use Rattle.demands.specs.PairList.{idOf, sizeOf, nextOf, PairAt, EndAt, Holds, FirstWith, PairThere}
@@ -132,7 +132,7 @@ NumbersSay (find-pair s id) xs = FoundNumbers s id xs
 NumbersSay (next-pair s at) xs = NextNumbers s at xs
 NumbersSay (decide settings s) xs =
     (b : List ℕ) → InfoBytes s b → (numberAt xs 0 ≡ u32At s 20) × TimestampNumbers b (numberAt xs 1) (numberAt xs 2)
-NumbersSay (work-out-mic key nego chal auth) xs =
+NumbersSay (compute-mic key nego chal auth) xs =
     xs ≡ hmac key (nego ++ (chal ++ (take 72 auth ++ (replicate 16 0 ++ drop 88 auth))))
 
 abbrev pub TwoArraysSay : TwoArrayCall → List ℕ → List ℕ → Type 0

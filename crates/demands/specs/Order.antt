@@ -22,12 +22,12 @@ abbrev pub First : (ℕ → ℕ → Type 0) → ℕ → ℕ → Type 0
 First = FirstBy (λ n. n)
 
 -- where they go in the order of a list: a number's rank is its place there, and any other number comes after the list's
-abbrev pub placeIn : List ℕ → ℕ → ℕ
-placeIn [] n = 0
-placeIn (k ∷ ks) n = cond (eqb n k) 0 (1 + placeIn ks n)
+abbrev pub rankIn : List ℕ → ℕ → ℕ
+rankIn [] n = 0
+rankIn (k ∷ ks) n = cond (eqb n k) 0 (1 + rankIn ks n)
 
 abbrev pub FirstIn : List ℕ → (ℕ → ℕ → Type 0) → ℕ → ℕ → Type 0
-FirstIn order = FirstBy (placeIn order)
+FirstIn order = FirstBy (rankIn order)
 
 -- a row of a table of checks: for number k it is P, and for any other what the rest of the table says
 abbrev pub row : Bool → Type 0 → Type 0 → Type 0

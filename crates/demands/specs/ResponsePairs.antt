@@ -22,11 +22,11 @@ use Rattle.demands.specs.WrittenExactly.{Fails30, Fails33}
 -- ---- the list that goes back
 
 -- a pair's value, and the number that a flags pair's is
-abbrev pub valueOf : List ℕ → ℕ → List ℕ
-valueOf s at = take (sizeOf s at) (drop (at + 4) s)
+abbrev pub pairValue : List ℕ → ℕ → List ℕ
+pairValue s at = take (sizeOf s at) (drop (at + 4) s)
 
 abbrev pub bitsOf : List ℕ → ℕ → ℕ
-bitsOf s at = u32At (valueOf s at) 0
+bitsOf s at = u32At (pairValue s at) 0
 
 -- "Take out every incoming pair 9 and 10"
 abbrev pub TakenOut : List ℕ → ℕ → Type 0
@@ -51,7 +51,7 @@ FlagsAdded b name mark = (PairThere b 7 ⊎ Unverified name mark) × (PairThere 
 pub record ValueAt (l : List ℕ) (to id : ℕ) (value : List ℕ) : Type 0 where
   pub there : PairAt l to
   pub id-same : idOf l to ≡ id
-  pub value-same : valueOf l to ≡ value
+  pub value-same : pairValue l to ≡ value
 
 pub record FlagsAt (b l name : List ℕ) (mark : Bool) (came to : ℕ) : Type 0 where
   pub there : PairAt l to
@@ -74,7 +74,7 @@ pub data GoesBack (b l name : List ℕ) (mark : Bool) (bindings : List ℕ) : �
   taken-out : {at to : ℕ} → PairAt b at → TakenOut b at → GoesBack b l name mark bindings (nextOf b at) to → GoesBack b l name mark bindings at to
   first-flags : {at to : ℕ} → PairAt b at → FirstWith b 6 at 0 → FlagsAt b l name mark (bitsOf b at) to →
       GoesBack b l name mark bindings (nextOf b at) (nextOf l to) → GoesBack b l name mark bindings at to
-  same : {at to : ℕ} → PairAt b at → (TakenOut b at → ⊥) → (FirstWith b 6 at 0 → ⊥) → ValueAt l to (idOf b at) (valueOf b at) →
+  same : {at to : ℕ} → PairAt b at → (TakenOut b at → ⊥) → (FirstWith b 6 at 0 → ⊥) → ValueAt l to (idOf b at) (pairValue b at) →
       GoesBack b l name mark bindings (nextOf b at) (nextOf l to) → GoesBack b l name mark bindings at to
   at-end : {at to : ℕ} → EndAt b at → Added b l name mark bindings to → GoesBack b l name mark bindings at to
 

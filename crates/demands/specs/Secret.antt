@@ -24,7 +24,7 @@ use Rattle.demands.specs.FromC.{read-authenticate, twoArrayOutcome}
 use Rattle.demands.specs.Ignored.{SameBytes}
 use Rattle.demands.specs.Message.{authenticate, Nonempty, Covers, MicThere}
 use Rattle.demands.specs.TakenExactly.{IsTaken, RefusedWith}
-use Rattle.demands.specs.ThinCalls.{ThinCall, goesBy}
+use Rattle.demands.specs.ThinCalls.{ThinCall, settingsFor}
 
 -- the byte at p is a secret's or a MIC's: "a field's bytes go by its head, in a refused message too: those from its offset
 -- on, Len of them, as far as the message reaches, and none if it doesn't count. A MIC that is there is bytes 72 to 87, as
@@ -136,4 +136,4 @@ SecretAnswered = (settings : Settings) → SecretAnsweredBy settings
 
 -- and so each of the three thin calls
 abbrev pub ThinCallsSecret : Type 0
-ThinCallsSecret = (call : ThinCall) → SecretAnsweredBy (goesBy call)
+ThinCallsSecret = (call : ThinCall) → SecretAnsweredBy (settingsFor call)

@@ -16,15 +16,15 @@ use Rattle.line_nl_string.specs.StringText.{stringText, textAnswer, textAfter}
 use Rattle.line_words.specs.Words.{lineEnd}
 use Rattle.line_nl_auth.specs.Nl.{nlStart, nlText}
 use Rattle.c_number.specs.Number.{writtenNumber}
-use Rattle.demands.specs.Answers.{TellsWritten}
+use Rattle.demands.specs.Answers.{DecodesWritten}
 use Rattle.demands.specs.Ignored.{NlDifferInIgnored}
 use Rattle.demands.specs.Kept.{Kept}
 use Rattle.demands.specs.NlAuth.{maskOf, NlFirst}
 use Rattle.demands.specs.WrittenExactly.{WritingRefusedWith}
 
 -- "the text as the line shows it": the line is made of these texts, each after its label and left out where its bit is clear
-abbrev pub wordOf : List ℕ → NlAuth → ℕ → List ℕ
-wordOf s m i =
+abbrev pub shownWord : List ℕ → NlAuth → ℕ → List ℕ
+shownWord s m i =
     cond (has (m .flags .bits) (maskOf i))
     (getD (ascii " a=" ∷ ascii " b=" ∷ ascii " c=" ∷ ascii " d=" ∷ ascii " e=" ∷ []) (i - 1) [] ++ stringText s m i)
     []
@@ -33,7 +33,7 @@ abbrev pub TextsAsInLine : Type 0
 TextsAsInLine =
     (s : List ℕ) (m : NlAuth) →
     nlText s m ≡ nlStart (m .«message_type») (m .flags .bits)
-    ++ (wordOf s m 1 ++ (wordOf s m 2 ++ (wordOf s m 3 ++ (wordOf s m 4 ++ (wordOf s m 5 ++ lineEnd)))))
+    ++ (shownWord s m 1 ++ (shownWord s m 2 ++ (shownWord s m 3 ++ (shownWord s m 4 ++ (shownWord s m 5 ++ lineEnd)))))
 
 -- one of the three holds of every message, number and output: the reading's refusal, 33, or the text
 pub record Shown (s : List ℕ) (which : ℕ) (out : List ℕ) : Type 0 where
@@ -66,5 +66,5 @@ abbrev pub TextShort : Type 0
 TextShort = (s : List ℕ) (m : NlAuth) (which : ℕ) → readNlAuth s ≡ Taken m → length (stringText s m which) < 0x100000
 
 -- so that from C no length of a text is taken for a refusal
-abbrev pub TextTells : Type 0
-TextTells = (s : List ℕ) (which : ℕ) (out : List ℕ) → TellsWritten (writtenNumber (textAnswer s which out)) (textAnswer s which out)
+abbrev pub TextDecodes : Type 0
+TextDecodes = (s : List ℕ) (which : ℕ) (out : List ℕ) → DecodesWritten (writtenNumber (textAnswer s which out)) (textAnswer s which out)

@@ -1,6 +1,6 @@
 -- Request 7/12: "The default becomes yes. .. the old-server call now says no itself, the bench call takes yes or no from its caller,
 -- the relay call takes the new default. Rule 20 stands." The contracts of the three thin calls, in Rattle and from C, name the
--- settings that `goesBy` has.
+-- settings that `settingsFor` has.
 use Prim.Native.Nat.{ℕ}
 use mathlib.Core.Path.{_≡_}
 use mathlib.Core.Bool.{Bool, true, false}
@@ -22,10 +22,10 @@ pub data ThinCall : Type 0 where
   for-relay : ThinCall
 
 -- the settings that each goes by
-abbrev pub goesBy : ThinCall → Settings
-goesBy (for-bench demanded) = benchSettings demanded
-goesBy to-old-server = oldServerSettings
-goesBy for-relay = defaults
+abbrev pub settingsFor : ThinCall → Settings
+settingsFor (for-bench demanded) = benchSettings demanded
+settingsFor to-old-server = oldServerSettings
+settingsFor for-relay = defaults
 
 -- whether each demands 128-bit
 abbrev pub demands128 : ThinCall → Bool
@@ -41,7 +41,7 @@ pub record SettingsAre (settings : Settings) (demanded : Bool) : Type 0 where
   pub confidentiality : settings .confidentiality ≡ false
 
 abbrev pub ThinSettings : Type 0
-ThinSettings = (call : ThinCall) → SettingsAre (goesBy call) (demands128 call)
+ThinSettings = (call : ThinCall) → SettingsAre (settingsFor call) (demands128 call)
 
 -- the settings of a number from C, by the header's bits: DIALTABLE_DEMAND_128, DIALTABLE_NTLMV2, DIALTABLE_INTEGRITY and
 -- DIALTABLE_CONFIDENTIALITY
@@ -63,6 +63,6 @@ HeaderDefaults = settingsOf 0x3 ≡ defaults
 abbrev pub ThinCallsRefuse : Type 0
 ThinCallsRefuse =
     (call : ThinCall) (s b : List ℕ) (x : Supplied) → length (x .version) ≡ 8 → length (x .mic) ≡ 16 → InfoBytes s b →
-    (AnswerRefusedWith (respondTo (goesBy call) s x .answer) 20 0 0
+    (AnswerRefusedWith (respondTo (settingsFor call) s x .answer) 20 0 0
     ↔ (ChallengeHolds s b × (demands128 call ≡ true) × (Set challenge s 0x20000000 → ⊥)))
-    × ((i p : ℕ) → AnswerRefusedWith (respondTo (goesBy call) s x .answer) 21 i p → ⊥)
+    × ((i p : ℕ) → AnswerRefusedWith (respondTo (settingsFor call) s x .answer) 21 i p → ⊥)

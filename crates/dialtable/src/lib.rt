@@ -30,7 +30,7 @@ ghost use Rattle.c_number.specs.Outcome.{callNumber, callOut, twoArrayNumber, t
 ghost use Rattle.c_read.specs.FieldCopy.{fieldCopyAnswer, fieldCopyOut};
 ghost use Rattle.c_read.specs.Numbers.{negotiateOutcome, authenticateOutcomeOf, challengeOutcomeOf, timestampOutcome, serverNamesOutcome, nlAuthOutcome};
 ghost use Rattle.c_mic.specs.Numbers.{micOutcome, checkingNumber};
-ghost use Rattle.mic.specs.Mic.{workOut, checkMic};
+ghost use Rattle.mic.specs.Mic.{computedMic, checkMic};
 ghost use Rattle.c_pairs.specs.Pairs.{countOutcome, searchOutcome, askedOutcome};
 ghost use Rattle.c_respond.specs.Settings.{settingsOf};
 ghost use Rattle.c_respond.specs.Respond.{decidedOutcome, RespondsFromC};
@@ -492,12 +492,12 @@ pub extern "C" fn dialtable_mic(
     authenticate: &[u8],
     mic: &mut [u8],
 ) -> u64
-    ensures answer { λ r. ⌜ r ≡ callNumber 16 (micOutcome (workOut (now (key .entry)) (now (negotiate .entry)) (now (challenge .entry)) (now (authenticate .entry))))
+    ensures answer { λ r. ⌜ r ≡ callNumber 16 (micOutcome (computedMic (now (key .entry)) (now (negotiate .entry)) (now (challenge .entry)) (now (authenticate .entry))))
         (length (now (mic .entry))) ⌝ }
-    ensures content { λ _. ⌜ now (mic .exit) ≡ callOut 16 (micOutcome (workOut (now (key .entry)) (now (negotiate .entry)) (now (challenge .entry)) (now (authenticate .entry))))
+    ensures content { λ _. ⌜ now (mic .exit) ≡ callOut 16 (micOutcome (computedMic (now (key .entry)) (now (negotiate .entry)) (now (challenge .entry)) (now (authenticate .entry))))
         (now (mic .entry)) ⌝ }
 {
-    c_mic::work_out(key, negotiate, challenge, authenticate, mic)
+    c_mic::compute(key, negotiate, challenge, authenticate, mic)
 }
 
 #[no_mangle]

@@ -22,14 +22,14 @@ use Rattle.head.specs.Head.{flagsAt, kindOf}
 use Rattle.verdict.specs.Verdict.{readAs, fixedOf, FixedPart, Placed}
 use Rattle.line_checks.specs.declared.Figures.{Figures}
 use Rattle.line_checks.specs.Checks.{aboutPair, checkLines}
-use Rattle.explain.specs.Explain.{checksOf, fieldsOf, numbered, ofPair, figuresOf, noFigures, figuresAs, explainedAs, explanation, NumberThere}
+use Rattle.explain.specs.Explain.{checksOf, fieldsByNumber, fieldNumbered, ofPair, figuresOf, noFigures, figuresAs, explainedAs, explanation, NumberThere}
 
 -- ---- the head of a field
 
 pub in-fixed : (k fixed field i n : ℕ) → FixedPart fixed field n → field ≡ i → T (leb 1 i) → T (leb k fixed) → k ≤ n
 in-fixed k fixed field i n p h u t = le-trans (leb→le k fixed t) (p .there (λ z. omega (arith, leb→le 1 i u)))
 
-pub no-head : (kind : Kind) (s : List ℕ) (i : ℕ) → i ≡ 0 → noField ≡ numbered i (fieldsOf kind s)
+pub no-head : (kind : Kind) (s : List ℕ) (i : ℕ) → i ≡ 0 → noField ≡ fieldNumbered i (fieldsByNumber kind s)
 no-head Negotiate s i h = rw h
 no-head Challenge s i h = rw h
 no-head Authenticate s i h = rw h
@@ -88,7 +88,7 @@ module _ (k : Kind) (s : List ℕ) (v : Verdict) (p : v ≡ readAs k s) (f : Fig
   unfolding figuresAs
   of-taken h q = q ∙ simp (← p, h)
 
-  pub of-refused : (e : Refusal) (i : ℕ) (head : Field) → v ≡ Not e → i ≡ fieldOf e → head ≡ numbered i (fieldsOf k s) → f ≡ figuresOf s head e → f ≡ figuresAs k s
+  pub of-refused : (e : Refusal) (i : ℕ) (head : Field) → v ≡ Not e → i ≡ fieldOf e → head ≡ fieldNumbered i (fieldsByNumber k s) → f ≡ figuresOf s head e → f ≡ figuresAs k s
   unfolding figuresAs
   of-refused e i head h j g q = q ∙ simp (← p, h, ← j, ← g)
 
@@ -97,7 +97,7 @@ module _ (k : Kind) (s : List ℕ) (i : ℕ) where
   pub fixed-as : (v : Kind) (fixed : ℕ) → FixedPart (fixedOf k) i (length s) → k ≡ v → fixedOf v ≡ fixed → FixedPart fixed i (length s)
   fixed-as v fixed p h q = rw (h, q) at p
 
-  pub head-of : (v : Kind) (x : Field) → k ≡ v → x ≡ numbered i (fieldsOf v s) → x ≡ numbered i (fieldsOf k s)
+  pub head-of : (v : Kind) (x : Field) → k ≡ v → x ≡ fieldNumbered i (fieldsByNumber v s) → x ≡ fieldNumbered i (fieldsByNumber k s)
   head-of v x h q = rw h q
 
 -- ---- the print of the kind that was chosen

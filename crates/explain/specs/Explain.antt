@@ -19,7 +19,7 @@ use Rattle.head.specs.Head.{flagsAt, kindOf}
 use Rattle.read_negotiate.specs.Negotiate as N
 use Rattle.read_challenge.specs.Challenge as C
 use Rattle.read_authenticate.specs.Authenticate as A
-use Rattle.verdict.specs.Verdict.{readAs, hasPair}
+use Rattle.verdict.specs.Verdict.{readAs, failsAtPair}
 use Rattle.line_checks.specs.declared.Figures.{Figures}
 use Rattle.line_checks.specs.Checks.{checkLines}
 
@@ -32,19 +32,19 @@ checksOf Authenticate = 1 ∷ 2 ∷ 3 ∷ 4 ∷ 5 ∷ 6 ∷ 7 ∷ 8 ∷ 9 ∷ []
 -- ---- the figures
 
 -- the fields by number, as the kind's reader has them
-abbrev pub fieldsOf : Kind → List ℕ → List (ℕ × Field)
-fieldsOf Negotiate s = N.allFields (N.fieldsAt s (flagsAt s (N.layout .flags)))
-fieldsOf Challenge s = C.allFields (C.fieldsAt s (flagsAt s (C.layout .flags)))
-fieldsOf Authenticate s = A.allFields (A.fieldsAt s (flagsAt s (A.layout .flags)))
+abbrev pub fieldsByNumber : Kind → List ℕ → List (ℕ × Field)
+fieldsByNumber Negotiate s = N.allFields (N.fieldsAt s (flagsAt s (N.layout .flags)))
+fieldsByNumber Challenge s = C.allFields (C.fieldsAt s (flagsAt s (C.layout .flags)))
+fieldsByNumber Authenticate s = A.allFields (A.fieldsAt s (flagsAt s (A.layout .flags)))
 
 -- the field with a number; a check without a field has number 0
-abbrev pub numbered : ℕ → List (ℕ × Field) → Field
-numbered i [] = noField
-numbered i (f ∷ fs) = cond (eqb i (f .0)) (f .1) (numbered i fs)
+abbrev pub fieldNumbered : ℕ → List (ℕ × Field) → Field
+fieldNumbered i [] = noField
+fieldNumbered i (f ∷ fs) = cond (eqb i (f .0)) (f .1) (fieldNumbered i fs)
 
 -- a number of that pair
 abbrev pub ofPair : ℕ → ℕ → ℕ
-ofPair number n = cond (hasPair number) n 0
+ofPair number n = cond (failsAtPair number) n 0
 
 unfoldable pub figuresOf : List ℕ → Field → Refusal → Figures
 figuresOf s head e =
@@ -63,10 +63,10 @@ noFigures = record { number = 0; field = 0; head = noField; message = 0; at = 0;
 
 abbrev pub figuresOn : List ℕ → List (ℕ × Field) → Verdict → Figures
 figuresOn s fields Clear = noFigures
-figuresOn s fields (Not e) = figuresOf s (numbered (fieldOf e) fields) e
+figuresOn s fields (Not e) = figuresOf s (fieldNumbered (fieldOf e) fields) e
 
 unfoldable pub figuresAs : Kind → List ℕ → Figures
-figuresAs kind s = figuresOn s (fieldsOf kind s) (readAs kind s)
+figuresAs kind s = figuresOn s (fieldsByNumber kind s) (readAs kind s)
 
 -- ---- the print
 
@@ -80,4 +80,4 @@ explanation s = explainedAs (kindOf s) s
 
 -- a number of the pair that failed stands at a place
 pub record NumberThere (number at n : ℕ) : Type 0 where
-  pub there : hasPair number ≡ true → at + 2 ≤ n
+  pub there : failsAtPair number ≡ true → at + 2 ≤ n

@@ -6,7 +6,7 @@ ghost use Rattle.wire.specs.Number.{u16At};
 ghost use Rattle.field.specs.Field.{noField};
 ghost use Rattle.head.specs.declared.Kind.the-variants.{Negotiate, Challenge, Authenticate};
 ghost use Rattle.place.specs.Written.{bytesAnswer, bytesAfter};
-ghost use Rattle.explain.specs.Explain.{fieldsOf, numbered, ofPair, figuresOf, noFigures, figuresAs, explanation, NumberThere};
+ghost use Rattle.explain.specs.Explain.{fieldsByNumber, fieldNumbered, ofPair, figuresOf, noFigures, figuresAs, explanation, NumberThere};
 ghost use Rattle.verdict.specs.Verdict.{fixedOf, FixedPart, Placed};
 use field::Field;
 use field::field_at;
@@ -35,7 +35,7 @@ fn no_field() -> Field
 
 fn negotiate_head(msg: &[u8], field: u8) -> Field
     requires { ⌜ FixedPart 32 field (length (now msg)) ⌝ }
-    ensures { λ r. ⌜ r ≡ numbered field (fieldsOf Negotiate (now (msg .entry))) ⌝ }
+    ensures { λ r. ⌜ r ≡ fieldNumbered field (fieldsByNumber Negotiate (now (msg .entry))) ⌝ }
 {
     if field == 1 {
         return field_at(msg, 16, flags_at(msg, 12).oem_domain_supplied());
@@ -48,7 +48,7 @@ fn negotiate_head(msg: &[u8], field: u8) -> Field
 
 fn challenge_head(msg: &[u8], field: u8) -> Field
     requires { ⌜ FixedPart 48 field (length (now msg)) ⌝ }
-    ensures { λ r. ⌜ r ≡ numbered field (fieldsOf Challenge (now (msg .entry))) ⌝ }
+    ensures { λ r. ⌜ r ≡ fieldNumbered field (fieldsByNumber Challenge (now (msg .entry))) ⌝ }
 {
     if field == 1 {
         return field_at(msg, 12, flags_at(msg, 20).request_target());
@@ -61,7 +61,7 @@ fn challenge_head(msg: &[u8], field: u8) -> Field
 
 fn authenticate_head(msg: &[u8], field: u8) -> Field
     requires { ⌜ FixedPart 64 field (length (now msg)) ⌝ }
-    ensures { λ r. ⌜ r ≡ numbered field (fieldsOf Authenticate (now (msg .entry))) ⌝ }
+    ensures { λ r. ⌜ r ≡ fieldNumbered field (fieldsByNumber Authenticate (now (msg .entry))) ⌝ }
 {
     if field == 1 {
         return field_at(msg, 12, true);
@@ -143,7 +143,7 @@ fn no_figures() -> Figures
 // The head of the field by its number, in a message of a kind.
 fn head_as(kind: Kind, msg: &[u8], field: u8) -> Field
     requires { ⌜ FixedPart (fixedOf kind) field (length (now msg)) ⌝ }
-    ensures { λ r. ⌜ r ≡ numbered field (fieldsOf kind (now (msg .entry))) ⌝ }
+    ensures { λ r. ⌜ r ≡ fieldNumbered field (fieldsByNumber kind (now (msg .entry))) ⌝ }
 {
     match kind {
         Kind::Negotiate => negotiate_head(msg, field),

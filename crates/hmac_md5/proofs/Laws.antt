@@ -13,7 +13,7 @@ use Rattle.md5.specs.State.{fresh, taken, finished}
 use Rattle.md5.specs.declared.state.State.{State}
 use Rattle.md5.proofs.States.{taken-append}
 use Rattle.md5.proofs.Whole.{is-md5}
-use Rattle.hmac_md5.specs.Hmac.{filledOut, keyBlock, xored, hmac, begun, ended}
+use Rattle.hmac_md5.specs.Hmac.{filledOut, keyBlock, xored, hmac, begun, hmacFinished}
 
 abbrev zeros : ℕ → List ℕ
 zeros n = replicate n 0
@@ -92,18 +92,18 @@ pub is-begun : (key : List ℕ) (t : State) → t ≡ taken fresh (xored 0x36 (k
 unfolding begun
 is-begun key t e = e
 
-pub is-ended : (key d r : List ℕ) (s o u : State) → d ≡ finished s → o ≡ taken fresh (xored 0x5C (keyBlock key)) → u ≡ taken o d → r ≡ finished u → r ≡ ended key s
-unfolding ended
+pub is-ended : (key d r : List ℕ) (s o u : State) → d ≡ finished s → o ≡ taken fresh (xored 0x5C (keyBlock key)) → u ≡ taken o d → r ≡ finished u → r ≡ hmacFinished key s
+unfolding hmacFinished
 is-ended key d r s o u e f g h = simp (h, g, f, e)
 
 -- what is begun, taken and ended is the HMAC of what was taken
-pub of-pieces : (key m : List ℕ) → ended key (taken (begun key) m) ≡ hmac key m
-unfolding hmac begun ended
+pub of-pieces : (key m : List ℕ) → hmacFinished key (taken (begun key) m) ≡ hmac key m
+unfolding hmac begun hmacFinished
 of-pieces key m =
     ap (λ (u : State). finished (taken (taken fresh (xored 0x5C (keyBlock key))) (finished u))) (sym (taken-append fresh (xored 0x36 (keyBlock key)) m))
     ∙ ap (λ (l : List ℕ). finished (taken (taken fresh (xored 0x5C (keyBlock key))) l)) (is-md5 (xored 0x36 (keyBlock key) ++ m))
     ∙ ap finished (sym (taken-append fresh (xored 0x5C (keyBlock key)) (md5 (xored 0x36 (keyBlock key) ++ m))))
     ∙ is-md5 (xored 0x5C (keyBlock key) ++ md5 (xored 0x36 (keyBlock key) ++ m))
 
-pub is-hmac : (key m r : List ℕ) (s t : State) → s ≡ begun key → t ≡ taken s m → r ≡ ended key t → r ≡ hmac key m
-is-hmac key m r s t e f g = g ∙ ap (ended key) (f ∙ ap (λ (u : State). taken u m) e) ∙ of-pieces key m
+pub is-hmac : (key m r : List ℕ) (s t : State) → s ≡ begun key → t ≡ taken s m → r ≡ hmacFinished key t → r ≡ hmac key m
+is-hmac key m r s t e f g = g ∙ ap (hmacFinished key) (f ∙ ap (λ (u : State). taken u m) e) ∙ of-pieces key m

@@ -3,7 +3,7 @@ ghost use mathlib.Core.Path.{_≡_};
 ghost use Prim.Native.Nat.{_+_, _≤_};
 ghost use lib.ListN.{length, getD};
 ghost use Rattle.md5.specs.State.{fresh, taken};
-ghost use Rattle.hmac_md5.specs.Hmac.{keyBlock, xored, begun, ended, hmac};
+ghost use Rattle.hmac_md5.specs.Hmac.{keyBlock, xored, begun, hmacFinished, hmac};
 use md5::state::State;
 
 // Byte i of a key with zero bytes after it.
@@ -41,7 +41,7 @@ pub fn begin(key: &[u8]) -> State
 // The HMAC, from the state of the inner digest after the last piece.
 pub fn end(key: &[u8], s: State) -> [u8; 16]
     requires { ⌜ (length (now key) ≤ 64) × (s .count + 128 ≤ 0x800000000000000) ⌝ }
-    ensures { λ r. ⌜ r ≡ ended (now (key .entry)) s ⌝ }
+    ensures { λ r. ⌜ r ≡ hmacFinished (now (key .entry)) s ⌝ }
 {
     let inner = s.finish();
     let outer = padded(key, 0x5C);

@@ -26,7 +26,7 @@ use Rattle.place.specs.Written.{roomHolds, answered, outAfter}
 use Rattle.place.proofs.Laws.{kept}
 use Rattle.base64.specs.Base64.{encode, isBase64, decode}
 use Rattle.base64.proofs.Size.{length-encode}
-use Rattle.http_header.specs.HttpHeader.{messageHolds, headerLine, checkExport, upper, schemeHolds, afterSpaces, textOf, checkText}
+use Rattle.http_header.specs.HttpHeader.{messageHolds, headerLine, checkExport, upper, schemeHolds, afterSpaces, textAfterScheme, checkText}
 
 -- ---- export
 
@@ -91,27 +91,27 @@ scheme-long t r e h =
 -- ---- the spaces: those before i are passed over
 
 pub record Skipped (t : List ℕ) (i : ℕ) : Type 0 where
-  pub rest : afterSpaces (drop i t) ≡ textOf t
+  pub rest : afterSpaces (drop i t) ≡ textAfterScheme t
 
 pub none-skipped : (t : List ℕ) → Skipped t 4
-unfolding textOf
+unfolding textAfterScheme
 none-skipped t = record { rest = refl }
 
 at-one : (s : List ℕ) (i : ℕ) → i < length s → drop i s ≡ getD s i 0 ∷ drop (i + 1) s
 at-one s i h = rw (add-one, drop-cons s i 0)
 
 module _ (t : List ℕ) (i : ℕ) (s : Skipped t i) where
-  step : i < length t → (b : Bool) → eqb (getD t i 0) 32 ≡ b → cond b (afterSpaces (drop (i + 1) t)) (getD t i 0 ∷ drop (i + 1) t) ≡ textOf t
+  step : i < length t → (b : Bool) → eqb (getD t i 0) 32 ≡ b → cond b (afterSpaces (drop (i + 1) t)) (getD t i 0 ∷ drop (i + 1) t) ≡ textAfterScheme t
   step h b e =
       sym (ap afterSpaces (at-one t i h) ∙ ap (λ (x : Bool). cond x (afterSpaces (drop (i + 1) t)) (getD t i 0 ∷ drop (i + 1) t)) e) ∙ s .rest
 
   pub one-skipped : i < length t → getD t i 0 ≡ 32 → Skipped t (i + 1)
   one-skipped h e = record { rest = step h true (eq-eqb (getD t i 0) 32 e) }
 
-  pub at-text : i < length t → (getD t i 0 ≡ 32 → ⊥) → drop i t ≡ textOf t
+  pub at-text : i < length t → (getD t i 0 ≡ 32 → ⊥) → drop i t ≡ textAfterScheme t
   at-text h e = at-one t i h ∙ step h false (ne-eqb (getD t i 0) 32 e)
 
-  pub at-end : length t ≤ i → drop i t ≡ textOf t
+  pub at-end : length t ≤ i → drop i t ≡ textAfterScheme t
   at-end h = drop-of-length-le t h ∙ sym (ap afterSpaces (drop-of-length-le t h)) ∙ s .rest
 
 pub ruleset skipped = (at-text, at-end)
@@ -161,16 +161,16 @@ module _ (k r : Checked) (e : Refusal) (v : Verdict) (bytes : List ℕ) (p : r �
   pub out-ends : (l : List ℕ) → r ≡ Failed → l ≡ outAfter (after k (Not e) v) bytes l
   out-ends l h = simp (← p, h)
 
-module _ (k r : Checked) (e : Refusal) (p : r ≡ k) (h : r ≡ Held) (t : List ℕ) (i : ℕ) (q : drop i t ≡ textOf t) where
-  part-is : take (length t - i) (drop i t) ≡ textOf t
+module _ (k r : Checked) (e : Refusal) (p : r ≡ k) (h : r ≡ Held) (t : List ℕ) (i : ℕ) (q : drop i t ≡ textAfterScheme t) where
+  part-is : take (length t - i) (drop i t) ≡ textAfterScheme t
   part-is = take-all (length t - i) (drop i t) (simp length-drop (omega arith)) ∙ q
 
   pub answer-on : (a : Written) (room : ℕ) → a ≡ answered (checkText room (take (length t - i) (drop i t))) (decode (take (length t - i) (drop i t))) →
-      a ≡ answered (after k (Not e) (checkText room (textOf t))) (decode (textOf t))
+      a ≡ answered (after k (Not e) (checkText room (textAfterScheme t))) (decode (textAfterScheme t))
   answer-on a room f = simp (← p, h) (f ∙ ap (λ (l : List ℕ). answered (checkText room l) (decode l)) part-is)
 
   pub out-on : (l m : List ℕ) (room : ℕ) → m ≡ outAfter (checkText room (take (length t - i) (drop i t))) (decode (take (length t - i) (drop i t))) l →
-      m ≡ outAfter (after k (Not e) (checkText room (textOf t))) (decode (textOf t)) l
+      m ≡ outAfter (after k (Not e) (checkText room (textAfterScheme t))) (decode (textAfterScheme t)) l
   out-on l m room f = simp (← p, h) (f ∙ ap (λ (x : List ℕ). outAfter (checkText room x) (decode x) l) part-is)
 
 pub ruleset reading = (answer-ends, out-ends, answer-on, out-on)

@@ -55,8 +55,8 @@ afterSpaces [] = []
 afterSpaces (c ∷ t) = cond (eqb c 0x20) (afterSpaces t) (c ∷ t)
 
 -- the text: all that follows the scheme word and the spaces
-unfoldable pub textOf : List ℕ → List ℕ
-textOf t = afterSpaces (drop 4 t)
+unfoldable pub textAfterScheme : List ℕ → List ℕ
+textAfterScheme t = afterSpaces (drop 4 t)
 
 -- check 58: the text is in base64
 abbrev pub base64Holds : List ℕ → Checked
@@ -71,10 +71,10 @@ checkText room text =
     Clear))
 
 unfoldable pub checkImport : ℕ → List ℕ → Verdict
-checkImport room t = after (schemeHolds t) (Not WrongScheme) (checkText room (textOf t))
+checkImport room t = after (schemeHolds t) (Not WrongScheme) (checkText room (textAfterScheme t))
 
 unfoldable pub importAnswer : ℕ → List ℕ → Written
-importAnswer room t = answered (checkImport room t) (decode (textOf t))
+importAnswer room t = answered (checkImport room t) (decode (textAfterScheme t))
 
 unfoldable pub importOut : List ℕ → List ℕ → List ℕ
-importOut out t = outAfter (checkImport (length out) t) (decode (textOf t)) out
+importOut out t = outAfter (checkImport (length out) t) (decode (textAfterScheme t)) out

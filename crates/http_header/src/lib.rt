@@ -5,7 +5,7 @@ ghost use lib.ListN.{length, drop};
 ghost use Rattle.place.specs.Place.{Wrote};
 ghost use Rattle.place.specs.Written.{answered, outAfter};
 ghost use Rattle.base64.specs.Base64.{decode};
-ghost use Rattle.http_header.specs.HttpHeader.{headerLine, messageHolds, checkExport, exportAnswer, exportOut, upper, schemeHolds, textOf, checkText, importAnswer, importOut};
+ghost use Rattle.http_header.specs.HttpHeader.{headerLine, messageHolds, checkExport, exportAnswer, exportOut, upper, schemeHolds, textAfterScheme, checkText, importAnswer, importOut};
 use base64::decoded_size;
 use base64::is_base64;
 use base64::put_decoded;
@@ -92,7 +92,7 @@ fn scheme_holds(line: &[u8]) -> Checked
 // Where the text starts, after the scheme word and its spaces.
 fn text_start(line: &[u8]) -> usize
     requires { ⌜ 4 ≤ length (now line) ⌝ }
-    ensures { λ r. ⌜ (r ≤ length (now (line .entry))) × (drop r (now (line .entry)) ≡ textOf (now (line .entry))) ⌝ }
+    ensures { λ r. ⌜ (r ≤ length (now (line .entry))) × (drop r (now (line .entry)) ≡ textAfterScheme (now (line .entry))) ⌝ }
 {
     let mut i: usize = 4;
     while i < line.len() {

@@ -17,7 +17,7 @@ use Rattle.input.specs.declared.Input.{Input}
 use Rattle.input.specs.declared.Input.the-variants.{Whole, Failed}
 use Rattle.input.specs.declared.Reading.{Reading}
 use Rattle.input.specs.declared.Reading.the-variants.{On, Over}
-use Rattle.input.specs.Input.{afterRead, Within, Further}
+use Rattle.input.specs.Input.{afterRead, InBuffer, Further}
 
 -- ---- an answer below 0, and any other
 
@@ -73,14 +73,14 @@ module _ (at : ℕ) (r : Reading) (l k : List ℕ) (f : Further at r k) (e : len
   pub within : (n : ℕ) → r ≡ On n → n ≤ length k
   within n p = let h : Further at (On n) k = rw p at f in h .1
 
-  pub handed-on : (i : Input) → r ≡ Over i → Within i k
+  pub handed-on : (i : Input) → r ≡ Over i → InBuffer i k
   handed-on i p = rw p at f
 
 -- ---- the input that was read, as a part of its buffer
 
-module _ (i : Input) (n : ℕ) (l : List ℕ) (f : Within i l) (p : i ≡ Whole n) where
+module _ (i : Input) (n : ℕ) (l : List ℕ) (f : InBuffer i l) (p : i ≡ Whole n) where
   pub there : n ≤ length l
-  there = let h : Within (Whole n) l = rw p at f in h
+  there = let h : InBuffer (Whole n) l = rw p at f in h
 
   pub there-part : n ≡ length (take n l)
   there-part = simp length-take (omega (arith, there))

@@ -15,11 +15,11 @@ afterRead at (pos zero) = Over (Whole at)
 afterRead at (pos (suc k)) = On (at + suc k)
 
 -- the input's bytes lie within the buffer
-abbrev pub Within : Input → List ℕ → Type 0
-Within (Whole n) buffer = n ≤ length buffer
-Within Failed buffer = Unit {0}
+abbrev pub InBuffer : Input → List ℕ → Type 0
+InBuffer (Whole n) buffer = n ≤ length buffer
+InBuffer Failed buffer = Unit {0}
 
 -- the same after a read; where reading goes on, more bytes are there than before
 abbrev pub Further : ℕ → Reading → List ℕ → Type 0
 Further at (On n) buffer = (at < n) × (n ≤ length buffer)
-Further at (Over i) buffer = Within i buffer
+Further at (Over i) buffer = InBuffer i buffer

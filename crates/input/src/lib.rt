@@ -3,7 +3,7 @@ ghost use mathlib.Core.Path.{_≡_};
 ghost use Prim.Native.Nat.{_-_, _≤_};
 ghost use lib.ListN.{length};
 ghost use Rattle.libc.specs.Io.{Moved};
-ghost use Rattle.input.specs.Input.{afterRead, Within, Further};
+ghost use Rattle.input.specs.Input.{afterRead, InBuffer, Further};
 
 // The input, or as much of it as its buffer holds: how many bytes; or that it couldn't be read to its end.
 pub enum Input {
@@ -42,7 +42,7 @@ fn read_once(buf: &mut [u8], at: usize) -> Reading
 
 // Reads until the buffer is full or the input ends.
 pub fn read_whole(buf: &mut [u8]) -> Input
-    ensures { λ r. ⌜ Within r (now (buf .exit)) ⌝ }
+    ensures { λ r. ⌜ InBuffer r (now (buf .exit)) ⌝ }
 {
     let mut at: usize = 0;
     while at < buf.len() {

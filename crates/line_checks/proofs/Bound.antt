@@ -14,7 +14,7 @@ use Rattle.place.specs.Written.{roomHolds}
 use Rattle.line_words.specs.Words.{lineEnd}
 use Rattle.line_words.proofs.Labels.{number-word-bound}
 use Rattle.line_checks.specs.declared.Figures.{Figures}
-use Rattle.line_checks.specs.Checks.{plainWords, aboutPair, pairText, pairWords, messageWords, figureWords, failedWords, wordsOf, lineOf, linesFrom, checkLines}
+use Rattle.line_checks.specs.Checks.{plainWords, aboutPair, pairFigures, pairWords, messageWords, figureWords, failedWords, wordsOf, checkLine, linesFrom, checkLines}
 
 -- the figures are numbers of their types
 pub record Typed (f : Figures) : Type 0 where
@@ -29,9 +29,9 @@ pub record Typed (f : Figures) : Type 0 where
 
 module _ (f : Figures) (t : Typed f) where
   pair-bound : length (pairWords f) ≤ 34
-  unfolding pairWords pairText
+  unfolding pairWords pairFigures
   pair-bound = go (aboutPair (f .number)) where
-    go : (b : Bool) → length (cond b (pairText f) []) ≤ 34
+    go : (b : Bool) → length (cond b (pairFigures f) []) ≤ 34
     go true =
         simp length-append
         (omega (
@@ -65,8 +65,8 @@ module _ (f : Figures) (t : Typed f) where
   beyond reached = cond reached 89 0
 
   line-bound : (reached : Bool) (n : ℕ) → n < 256 →
-      length (lineOf reached f n) + beyond (reached && not (eqb n (f .number))) ≤ 22 + beyond reached
-  unfolding lineOf wordsOf
+      length (checkLine reached f n) + beyond (reached && not (eqb n (f .number))) ≤ 22 + beyond reached
+  unfolding checkLine wordsOf
   line-bound true n h = go (eqb n (f .number)) where
     go : (b : Bool) → length (cond b (failedWords f) (plainWords n (ascii " held")) ++ lineEnd) + beyond (not b) ≤ 22 + 89
     go true = simp length-append (omega (arith, failed-bound))

@@ -16,7 +16,7 @@ use Rattle.place.specs.Written.{roomHolds}
 use Rattle.place.proofs.Laws.{and-then, nothing, kept}
 use Rattle.line_words.specs.Words.{Room, numberWord}
 use Rattle.line_checks.specs.declared.Figures.{Figures}
-use Rattle.line_checks.specs.Checks.{plainWords, aboutPair, pairText, pairWords, messageWords, figureWords, failedWords, wordsOf, lineOf, linesFrom, checkLines}
+use Rattle.line_checks.specs.Checks.{plainWords, aboutPair, pairFigures, pairWords, messageWords, figureWords, failedWords, wordsOf, checkLine, linesFrom, checkLines}
 
 -- ---- a pair's words, where the check is about one
 
@@ -24,18 +24,18 @@ module _ (f : Figures) (b : Bool) (e : b ≡ aboutPair (f .number)) where
   pub pair-leaves : (room p q r : ℕ) → b ≡ true → p ≡ room - length (numberWord (ascii " at=") (f .at)) →
       q ≡ p - length (numberWord (ascii " id=") (f .id)) → r ≡ q - length (numberWord (ascii " size=") (f .size)) →
       r ≡ room - length (pairWords f)
-  unfolding pairWords pairText
+  unfolding pairWords pairFigures
   pair-leaves room p q r h i j k = rw (← e, h) (simp length-append (omega arith))
 
   pub no-pair-leaves : (room : ℕ) → b ≡ false → room ≡ room - length (pairWords f)
   unfolding pairWords
   no-pair-leaves room h = rw (← e, h) (omega arith)
 
-  pub pair-room : (at n : ℕ) → b ≡ true → Room at (pairWords f) n → Room at (pairText f) n
+  pub pair-room : (at n : ℕ) → b ≡ true → Room at (pairWords f) n → Room at (pairFigures f) n
   unfolding pairWords
   pair-room at n h r = rw (← e, h) at r
 
-  pub wrote-pair : (l k : List ℕ) (i q : ℕ) → b ≡ true → Wrote l k i q (pairText f) → Wrote l k i q (pairWords f)
+  pub wrote-pair : (l k : List ℕ) (i q : ℕ) → b ≡ true → Wrote l k i q (pairFigures f) → Wrote l k i q (pairWords f)
   unfolding pairWords
   wrote-pair l k i q h w = rw (← e, h) w
 
@@ -124,14 +124,14 @@ abbrev pub onward : Bool → Figures → ℕ → Bool
 onward reached f n = reached && not (eqb n (f .number))
 
 lines-next : (f : Figures) (reached : Bool) (checks : List ℕ) (i : ℕ) → i < length checks →
-    linesFrom reached f (drop i checks) ≡ lineOf reached f (getD checks i 0) ++ linesFrom (onward reached f (getD checks i 0)) f (drop (i + 1) checks)
+    linesFrom reached f (drop i checks) ≡ checkLine reached f (getD checks i 0) ++ linesFrom (onward reached f (getD checks i 0)) f (drop (i + 1) checks)
 lines-next f reached checks i h = simp (drop-cons checks i 0 h, add-one)
 
 lines-last : (f : Figures) (reached : Bool) (checks : List ℕ) (i : ℕ) → length checks ≤ i → linesFrom reached f (drop i checks) ≡ []
 lines-last f reached checks i h = simp (drop-of-length-le checks {i = i} h)
 
-line-size : (f : Figures) (reached : Bool) (n : ℕ) → length (lineOf reached f n) ≡ length (wordsOf reached f n) + 1
-unfolding lineOf
+line-size : (f : Figures) (reached : Bool) (n : ℕ) → length (checkLine reached f n) ≡ length (wordsOf reached f n) + 1
+unfolding checkLine
 line-size f reached n = simp length-append
 
 -- ---- passing over the lines: what those before i left of the room is for those from i on
@@ -186,19 +186,19 @@ module _ (f : Figures) (l k checks : List ℕ) (q : ℕ) (reached : Bool) (i : �
   listed-kept = kept l k (n .done) 0 q (n .wrote)
 
   module _ (h : i < length checks) where
-    pub line-room : Room 0 (checkLines f checks) (length l) → Room q (lineOf reached f (getD checks i 0)) (length k)
+    pub line-room : Room 0 (checkLines f checks) (length l) → Room q (checkLine reached f (getD checks i 0)) (length k)
     line-room r =
-        let sizes : length (checkLines f checks) ≡ length (n .done) + (length (lineOf reached f (getD checks i 0))
+        let sizes : length (checkLines f checks) ≡ length (n .done) + (length (checkLine reached f (getD checks i 0))
         + length (linesFrom (onward reached f (getD checks i 0)) f (drop (i + 1) checks))) =
         ap length (n .split) ∙ simp (length-append, lines-next f reached checks i h) in
         record { fits = omega (arith, sizes, listed-kept, n .wrote .place, r .fits) }
 
-    pub one-listed : (m : List ℕ) (p : ℕ) → Wrote k m q p (lineOf reached f (getD checks i 0)) →
+    pub one-listed : (m : List ℕ) (p : ℕ) → Wrote k m q p (checkLine reached f (getD checks i 0)) →
         Listed f l m checks p (reached && not (eqb (getD checks i 0) (f .number))) (i + 1)
     one-listed m p v =
         record {
           within = omega arith;
-          done = n .done ++ lineOf reached f (getD checks i 0);
+          done = n .done ++ checkLine reached f (getD checks i 0);
           wrote = and-then l k m _ _ 0 q p (n .wrote) v;
           split = n .split ∙ simp (append-assoc, lines-next f reached checks i h);
         }

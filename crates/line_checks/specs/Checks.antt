@@ -15,14 +15,14 @@ plainWords n word = numberWord (ascii "check ") n ++ word
 abbrev pub aboutPair : ℕ → Bool
 aboutPair n = leb 10 n && leb n 13
 
-unfoldable pub pairText : Figures → List ℕ
-pairText f =
+unfoldable pub pairFigures : Figures → List ℕ
+pairFigures f =
     numberWord (ascii " at=") (f .at) ++ (
     numberWord (ascii " id=") (f .id) ++
     numberWord (ascii " size=") (f .size))
 
 unfoldable pub pairWords : Figures → List ℕ
-pairWords f = cond (aboutPair (f .number)) (pairText f) []
+pairWords f = cond (aboutPair (f .number)) (pairFigures f) []
 
 unfoldable pub messageWords : Figures → List ℕ
 messageWords f = numberWord (ascii " message=") (f .message) ++ pairWords f
@@ -47,13 +47,13 @@ wordsOf reached f n =
     (cond (eqb n (f .number)) (failedWords f) (plainWords n (ascii " held")))
     (plainWords n (ascii " not reached"))
 
-unfoldable pub lineOf : Bool → Figures → ℕ → List ℕ
-lineOf reached f n = wordsOf reached f n ++ lineEnd
+unfoldable pub checkLine : Bool → Figures → ℕ → List ℕ
+checkLine reached f n = wordsOf reached f n ++ lineEnd
 
 -- the lines of checks in their order: after the one that failed, none is reached
 abbrev pub linesFrom : Bool → Figures → List ℕ → List ℕ
 linesFrom reached f [] = []
-linesFrom reached f (n ∷ ns) = lineOf reached f n ++ linesFrom (reached && not (eqb n (f .number))) f ns
+linesFrom reached f (n ∷ ns) = checkLine reached f n ++ linesFrom (reached && not (eqb n (f .number))) f ns
 
 -- those of a whole reading, whose first check is reached
 unfoldable pub checkLines : Figures → List ℕ → List ℕ

@@ -5,7 +5,7 @@ ghost use lib.ListN.{length};
 ghost use Rattle.place.specs.Place.{Wrote};
 ghost use Rattle.place.specs.Written.{roomHolds, bytesAnswer, bytesAfter};
 ghost use Rattle.line_words.specs.Words.{Room};
-ghost use Rattle.line_checks.specs.Checks.{plainWords, aboutPair, pairText, pairWords, messageWords, figureWords, failedWords, wordsOf, lineOf, checkLines};
+ghost use Rattle.line_checks.specs.Checks.{plainWords, aboutPair, pairFigures, pairWords, messageWords, figureWords, failedWords, wordsOf, checkLine, checkLines};
 use field::Field;
 use line_words::words::put_number_word;
 use line_words::words::room_after_number_word;
@@ -133,8 +133,8 @@ fn put_plain(p: Place, out: &mut [u8], n: u8, word: &[u8]) -> Place
 }
 
 fn put_pair_text(p: Place, out: &mut [u8], f: Figures) -> Place
-    requires { ⌜ Room (p .at) (pairText f) (length (now out)) ⌝ }
-    ensures { λ r. ⌜ Wrote (now (out .entry)) (now (out .exit)) (p .at) (r .at) (pairText f) ⌝ }
+    requires { ⌜ Room (p .at) (pairFigures f) (length (now out)) ⌝ }
+    ensures { λ r. ⌜ Wrote (now (out .entry)) (now (out .exit)) (p .at) (r .at) (pairFigures f) ⌝ }
 {
     let p = put_number_word(p, out, b" at=", f.at);
     let p = put_number_word(p, out, b" id=", f.id as u32);
@@ -191,8 +191,8 @@ fn put_words(p: Place, out: &mut [u8], reached: bool, f: Figures, n: u8) -> Plac
 }
 
 fn put_line(p: Place, out: &mut [u8], reached: bool, f: Figures, n: u8) -> Place
-    requires { ⌜ Room (p .at) (lineOf reached f n) (length (now out)) ⌝ }
-    ensures { λ r. ⌜ Wrote (now (out .entry)) (now (out .exit)) (p .at) (r .at) (lineOf reached f n) ⌝ }
+    requires { ⌜ Room (p .at) (checkLine reached f n) (length (now out)) ⌝ }
+    ensures { λ r. ⌜ Wrote (now (out .entry)) (now (out .exit)) (p .at) (r .at) (checkLine reached f n) ⌝ }
 {
     let p = put_words(p, out, reached, f, n);
     p.put_u8(out, b'\n')

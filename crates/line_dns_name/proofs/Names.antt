@@ -13,10 +13,10 @@ use Rattle.read_dns_name.specs.declared.Cursor.{Cursor}
 use Rattle.read_dns_name.specs.declared.Fault.{Fault}
 use Rattle.read_dns_name.specs.declared.Step.{Step}
 use Rattle.read_dns_name.specs.declared.Step.the-variants.{Label, Jump, End, Refused}
-use Rattle.read_dns_name.specs.DnsName.{stepAt, begin, pastLabel, jumped, onStep, labelsFrom, steps, labelsAt}
+use Rattle.read_dns_name.specs.DnsName.{stepAt, begin, pastLabel, jumped, onStep, labelsFrom, maxSteps, labelsAt}
 use Rattle.read_dns_name.proofs.Judged.{JudgedS, step-judged}
 use Rattle.read_dns_name.proofs.Walks.{Remaining, all-remain, split, remain-jump, none-at-end, none-at-fault, given-label}
-use Rattle.line_dns_name.specs.DnsNameText.{byteText, labelText, partText, joined, nameText}
+use Rattle.line_dns_name.specs.DnsNameText.{byteText, labelText, partText, joined, dnsNameText}
 use lib.Dec.{eqb}
 use Rattle.wire.specs.Text.{ascii}
 use Rattle.line_words.specs.Digits.{hex}
@@ -83,10 +83,10 @@ pub record Sizing (s : List ℕ) (start : ℕ) (c : Cursor) (first : Bool) (n : 
   pub ls : List (List ℕ)
   pub remain : Remaining s c ls
   pub small : n ≤ 4 * c .coded
-  pub same : n + length (joined first ls) ≡ length (nameText (labelsAt s start))
+  pub same : n + length (joined first ls) ≡ length (dnsNameText (labelsAt s start))
 
 pub sizing-start : (s : List ℕ) (start : ℕ) (c : Cursor) → c ≡ begin start → Sizing s start c true 0
-unfolding nameText
+unfolding dnsNameText
 sizing-start s start c e = record { ls = labelsAt s start; remain = all-remain s start c e; small = omega arith; same = omega arith }
 
 module _ (s : List ℕ) (start : ℕ) (c : Cursor) (first : Bool) (n : ℕ) (w : Sizing s start c first n) where
@@ -125,14 +125,14 @@ module _ (s : List ℕ) (start : ℕ) (c : Cursor) (first : Bool) (n : ℕ) (w :
           same = w .same;
         }
 
-    sizing-stop : w .ls ≡ [] → n ≡ length (nameText (labelsAt s start))
+    sizing-stop : w .ls ≡ [] → n ≡ length (dnsNameText (labelsAt s start))
     unfolding joined
     sizing-stop z = omega (arith, w .same, ap (λ (x : List (List ℕ)). length (joined first x)) z)
 
-    pub sizing-end : r ≡ End → n ≡ length (nameText (labelsAt s start))
+    pub sizing-end : r ≡ End → n ≡ length (dnsNameText (labelsAt s start))
     sizing-end h = sizing-stop (none-at-end s c (w .ls) (w .remain) r e h)
 
-    pub sizing-fault : (f : Fault) → r ≡ Refused f → n ≡ length (nameText (labelsAt s start))
+    pub sizing-fault : (f : Fault) → r ≡ Refused f → n ≡ length (dnsNameText (labelsAt s start))
     sizing-fault f h = sizing-stop (none-at-fault s c (w .ls) (w .remain) r e f h)
 
 -- ---- writing it
@@ -140,10 +140,10 @@ module _ (s : List ℕ) (start : ℕ) (c : Cursor) (first : Bool) (n : ℕ) (w :
 pub record Writing (l k s : List ℕ) (start at q : ℕ) (c : Cursor) (first : Bool) : Type 0 where
   pub ls : List (List ℕ)
   pub remain : Remaining s c ls
-  pub partly : Partly l k at q (joined first ls) (nameText (labelsAt s start))
+  pub partly : Partly l k at q (joined first ls) (dnsNameText (labelsAt s start))
 
 pub writing-start : (l s : List ℕ) (start at : ℕ) (c : Cursor) → c ≡ begin start → Writing l l s start at at c true
-unfolding nameText
+unfolding dnsNameText
 writing-start l s start at c e =
     record { ls = labelsAt s start; remain = all-remain s start c e; partly = none-written l (joined true (labelsAt s start)) at }
 
@@ -156,7 +156,7 @@ module _ (l k s : List ℕ) (start at q : ℕ) (c : Cursor) (first : Bool) (w : 
 
   module _ (r : Step) (e : r ≡ stepAt s c) where
     module _ (i : ℕ) (h : r ≡ Label i) where
-      pub writing-room : at + length (nameText (labelsAt s start)) ≤ length l → q + length (partText first (lent s c i)) ≤ length k
+      pub writing-room : at + length (dnsNameText (labelsAt s start)) ≤ length l → q + length (partText first (lent s c i)) ≤ length k
       writing-room f = room-left l k _ _ at q (w .partly) (partText first (lent s c i)) (joined false (split s c (w .ls) (w .remain) r e i h .more)) (joined-label s c (w .ls) (w .remain) r e i h first) f
 
       pub writing-label : (m : List ℕ) (p : ℕ) (d : Cursor) → Wrote k m q p (partText first (lent s c i)) → d ≡ pastLabel c i →
@@ -174,14 +174,14 @@ module _ (l k s : List ℕ) (start at q : ℕ) (c : Cursor) (first : Bool) (w : 
     writing-jump to h d f =
         record { ls = w .ls; remain = remain-jump s c (w .ls) (w .remain) r e to h d f; partly = w .partly }
 
-    writing-stop : w .ls ≡ [] → Wrote l k at q (nameText (labelsAt s start))
+    writing-stop : w .ls ≡ [] → Wrote l k at q (dnsNameText (labelsAt s start))
     unfolding joined
     writing-stop z = all-written l k _ _ at q (w .partly) (ap (λ (x : List (List ℕ)). joined first x) z)
 
-    pub writing-end : r ≡ End → Wrote l k at q (nameText (labelsAt s start))
+    pub writing-end : r ≡ End → Wrote l k at q (dnsNameText (labelsAt s start))
     writing-end h = writing-stop (none-at-end s c (w .ls) (w .remain) r e h)
 
-    pub writing-fault : (f : Fault) → r ≡ Refused f → Wrote l k at q (nameText (labelsAt s start))
+    pub writing-fault : (f : Fault) → r ≡ Refused f → Wrote l k at q (dnsNameText (labelsAt s start))
     writing-fault f h = writing-stop (none-at-fault s c (w .ls) (w .remain) r e f h)
 
 -- ---- the text of a name has at most four bytes for each of its coded length
@@ -220,6 +220,6 @@ bound-from (suc k) s c first short few = go (stepAt s c) (step-judged s c few) (
   go End j rest = omega arith
   go (Refused e) j rest = omega arith
 
-pub text-bound : (s : List ℕ) (start : ℕ) → length (nameText (labelsAt s start)) ≤ 1020
-unfolding nameText labelsAt
-text-bound s start = omega (arith, bound-from (suc steps) s (begin start) true (omega arith) (omega arith))
+pub text-bound : (s : List ℕ) (start : ℕ) → length (dnsNameText (labelsAt s start)) ≤ 1020
+unfolding dnsNameText labelsAt
+text-bound s start = omega (arith, bound-from (suc maxSteps) s (begin start) true (omega arith) (omega arith))

@@ -21,5 +21,5 @@ unfoldable pub joined : Bool → List (List ℕ) → List ℕ
 joined first [] = []
 joined first (l ∷ ls) = partText first l ++ joined false ls
 
-unfoldable pub nameText : List (List ℕ) → List ℕ
-nameText ls = joined true ls
+unfoldable pub dnsNameText : List (List ℕ) → List ℕ
+dnsNameText ls = joined true ls

@@ -4,7 +4,7 @@ ghost use Prim.Native.Nat.{_+_, _*_, _≤_};
 ghost use lib.ListN.{length};
 ghost use Rattle.place.specs.Place.{Wrote};
 ghost use Rattle.read_dns_name.specs.DnsName.{labelsAt};
-ghost use Rattle.line_dns_name.specs.DnsNameText.{byteText, labelText, partText, nameText};
+ghost use Rattle.line_dns_name.specs.DnsNameText.{byteText, labelText, partText, dnsNameText};
 use line_words::name::put_escape;
 use line_words::name::put_unit;
 use line_words::name::unit_size;
@@ -88,7 +88,7 @@ fn put_part(p: Place, out: &mut [u8], label: &[u8], first: bool) -> Place
 
 // How many bytes the text of the name at a place has.
 pub fn name_size(buf: &[u8], start: usize) -> usize
-    ensures { λ r. ⌜ (r ≡ length (nameText (labelsAt (now (buf .entry)) start))) × (r ≤ 4 * 255) ⌝ }
+    ensures { λ r. ⌜ (r ≡ length (dnsNameText (labelsAt (now (buf .entry)) start))) × (r ≤ 4 * 255) ⌝ }
 {
     let mut c = Cursor::begin(start);
     let mut first = true;
@@ -114,8 +114,8 @@ pub fn name_size(buf: &[u8], start: usize) -> usize
 
 // The text of the name at a place, from `p` on.
 pub fn put_name(p: Place, out: &mut [u8], buf: &[u8], start: usize) -> Place
-    requires { ⌜ p .at + length (nameText (labelsAt (now buf) start)) ≤ length (now out) ⌝ }
-    ensures { λ r. ⌜ Wrote (now (out .entry)) (now (out .exit)) (p .at) (r .at) (nameText (labelsAt (now (buf .entry)) start)) ⌝ }
+    requires { ⌜ p .at + length (dnsNameText (labelsAt (now buf) start)) ≤ length (now out) ⌝ }
+    ensures { λ r. ⌜ Wrote (now (out .entry)) (now (out .exit)) (p .at) (r .at) (dnsNameText (labelsAt (now (buf .entry)) start)) ⌝ }
 {
     let mut c = Cursor::begin(start);
     let mut first = true;

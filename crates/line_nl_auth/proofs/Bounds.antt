@@ -13,7 +13,7 @@ use Rattle.read_nl_auth.specs.declared.string.NlString.{NlString}
 use Rattle.read_nl_auth.specs.NlAuth.{stringBytes, labelsOf}
 use Rattle.read_nl_auth.proofs.Names.{string-small}
 use Rattle.line_nl_string.specs.StringText.{oemText, utf8Text}
-use Rattle.line_dns_name.specs.DnsNameText.{nameText as dnsText}
+use Rattle.line_dns_name.specs.DnsNameText.{dnsNameText as dnsText}
 use Rattle.line_dns_name.proofs.Names.{text-bound}
 use Rattle.wire.specs.declared.check.Checked.the-variants.{Held}
 use Rattle.place.specs.Written.{roomHolds}

@@ -16,7 +16,7 @@ use Rattle.line_words.specs.Name.{nameText}
 use Rattle.line_words.specs.Words.{Room}
 use Rattle.line_words.proofs.Names.{name-bound}
 use Rattle.read_dns_name.specs.DnsName.{labelsAt}
-use Rattle.line_dns_name.specs.DnsNameText.{nameText as dnsText}
+use Rattle.line_dns_name.specs.DnsNameText.{dnsNameText as dnsText}
 use Rattle.read_nl_auth.specs.declared.NlAuth.{NlAuth}
 use Rattle.read_nl_auth.specs.declared.Reading.{Reading}
 use Rattle.read_nl_auth.specs.declared.Reading.the-variants.{Taken, Refused as Not}

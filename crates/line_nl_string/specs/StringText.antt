@@ -8,7 +8,7 @@ use Rattle.place.specs.declared.written.Written.{Written}
 use Rattle.place.specs.declared.written.Written.the-variants.{Refused}
 use Rattle.place.specs.Written.{bytesAnswer, bytesAfter}
 use Rattle.line_words.specs.Name.{nameText}
-use Rattle.line_dns_name.specs.DnsNameText.{nameText as dnsText}
+use Rattle.line_dns_name.specs.DnsNameText.{dnsNameText as dnsText}
 use Rattle.nl_auth_flags.specs.Flags.{nbDomain, nbComputer, dnsDomain, dnsHost, utf8Computer}
 use Rattle.read_nl_auth.specs.declared.NlAuth.{NlAuth}
 use Rattle.read_nl_auth.specs.declared.Reading.{Reading}

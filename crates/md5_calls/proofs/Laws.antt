@@ -9,10 +9,10 @@ use lib.Dec.{leb}
 use lib.ListN.{length}
 use Rattle.wire.proofs.Bools.{and-left, and-right}
 use Rattle.place.specs.Written.{atFront}
-use Rattle.md5_calls.specs.Calls.{fits, callAnswer, callAfter}
+use Rattle.md5_calls.specs.Calls.{bufferFits, callAnswer, callAfter}
 
-module _ (size other room : ℕ) (b : Bool) (e : b ≡ fits size other room) (h : b ≡ true) where
-  both : fits size other room ≡ true
+module _ (size other room : ℕ) (b : Bool) (e : b ≡ bufferFits size other room) (h : b ≡ true) where
+  both : bufferFits size other room ≡ true
   both = sym e ∙ h
 
   rest : (leb other 65535 && leb 16 room) ≡ true

@@ -6,8 +6,8 @@ use mathlib.Core.List.{List}
 use lib.Dec.{leb}
 use Rattle.place.specs.Written.{atFront}
 
-abbrev pub fits : ℕ → ℕ → ℕ → Bool
-fits size other room = leb size 65535 && (leb other 65535 && leb 16 room)
+abbrev pub bufferFits : ℕ → ℕ → ℕ → Bool
+bufferFits size other room = leb size 65535 && (leb other 65535 && leb 16 room)
 
 unfoldable pub callAnswer : Bool → ℕ
 callAnswer b = cond b 0 1

@@ -4,21 +4,21 @@ ghost use mathlib.Core.Path.{_≡_};
 ghost use lib.ListN.{length};
 ghost use Rattle.md5.specs.Digest.{md5};
 ghost use Rattle.hmac_md5.specs.Hmac.{hmac};
-ghost use Rattle.md5_calls.specs.Calls.{fits, callAnswer, callAfter};
+ghost use Rattle.md5_calls.specs.Calls.{bufferFits, callAnswer, callAfter};
 use c_number::give_bytes;
 
-fn fits(size: usize, other: usize, room: usize) -> bool
-    ensures { λ r. ⌜ r ≡ fits size other room ⌝ }
+fn bufferFits(size: usize, other: usize, room: usize) -> bool
+    ensures { λ r. ⌜ r ≡ bufferFits size other room ⌝ }
 {
     (size <= 65535) & ((other <= 65535) & (16 <= room))
 }
 
 #[no_mangle]
 pub extern "C" fn md5_of(m: &[u8], out: &mut [u8]) -> u64
-    ensures answer { λ r. ⌜ r ≡ callAnswer (fits (length (now (m .entry))) 0 (length (now (out .entry)))) ⌝ }
-    ensures content { λ _. ⌜ now (out .exit) ≡ callAfter (fits (length (now (m .entry))) 0 (length (now (out .entry)))) (md5 (now (m .entry))) (now (out .entry)) ⌝ }
+    ensures answer { λ r. ⌜ r ≡ callAnswer (bufferFits (length (now (m .entry))) 0 (length (now (out .entry)))) ⌝ }
+    ensures content { λ _. ⌜ now (out .exit) ≡ callAfter (bufferFits (length (now (m .entry))) 0 (length (now (out .entry)))) (md5 (now (m .entry))) (now (out .entry)) ⌝ }
 {
-    if fits(m.len(), 0, out.len()) {
+    if bufferFits(m.len(), 0, out.len()) {
         let digest = md5::state::digest(m);
         give_bytes(out, &digest);
         return 0;
@@ -28,11 +28,11 @@ pub extern "C" fn md5_of(m: &[u8], out: &mut [u8]) -> u64
 
 #[no_mangle]
 pub extern "C" fn hmac_md5_of(key: &[u8], m: &[u8], out: &mut [u8]) -> u64
-    ensures answer { λ r. ⌜ r ≡ callAnswer (fits (length (now (m .entry))) (length (now (key .entry))) (length (now (out .entry)))) ⌝ }
-    ensures content { λ _. ⌜ now (out .exit) ≡ callAfter (fits (length (now (m .entry))) (length (now (key .entry))) (length (now (out .entry))))
+    ensures answer { λ r. ⌜ r ≡ callAnswer (bufferFits (length (now (m .entry))) (length (now (key .entry))) (length (now (out .entry)))) ⌝ }
+    ensures content { λ _. ⌜ now (out .exit) ≡ callAfter (bufferFits (length (now (m .entry))) (length (now (key .entry))) (length (now (out .entry))))
         (hmac (now (key .entry)) (now (m .entry))) (now (out .entry)) ⌝ }
 {
-    if fits(m.len(), key.len(), out.len()) {
+    if bufferFits(m.len(), key.len(), out.len()) {
         let mac = hmac_md5::mac(key, m);
         give_bytes(out, &mac);
         return 0;

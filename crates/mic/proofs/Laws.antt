@@ -38,12 +38,12 @@ use Rattle.read_authenticate.proofs.Mic.{mic-room}
 use Rattle.md5.specs.State.{taken}
 use Rattle.md5.specs.declared.state.State.{State}
 use Rattle.md5.proofs.States.{taken-append}
-use Rattle.hmac_md5.specs.Hmac.{begun, ended}
+use Rattle.hmac_md5.specs.Hmac.{begun, hmacFinished}
 use Rattle.hmac_md5.proofs.Laws.{of-pieces}
-use Rattle.mic.specs.declared.Worked.{Worked}
+use Rattle.mic.specs.declared.Computed.{Computed}
 use Rattle.mic.specs.declared.Checking.the-variants.{Compared}
 use Rattle.verdict.specs.Verdict.{negoVerdict, chalVerdict}
-use Rattle.mic.specs.Mic.{zeroed, micOf, authenticateVerdict, checkMessages, workOut}
+use Rattle.mic.specs.Mic.{zeroed, micOf, authenticateVerdict, checkInputs, computedMic}
 
 -- ---- the AUTHENTICATE's verdict, by what its reading is known to be
 
@@ -97,8 +97,8 @@ pub record Passed (n : ℕ) (nego chal auth : List ℕ) : Type 0 where
   pub auth-short : length auth ≤ 65535
   pub mic-inside : 88 ≤ length auth
 
-pub passed : (n : ℕ) (nego chal auth : List ℕ) → checkMessages n nego chal auth ≡ Clear → Passed n nego chal auth
-unfolding checkMessages
+pub passed : (n : ℕ) (nego chal auth : List ℕ) → checkInputs n nego chal auth ≡ Clear → Passed n nego chal auth
+unfolding checkInputs
 passed n nego chal auth h =
     let k = after-clear (eqb n 16) WrongSessionKey _ h in
     let a = on-clear-clear (negoVerdict (readNegotiate nego)) _ (k .1) in
@@ -112,7 +112,7 @@ passed n nego chal auth h =
       mic-inside = c .1;
     }
 
-module _ (key nego chal auth : List ℕ) (h : checkMessages (length key) nego chal auth ≡ Clear) where
+module _ (key nego chal auth : List ℕ) (h : checkInputs (length key) nego chal auth ≡ Clear) where
   pub key-fits : length key ≤ 64
   key-fits = omega (arith, passed (length key) nego chal auth h .key)
 
@@ -132,20 +132,20 @@ pub ruleset fits = (key-fits, nego-fits, chal-fits, auth-fits, mic-fits)
 
 -- ---- the answers
 
-pub clear-of : (n : ℕ) (nego chal auth : List ℕ) (v : Verdict) → v ≡ checkMessages n nego chal auth → v ≡ Clear → checkMessages n nego chal auth ≡ Clear
+pub clear-of : (n : ℕ) (nego chal auth : List ℕ) (v : Verdict) → v ≡ checkInputs n nego chal auth → v ≡ Clear → checkInputs n nego chal auth ≡ Clear
 clear-of n nego chal auth v e f = sym e ∙ f
 
-pub mic-there : (key nego chal auth : List ℕ) (v : Verdict) → v ≡ checkMessages (length key) nego chal auth → v ≡ Clear → 72 + 16 ≤ length auth
+pub mic-there : (key nego chal auth : List ℕ) (v : Verdict) → v ≡ checkInputs (length key) nego chal auth → v ≡ Clear → 72 + 16 ≤ length auth
 mic-there key nego chal auth v e f = mic-fits key nego chal auth (clear-of (length key) nego chal auth v e f)
 
-pub worked-refused : (key nego chal auth : List ℕ) (v : Verdict) (e : Refusal) → v ≡ checkMessages (length key) nego chal auth → v ≡ Not e →
-    _≡_ {A = Worked} (record { verdict = v; mic = replicate 16 0 }) (workOut key nego chal auth)
-unfolding workOut
+pub worked-refused : (key nego chal auth : List ℕ) (v : Verdict) (e : Refusal) → v ≡ checkInputs (length key) nego chal auth → v ≡ Not e →
+    _≡_ {A = Computed} (record { verdict = v; mic = replicate 16 0 }) (computedMic key nego chal auth)
+unfolding computedMic
 worked-refused key nego chal auth v e p q = rw (← p, q)
 
-pub worked-clear : (key nego chal auth mic : List ℕ) (v : Verdict) → v ≡ checkMessages (length key) nego chal auth → v ≡ Clear → mic ≡ micOf key nego chal auth →
-    _≡_ {A = Worked} (record { verdict = v; mic = mic }) (workOut key nego chal auth)
-unfolding workOut
+pub worked-clear : (key nego chal auth mic : List ℕ) (v : Verdict) → v ≡ checkInputs (length key) nego chal auth → v ≡ Clear → mic ≡ micOf key nego chal auth →
+    _≡_ {A = Computed} (record { verdict = v; mic = mic }) (computedMic key nego chal auth)
+unfolding computedMic
 worked-clear key nego chal auth mic v p q r = rw (← p, q, r)
 
 pub compared : (key nego chal auth mic : List ℕ) (b : Bool) → b ≡ standsAt auth 72 mic → mic ≡ micOf key nego chal auth →
@@ -166,9 +166,9 @@ is-zeroed s t u r m e f g =
 pub two-pieces : (s t r : State) (key a b : List ℕ) → s ≡ begun key → t ≡ taken s a → r ≡ taken t b → r ≡ taken (taken (begun key) a) b
 two-pieces s t r key a b e f g = simp (g, f, e)
 
-pub is-mic : (key a b m r : List ℕ) (s t : State) → s ≡ taken (taken (begun key) a) b → t ≡ taken s (zeroed m) → r ≡ ended key t → r ≡ micOf key a b m
+pub is-mic : (key a b m r : List ℕ) (s t : State) → s ≡ taken (taken (begun key) a) b → t ≡ taken s (zeroed m) → r ≡ hmacFinished key t → r ≡ micOf key a b m
 unfolding micOf
 is-mic key a b m r s t e f g =
-    g ∙ ap (ended key) (f ∙ ap (λ (u : State). taken u (zeroed m)) e ∙ sym (taken-append (taken (begun key) a) b (zeroed m))
+    g ∙ ap (hmacFinished key) (f ∙ ap (λ (u : State). taken u (zeroed m)) e ∙ sym (taken-append (taken (begun key) a) b (zeroed m))
     ∙ sym (taken-append (begun key) a (b ++ zeroed m)))
     ∙ of-pieces key (a ++ (b ++ zeroed m))

@@ -15,7 +15,7 @@ use Rattle.hmac_md5.specs.Hmac.{hmac}
 use Rattle.read_authenticate.specs.declared.Reading.{Reading as AuthenticateReading}
 use Rattle.read_authenticate.specs.declared.Reading.the-variants.{Taken as AuthenticateTaken, Refused as AuthenticateRefused}
 use Rattle.read_authenticate.specs.Authenticate.{readAuthenticate}
-use Rattle.mic.specs.declared.Worked.{Worked}
+use Rattle.mic.specs.declared.Computed.{Computed}
 use Rattle.mic.specs.declared.Checking.{Checking}
 use Rattle.mic.specs.declared.Checking.the-variants.{Compared, Refused}
 
@@ -28,8 +28,8 @@ unfoldable pub micOf : List ℕ → List ℕ → List ℕ → List ℕ → List 
 micOf key nego chal auth = hmac key (nego ++ (chal ++ zeroed auth))
 
 -- check 55: the key has 16 bytes, of the n that it has
-abbrev pub keyHolds : ℕ → Checked
-keyHolds n = checked (eqb n 16)
+abbrev pub keySizeHolds : ℕ → Checked
+keySizeHolds n = checked (eqb n 16)
 
 -- the AUTHENTICATE's reading refusals, and after them check 56: it has a MIC
 abbrev pub authenticateVerdict : AuthenticateReading → Verdict
@@ -37,9 +37,9 @@ authenticateVerdict (AuthenticateTaken a) = after (checked (a .«mic_present»))
 authenticateVerdict (AuthenticateRefused e) = Not e
 
 -- 55, then the reading refusals in the order of the messages, then 56
-unfoldable pub checkMessages : ℕ → List ℕ → List ℕ → List ℕ → Verdict
-checkMessages n nego chal auth =
-    after (keyHolds n) (Not WrongSessionKey) (
+unfoldable pub checkInputs : ℕ → List ℕ → List ℕ → List ℕ → Verdict
+checkInputs n nego chal auth =
+    after (keySizeHolds n) (Not WrongSessionKey) (
     onClear Not (readAs Negotiate nego) (
     onClear Not (readAs Challenge chal)
     (authenticateVerdict (readAuthenticate auth .reading))))
@@ -50,14 +50,14 @@ whenClear Clear bytes = bytes
 whenClear (Not e) bytes = replicate 16 0
 
 -- what working it out answers
-unfoldable pub workOut : List ℕ → List ℕ → List ℕ → List ℕ → Worked
-workOut key nego chal auth =
+unfoldable pub computedMic : List ℕ → List ℕ → List ℕ → List ℕ → Computed
+computedMic key nego chal auth =
     record {
-      verdict = checkMessages (length key) nego chal auth;
-      mic = whenClear (checkMessages (length key) nego chal auth) (micOf key nego chal auth);
+      verdict = checkInputs (length key) nego chal auth;
+      mic = whenClear (checkInputs (length key) nego chal auth) (micOf key nego chal auth);
     }
 
 -- what checking it answers: whether those sixteen bytes stand at 72
 unfoldable pub checkMic : List ℕ → List ℕ → List ℕ → List ℕ → Checking
 checkMic key nego chal auth =
-    onClear Refused (checkMessages (length key) nego chal auth) (Compared (standsAt auth 72 (micOf key nego chal auth)))
+    onClear Refused (checkInputs (length key) nego chal auth) (Compared (standsAt auth 72 (micOf key nego chal auth)))

@@ -9,7 +9,7 @@ ghost use Rattle.wire.specs.Number.{standsAt};
 ghost use Rattle.read_authenticate.specs.Authenticate.{readAuthenticate};
 ghost use Rattle.md5.specs.State.{taken};
 ghost use Rattle.hmac_md5.specs.Hmac.{begun};
-ghost use Rattle.mic.specs.Mic.{zeroed, micOf, authenticateVerdict, checkMessages, workOut, checkMic};
+ghost use Rattle.mic.specs.Mic.{zeroed, micOf, authenticateVerdict, checkInputs, computedMic, checkMic};
 use head::Kind;
 use md5::state::State;
 use verdict::read_as;
@@ -19,7 +19,7 @@ use wire::check::check;
 use wire::refusal::Refusal;
 
 // What working it out answers; the MIC's bytes are zeros where there is a refusal.
-pub struct Worked {
+pub struct Computed {
     pub verdict: Verdict,
     pub mic: [u8; 16],
 }
@@ -52,8 +52,8 @@ fn mic_verdict(present: bool) -> Verdict
 }
 
 // Check 55 of a key of so many bytes, the three readings in the order of the messages, and check 56.
-fn check_messages(size: usize, nego: &[u8], chal: &[u8], auth: &[u8]) -> Verdict
-    ensures { λ r. ⌜ r ≡ checkMessages size (now (nego .entry)) (now (chal .entry)) (now (auth .entry)) ⌝ }
+fn check_inputs(size: usize, nego: &[u8], chal: &[u8], auth: &[u8]) -> Verdict
+    ensures { λ r. ⌜ r ≡ checkInputs size (now (nego .entry)) (now (chal .entry)) (now (auth .entry)) ⌝ }
 {
     let Checked::Held = check(size == 16) else {
         return Verdict::Refused(Refusal::WrongSessionKey);
@@ -91,7 +91,7 @@ fn zeroed_taken(s: State, auth: &[u8]) -> State
 
 // The MIC where no check failed.
 fn mic_of(key: &[u8], nego: &[u8], chal: &[u8], auth: &[u8]) -> [u8; 16]
-    requires { ⌜ checkMessages (length (now key)) (now nego) (now chal) (now auth) ≡ Clear ⌝ }
+    requires { ⌜ checkInputs (length (now key)) (now nego) (now chal) (now auth) ≡ Clear ⌝ }
     ensures { λ r. ⌜ r ≡ micOf (now (key .entry)) (now (nego .entry)) (now (chal .entry)) (now (auth .entry)) ⌝ }
 {
     let s = two_taken(key, nego, chal);
@@ -115,18 +115,18 @@ fn stands_at(s: &[u8], at: usize, xs: [u8; 16]) -> bool
 }
 
 // Works out the MIC: from a session key of 16 bytes and the three messages, the sixteen bytes of the AUTHENTICATE's MIC taken as zero.
-pub fn work_out(key: &[u8], nego: &[u8], chal: &[u8], auth: &[u8]) -> Worked
-    ensures { λ r. ⌜ r ≡ workOut (now (key .entry)) (now (nego .entry)) (now (chal .entry)) (now (auth .entry)) ⌝ }
+pub fn compute(key: &[u8], nego: &[u8], chal: &[u8], auth: &[u8]) -> Computed
+    ensures { λ r. ⌜ r ≡ computedMic (now (key .entry)) (now (nego .entry)) (now (chal .entry)) (now (auth .entry)) ⌝ }
 {
-    let verdict = check_messages(key.len(), nego, chal, auth);
+    let verdict = check_inputs(key.len(), nego, chal, auth);
     let Verdict::Clear = verdict else {
-        return Worked {
+        return Computed {
             verdict: verdict,
             mic: [0u8; 16],
         };
     };
     let mic = mic_of(key, nego, chal, auth);
-    Worked {
+    Computed {
         verdict: verdict,
         mic: mic,
     }
@@ -136,7 +136,7 @@ pub fn work_out(key: &[u8], nego: &[u8], chal: &[u8], auth: &[u8]) -> Worked
 pub fn check_mic(key: &[u8], nego: &[u8], chal: &[u8], auth: &[u8]) -> Checking
     ensures { λ r. ⌜ r ≡ checkMic (now (key .entry)) (now (nego .entry)) (now (chal .entry)) (now (auth .entry)) ⌝ }
 {
-    let verdict = check_messages(key.len(), nego, chal, auth);
+    let verdict = check_inputs(key.len(), nego, chal, auth);
     let Verdict::Clear = verdict else {
         return Checking::Refused(verdict.refusal());
     };

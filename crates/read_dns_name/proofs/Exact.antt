@@ -17,8 +17,8 @@ use Rattle.read_dns_name.specs.declared.Reading.{Reading}
 use Rattle.read_dns_name.specs.declared.Reading.the-variants.{Taken, Refused as Not}
 use Rattle.read_dns_name.specs.declared.Step.{Step}
 use Rattle.read_dns_name.specs.declared.Step.the-variants.{Label, Jump, End, Refused}
-use Rattle.read_dns_name.specs.DnsName.{left, labelOf, jumpTo, jumpAt, stepAt, begin, pastLabel, jumped, ended, onStep, nameFrom, labelsFrom, steps, readName, labelsAt, numberOf}
-use Rattle.read_dns_name.specs.Rfc1035.{EndAt, LabelAt, JumpAt, NameFrom, end, label, jump, codedLength, NameAt, FaultAt, no-byte, label-cut, jump-cut, top-bits, not-before, seventeenth, too-long, FaultFrom, here, past-label, past-jump, FirstFault}
+use Rattle.read_dns_name.specs.DnsName.{left, labelOf, jumpTo, jumpAt, stepAt, begin, pastLabel, jumped, ended, onStep, nameFrom, labelsFrom, maxSteps, readName, labelsAt, numberOf}
+use Rattle.read_dns_name.specs.Rfc1035.{NameEndAt, LabelAt, JumpAt, NameFrom, end, label, jump, codedLength, NameAt, NameFaultAt, no-byte, label-cut, jump-cut, top-bits, not-before, seventeenth, too-long, FaultFrom, here, past-label, past-jump, FirstNameFault}
 use Rattle.read_dns_name.proofs.Judged.{JudgedS, step-judged}
 use Rattle.read_dns_name.proofs.Walks.{room, steps-do}
 
@@ -99,7 +99,7 @@ judged (suc k) s c short few l = go (stepAt s c) (step-judged s c few) (λ d a b
 module _ (s : List ℕ) (start : ℕ) where
   whole : JudgedN s (begin start) (readName s start) (labelsAt s start)
   unfolding readName labelsAt
-  whole = judged (suc steps) s (begin start) (omega arith) (omega arith) (omega (arith, steps-do start))
+  whole = judged (suc maxSteps) s (begin start) (omega arith) (omega arith) (omega (arith, steps-do start))
 
   pub taken : (m : Name) → readName s start ≡ Taken m → NameAt s start (labelsAt s start) (m .jumps) (m .next)
   taken m e = is-so m (subst (λ x. JudgedN s (begin start) x (labelsAt s start)) e whole)
@@ -109,7 +109,7 @@ module _ (s : List ℕ) (start : ℕ) where
           let j : m .jumps ≡ f .more = omega (arith, f .count) in
           record { coded = rw (j, f .next) (f .coded); few = f .few; short = omega (arith, f .short) }
 
-  pub refused : (e : Fault) → readName s start ≡ Not e → FirstFault s start (numberOf e)
+  pub refused : (e : Fault) → readName s start ≡ Not e → FirstNameFault s start (numberOf e)
   refused e h = subst (λ x. JudgedN s (begin start) x (labelsAt s start)) h whole
 
 -- ---- and what is so is answered
@@ -142,12 +142,12 @@ module _ (s : List ℕ) (c : Cursor) where
   unfolding jumpTo
   jump-step to w b l = jump-is to w ∙ simp (lt-ltb to (c .run) b, lt-ltb (c .jumps) 16 l)
 
-  end-step : EndAt s (c .at) → stepAt s c ≡ End
+  end-step : NameEndAt s (c .at) → stepAt s c ≡ End
   unfolding stepAt left
   end-step w = simp (le-leb 1 (length s - c .at) (omega (arith, w .there)), w .byte)
 
   -- a fault, by what it is
-  pub fault-step : (n : ℕ) → FaultAt s (c .at) (c .run) (c .jumps) (c .coded) n → (e : Fault) × (stepAt s c ≡ Refused e) × (numberOf e ≡ n)
+  pub fault-step : (n : ℕ) → NameFaultAt s (c .at) (c .run) (c .jumps) (c .coded) n → (e : Fault) × (stepAt s c ≡ Refused e) × (numberOf e ≡ n)
   unfolding stepAt labelOf jumpAt jumpTo left
   fault-step n (no-byte p h) = (CutShort, simp (lt-leb 1 (length s - c .at) (omega arith)), sym p)
   fault-step n (label-cut {n = b} p e some most there h) = (
@@ -211,7 +211,7 @@ module _ (s : List ℕ) (start : ℕ) where
       (readName s start ≡ Taken (record { jumps = jumps; next = next })) × (labelsAt s start ≡ ls)
   unfolding readName labelsAt
   is-taken ls jumps next w =
-      let r = answers (suc steps) s (begin start) ls jumps next (w .coded) (omega (arith, w .short)) (omega (arith, w .few)) (omega (arith, steps-do start)) in
+      let r = answers (suc maxSteps) s (begin start) ls jumps next (w .coded) (omega (arith, w .short)) (omega (arith, w .few)) (omega (arith, steps-do start)) in
       (r .0 ∙ simp zero-add, r .1)
 
 faults : (k : ℕ) (s : List ℕ) (c : Cursor) (n : ℕ) → FaultFrom s n (c .at) (c .run) (c .jumps) (c .coded) → c .coded ≤ 255 → c .jumps ≤ 16 → room c < k →
@@ -227,9 +227,9 @@ faults (suc k) s c n (past-jump {to = to} w h f d) a b l =
     let x = faults k s (jumped c to) n d a (omega arith) (omega arith) in
     (x .0, simp (jump-step s c to w h f) (x .1), x .2)
 
-pub is-refused : (s : List ℕ) (start n : ℕ) → FirstFault s start n → (e : Fault) × (readName s start ≡ Not e) × (numberOf e ≡ n)
+pub is-refused : (s : List ℕ) (start n : ℕ) → FirstNameFault s start n → (e : Fault) × (readName s start ≡ Not e) × (numberOf e ≡ n)
 unfolding readName
-is-refused s start n f = faults (suc steps) s (begin start) n f (omega arith) (omega arith) (omega (arith, steps-do start))
+is-refused s start n f = faults (suc maxSteps) s (begin start) n f (omega arith) (omega arith) (omega (arith, steps-do start))
 
 -- ---- the next string starts within the buffer, behind this one's start
 

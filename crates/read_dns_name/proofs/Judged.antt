@@ -11,15 +11,15 @@ use Rattle.read_dns_name.specs.declared.Cursor.{Cursor}
 use Rattle.read_dns_name.specs.declared.Step.{Step}
 use Rattle.read_dns_name.specs.declared.Step.the-variants.{Label, Jump, End, Refused}
 use Rattle.read_dns_name.specs.DnsName.{left, labelOf, jumpTo, jumpPlace, jumpAt, stepAt, numberOf}
-use Rattle.read_dns_name.specs.Rfc1035.{EndAt, LabelAt, JumpAt, FaultAt, no-byte, label-cut, jump-cut, top-bits, not-before, seventeenth, too-long}
+use Rattle.read_dns_name.specs.Rfc1035.{NameEndAt, LabelAt, JumpAt, NameFaultAt, no-byte, label-cut, jump-cut, top-bits, not-before, seventeenth, too-long}
 
 abbrev pub Fault-here : List ℕ → Cursor → ℕ → Type 0
-Fault-here s c n = FaultAt s (c .at) (c .run) (c .jumps) (c .coded) n
+Fault-here s c n = NameFaultAt s (c .at) (c .run) (c .jumps) (c .coded) n
 
 abbrev pub JudgedS : List ℕ → Cursor → Step → Type 0
 JudgedS s c (Label n) = LabelAt s (c .at) n × (c .coded + 1 + n ≤ 255)
 JudgedS s c (Jump to) = JumpAt s (c .at) to × (to < c .run) × (c .jumps < 16)
-JudgedS s c End = EndAt s (c .at)
+JudgedS s c End = NameEndAt s (c .at)
 JudgedS s c (Refused e) = Fault-here s c (numberOf e)
 
 -- a check that is one test, and an `if`: by what the test said

@@ -12,7 +12,7 @@ use Rattle.read_dns_name.specs.declared.Name.{Name}
 use Rattle.read_dns_name.specs.declared.Reading.the-variants.{Taken, Refused as Not}
 use Rattle.read_dns_name.specs.declared.Step.{Step}
 use Rattle.read_dns_name.specs.declared.Step.the-variants.{Label, Jump, End, Refused}
-use Rattle.read_dns_name.specs.DnsName.{stepAt, begin, pastLabel, jumped, ended, nameFrom, labelsFrom, steps, readName, labelsAt}
+use Rattle.read_dns_name.specs.DnsName.{stepAt, begin, pastLabel, jumped, ended, nameFrom, labelsFrom, maxSteps, readName, labelsAt}
 use Rattle.read_dns_name.specs.Rfc1035.{LabelAt, JumpAt}
 use Rattle.read_dns_name.proofs.Judged.{gave}
 
@@ -20,8 +20,8 @@ use Rattle.read_dns_name.proofs.Judged.{gave}
 abbrev pub room : Cursor → ℕ
 room c = 255 - c .coded + (16 - c .jumps)
 
-pub steps-do : (start : ℕ) → room (begin start) ≤ steps
-unfolding steps
+pub steps-do : (start : ℕ) → room (begin start) ≤ maxSteps
+unfolding maxSteps
 steps-do start = omega arith
 
 -- a cursor within the limits
@@ -94,7 +94,7 @@ pub record Reached (s : List ℕ) (start : ℕ) (c : Cursor) : Type 0 where
 pub reach-start : (s : List ℕ) (start : ℕ) (c : Cursor) → c ≡ begin start → Reached s start c
 unfolding readName
 reach-start s start c e =
-    rw e (record { sound = sound-start start (begin start) refl; fuel = steps; enough = steps-do start; same = refl })
+    rw e (record { sound = sound-start start (begin start) refl; fuel = maxSteps; enough = steps-do start; same = refl })
 
 pub reach-short : (s : List ℕ) (start : ℕ) (c : Cursor) → Reached s start c → c .coded ≤ 255
 reach-short s start c w = w .sound .short
@@ -139,7 +139,7 @@ pub record Remaining (s : List ℕ) (c : Cursor) (ls : List (List ℕ)) : Type 0
 pub all-remain : (s : List ℕ) (start : ℕ) (c : Cursor) → c ≡ begin start → Remaining s c (labelsAt s start)
 unfolding labelsAt
 all-remain s start c e =
-    rw e (record { sound = sound-start start (begin start) refl; fuel = steps; enough = steps-do start; same = refl })
+    rw e (record { sound = sound-start start (begin start) refl; fuel = maxSteps; enough = steps-do start; same = refl })
 
 -- a label is the first of them, and these are left after it
 pub record Split (s : List ℕ) (c : Cursor) (n : ℕ) (ls : List (List ℕ)) : Type 0 where

@@ -94,14 +94,14 @@ labelsFrom (suc k) s c =
 
 -- a label adds two or more to the coded length, which is 1 at first and at most 255, and a jump one to the jumps, which are at
 -- most 16: so this many steps do, in any buffer
-unfoldable pub steps : ℕ
-steps = 270
+unfoldable pub maxSteps : ℕ
+maxSteps = 270
 
 unfoldable pub readName : List ℕ → ℕ → Reading
-readName s start = nameFrom (suc steps) s (begin start)
+readName s start = nameFrom (suc maxSteps) s (begin start)
 
 unfoldable pub labelsAt : List ℕ → ℕ → List (List ℕ)
-labelsAt s start = labelsFrom (suc steps) s (begin start)
+labelsAt s start = labelsFrom (suc maxSteps) s (begin start)
 
 -- the number of each refusal
 abbrev pub numberOf : Fault → ℕ

@@ -22,16 +22,16 @@ use Rattle.read_dns_name.proofs.Exact.{next-inside, next-after, few-jumps}
 use Rattle.read_nl_auth.specs.declared.string.NlString.{NlString}
 use Rattle.read_nl_auth.specs.declared.name.NameScan.{NameScan}
 use Rattle.read_nl_auth.specs.declared.name.NameScan.the-variants.{Found, Refused as Not}
-use Rattle.read_nl_auth.specs.NlAuth.{noString, stringBytes, stringStart, bufferOf, inBuffer, refusalIn, readingRefusal, nameString, onName, nameAt, nameUnder, scanRefusal}
+use Rattle.read_nl_auth.specs.NlAuth.{noString, stringBytes, stringStart, bufferOf, inBuffer, refusalIn, nameRefusal, nameString, onName, nameAt, nameUnder, scanRefusal}
 
 -- what a variant tells
 pub refusal-is : (e v : Fault) (n : ℕ) (r : Refusal) → e ≡ v → r ≡ refusalIn v n → r ≡ refusalIn e n
 refusal-is e v n r p q = rw p q
 
-pub of-fault : (v : Reading) (e : Fault) (n : ℕ) (r : Refusal) → v ≡ Refused e → r ≡ refusalIn e n → r ≡ readingRefusal v n
+pub of-fault : (v : Reading) (e : Fault) (n : ℕ) (r : Refusal) → v ≡ Refused e → r ≡ refusalIn e n → r ≡ nameRefusal v n
 of-fault v e n r h q = rw h q
 
-pub of-none : (v : Reading) (m : Name) (n : ℕ) → v ≡ Taken m → TooLong ≡ readingRefusal v n
+pub of-none : (v : Reading) (m : Name) (n : ℕ) → v ≡ Taken m → TooLong ≡ nameRefusal v n
 of-none v m n h = rw h
 
 -- what a scan was found to be
@@ -72,7 +72,7 @@ module _ (s : List ℕ) (at : ℕ) (r : Reading) (e : r ≡ readName (take (leng
     unfolding nameAt
     name-taken n = simp (← whole, h)
 
-  pub name-faulty : (f : Fault) (n : ℕ) (d : Refusal) → r ≡ Refused f → d ≡ readingRefusal r n → Not d ≡ nameAt s at n
+  pub name-faulty : (f : Fault) (n : ℕ) (d : Refusal) → r ≡ Refused f → d ≡ nameRefusal r n → Not d ≡ nameAt s at n
   unfolding nameAt
   name-faulty f n d h q = simp (← whole, q, h)
 

@@ -12,27 +12,27 @@ use borrow.Author.Tests.{eq-eqb, ne-eqb, lt-ltb, le-ltb, ltb-true}
 use Rattle.read_nl_auth.specs.declared.string.NlString.{NlString}
 use Rattle.read_nl_auth.specs.declared.string.Scan.{Scan}
 use Rattle.read_nl_auth.specs.declared.string.Scan.the-variants.{Found, Missing}
-use Rattle.read_nl_auth.specs.NlAuth.{noString, beforeZero, holdsZero, stringAt, stringUnder}
+use Rattle.read_nl_auth.specs.NlAuth.{noString, stringLength, holdsZero, stringAt, stringUnder}
 
 -- no zero byte stands before i
 pub record Passed (s : List ℕ) (i : ℕ) : Type 0 where
   pub within : i ≤ length s
-  pub same : beforeZero s ≡ i + beforeZero (drop i s)
+  pub same : stringLength s ≡ i + stringLength (drop i s)
 
 pub start : (s : List ℕ) → Passed s 0
-start s = record { within = omega arith; same = sym (zero-add (beforeZero s)) }
+start s = record { within = omega arith; same = sym (zero-add (stringLength s)) }
 
 pub next : (s : List ℕ) (i : ℕ) → Passed s i → i < length s → (getD s i 0 ≡ 0 → ⊥) → Passed s (i + 1)
 next s i p h n =
-    let step : beforeZero (drop i s) ≡ suc (beforeZero (drop (suc i) s)) = simp (drop-cons s i 0 h, ne-eqb _ _ n) in
+    let step : stringLength (drop i s) ≡ suc (stringLength (drop (suc i) s)) = simp (drop-cons s i 0 h, ne-eqb _ _ n) in
     record { within = omega arith; same = p .same ∙ simp (step, add-one) (omega arith) }
 
-pub here : (s : List ℕ) (i : ℕ) → Passed s i → i < length s → getD s i 0 ≡ 0 → i ≡ beforeZero s
+pub here : (s : List ℕ) (i : ℕ) → Passed s i → i < length s → getD s i 0 ≡ 0 → i ≡ stringLength s
 here s i p h z =
-    let none : beforeZero (drop i s) ≡ 0 = simp (drop-cons s i 0 h, eq-eqb _ _ z) in
+    let none : stringLength (drop i s) ≡ 0 = simp (drop-cons s i 0 h, eq-eqb _ _ z) in
     sym (p .same ∙ simp (none, add-zero))
 
-pub nowhere : (s : List ℕ) (i : ℕ) → Passed s i → length s ≤ i → i ≡ beforeZero s
+pub nowhere : (s : List ℕ) (i : ℕ) → Passed s i → length s ≤ i → i ≡ stringLength s
 nowhere s i p h =
     let none : drop i s ≡ [] = drop-of-length-le s {i = i} h in
     sym (p .same ∙ simp (none, add-zero))
@@ -41,9 +41,9 @@ nowhere s i p h =
 rest : (s : List ℕ) (at : ℕ) → take (length s - at) (drop at s) ≡ drop at s
 rest s at = take-all (length s - at) (drop at s) (simp length-drop (omega arith))
 
-module _ (s : List ℕ) (at n : ℕ) (e : n ≡ beforeZero (take (length s - at) (drop at s))) where
-  count : n ≡ beforeZero (drop at s)
-  count = e ∙ ap beforeZero (rest s at)
+module _ (s : List ℕ) (at n : ℕ) (e : n ≡ stringLength (take (length s - at) (drop at s))) where
+  count : n ≡ stringLength (drop at s)
+  count = e ∙ ap stringLength (rest s at)
 
   -- a zero byte stands there
   pub found : n < length (take (length s - at) (drop at s)) → Found (record { offset = at; len = n; jumps = 0 }) (at + n + 1) ≡ stringAt s at
@@ -79,7 +79,7 @@ pub inside : (s : List ℕ) (at : ℕ) (b : Bool) (w : NlString) (n : ℕ) (r : 
 unfolding stringUnder stringAt
 inside s at b w n r h e l =
     ends-inside (length s) at b (holdsZero (drop at s)) _ w _ n (sym e ∙ h)
-    (λ t. omega (arith, simp length-drop at (ltb-true (beforeZero (drop at s)) (length (drop at s)) t))) l
+    (λ t. omega (arith, simp length-drop at (ltb-true (stringLength (drop at s)) (length (drop at s)) t))) l
 
 starts-behind : (at : ℕ) (b t : Bool) (x w : NlString) (m n : ℕ) →
     cond b (cond t (Found x m) Missing) (Found noString at) ≡ Found w n → at ≤ m → at ≤ n
@@ -91,7 +91,7 @@ pub behind : (s : List ℕ) (at : ℕ) (b : Bool) (w : NlString) (n : ℕ) (r : 
     r ≡ Found w n → r ≡ stringUnder b s at → 8 ≤ at → 8 ≤ n
 unfolding stringUnder stringAt
 behind s at b w n r h e l =
-    omega (arith, starts-behind at b (holdsZero (drop at s)) _ w (at + beforeZero (drop at s) + 1) n (sym e ∙ h) (omega arith))
+    omega (arith, starts-behind at b (holdsZero (drop at s)) _ w (at + stringLength (drop at s) + 1) n (sym e ∙ h) (omega arith))
 
 -- the first string starts at 8
 pub at-first : 8 ≤ 8

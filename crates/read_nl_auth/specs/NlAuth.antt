@@ -44,18 +44,18 @@ stringStart s x = cond (leb (x .offset + x .len) (length s)) (x .offset) 0
 -- ---- strings A and B
 
 -- how many bytes stand before the first zero byte; all of them if there is none
-abbrev pub beforeZero : List ℕ → ℕ
-beforeZero [] = 0
-beforeZero (b ∷ bs) = cond (eqb b 0) 0 (suc (beforeZero bs))
+abbrev pub stringLength : List ℕ → ℕ
+stringLength [] = 0
+stringLength (b ∷ bs) = cond (eqb b 0) 0 (suc (stringLength bs))
 
 abbrev pub holdsZero : List ℕ → Bool
-holdsZero bs = ltb (beforeZero bs) (length bs)
+holdsZero bs = ltb (stringLength bs) (length bs)
 
 -- the string from a place on: up to and without the first zero byte, after which the next string starts
 unfoldable pub stringAt : List ℕ → ℕ → Scan
 stringAt s at =
     cond (holdsZero (drop at s))
-    (Found (record { offset = at; len = beforeZero (drop at s); jumps = 0 }) (at + beforeZero (drop at s) + 1))
+    (Found (record { offset = at; len = stringLength (drop at s); jumps = 0 }) (at + stringLength (drop at s) + 1))
     Missing
 
 -- the string under a bit: where that is clear there is none, and the next string starts at this place
@@ -93,8 +93,8 @@ onName (Read m) x f = x m
 onName (Faulty e) x f = f e
 
 -- the refusal of a name in string n; of one that was taken, which has no fault, 1
-abbrev pub readingRefusal : NameReading → ℕ → Refusal
-readingRefusal r n = onName r (λ m. TooLong) (λ e. refusalIn e n)
+abbrev pub nameRefusal : NameReading → ℕ → Refusal
+nameRefusal r n = onName r (λ m. TooLong) (λ e. refusalIn e n)
 
 -- string n from a place of the message on
 unfoldable pub nameAt : List ℕ → ℕ → ℕ → NameScan

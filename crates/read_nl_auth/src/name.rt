@@ -3,7 +3,7 @@ ghost use mathlib.Core.Path.{_≡_};
 ghost use Prim.Native.Nat.{_≤_, min};
 ghost use lib.ListN.{length};
 ghost use Rattle.field.specs.Field.{PartAt};
-ghost use Rattle.read_nl_auth.specs.NlAuth.{bufferOf, inBuffer, refusalIn, readingRefusal, nameAt, nameUnder, scanRefusal};
+ghost use Rattle.read_nl_auth.specs.NlAuth.{bufferOf, inBuffer, refusalIn, nameRefusal, nameAt, nameUnder, scanRefusal};
 use crate::string::NlString;
 use read_dns_name::Fault;
 use read_dns_name::Reading;
@@ -65,7 +65,7 @@ fn refusal_in(e: Fault, n: u8) -> Refusal
 
 // The same of a name that was refused; of one that was taken, which has no fault, 1.
 fn reading_refusal(reading: Reading, n: u8) -> Refusal
-    ensures { λ r. ⌜ r ≡ readingRefusal reading n ⌝ }
+    ensures { λ r. ⌜ r ≡ nameRefusal reading n ⌝ }
 {
     match reading {
         Reading::Refused(e) => refusal_in(e, n),

@@ -3,7 +3,7 @@ ghost use mathlib.Core.Path.{_≡_};
 ghost use Prim.Native.Nat.{_≤_};
 ghost use lib.ListN.{length};
 ghost use Rattle.field.specs.Field.{PartAt};
-ghost use Rattle.read_nl_auth.specs.NlAuth.{stringBytes, stringStart, beforeZero, stringAt, stringUnder};
+ghost use Rattle.read_nl_auth.specs.NlAuth.{stringBytes, stringStart, stringLength, stringAt, stringUnder};
 
 // Where a string stands in its message, and how many jumps were taken in reading it. One that isn't there has 0 in all three.
 pub struct NlString {
@@ -34,8 +34,8 @@ pub enum Scan {
 }
 
 // How many bytes stand before the first zero byte; all of them if there is none.
-pub fn before_zero(s: &[u8]) -> usize
-    ensures { λ r. ⌜ r ≡ beforeZero (now (s .entry)) ⌝ }
+pub fn string_length(s: &[u8]) -> usize
+    ensures { λ r. ⌜ r ≡ stringLength (now (s .entry)) ⌝ }
 {
     let mut i: usize = 0;
     while i < s.len() {
@@ -53,7 +53,7 @@ fn string_at(msg: &[u8], at: usize) -> Scan
     ensures { λ r. ⌜ r ≡ stringAt (now (msg .entry)) at ⌝ }
 {
     let rest = &msg[at..];
-    let len = before_zero(rest);
+    let len = string_length(rest);
     if len < rest.len() {
         let string = NlString {
             offset: at as u32,

@@ -28,7 +28,7 @@ use Rattle.read_challenge.specs.declared.FullReading.{FullReading}
 use Rattle.read_challenge.specs.declared.FullReading.the-variants.{Refused as Unread}
 use Rattle.read_challenge.specs.Challenge.{readingOf, onTaken, infoOf, fullReadingOf}
 use Rattle.read_challenge.proofs.Laws.{refusal-alone}
-use Rattle.respond.specs.Domain.{Part, ownPart, valuePart, onFound, domainPart, domainToSend, lent, DomainWithin}
+use Rattle.respond.specs.Domain.{Part, ownPart, valuePart, onPairFound, domainPart, domainToSend, lent, DomainWithin}
 
 -- ---- the search for pair 2
 
@@ -53,10 +53,10 @@ pub unread : {A : Type 0} (f : Refusal → A) (s : List ℕ) (r : FullReading) (
     r ≡ fullReadingOf s → r ≡ Unread e → y ≡ f e → y ≡ onTaken f (readingOf s) x
 unread f s r e x y p h q = simp (← refusal-alone s r p e h) q
 
-pub found-at : {A : Type 0} (k f : Found) (p : AvPair) (x : AvPair → A) (z y : A) → f ≡ k → f ≡ At p → y ≡ x p → y ≡ onFound k x z
+pub found-at : {A : Type 0} (k f : Found) (p : AvPair) (x : AvPair → A) (z y : A) → f ≡ k → f ≡ At p → y ≡ x p → y ≡ onPairFound k x z
 found-at k f p x z y e h q = simp (← e, h) q
 
-pub found-none : {A : Type 0} (k f : Found) (x : AvPair → A) (z y : A) → f ≡ k → f ≡ Nothing → y ≡ z → y ≡ onFound k x z
+pub found-none : {A : Type 0} (k f : Found) (x : AvPair → A) (z y : A) → f ≡ k → f ≡ Nothing → y ≡ z → y ≡ onPairFound k x z
 found-none k f x z y e h q = simp (← e, h) q
 
 -- a challenge that is known to be taken

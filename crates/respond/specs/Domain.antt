@@ -35,9 +35,9 @@ valuePart s c p =
       bytes = valueIn (infoOf s c) p;
     }
 
-abbrev pub onFound : {A : Type 0} → Found → (AvPair → A) → A → A
-onFound (At p) x y = x p
-onFound Nothing x y = y
+abbrev pub onPairFound : {A : Type 0} → Found → (AvPair → A) → A → A
+onPairFound (At p) x y = x p
+onPairFound Nothing x y = y
 
 -- the settings' domain; if that is empty and UNICODE is set, the challenge's first pair 2; if there is none, the empty part
 -- of the settings. A refused challenge has none
@@ -46,7 +46,7 @@ domainPart own s =
     cond (eqb (length own) 0)
     (onTaken (λ e. ownPart own) (readingOf s) (λ c.
     cond (unicode (c .flags))
-    (onFound (firstBy isNbDomainName (pairsOf (infoOf s c))) (valuePart s c) (ownPart own))
+    (onPairFound (firstBy isNbDomainName (pairsOf (infoOf s c))) (valuePart s c) (ownPart own))
     (ownPart own)))
     (ownPart own)
 

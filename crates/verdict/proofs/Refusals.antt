@@ -43,12 +43,12 @@ use Rattle.read_challenge.specs.Challenge as C
 use Rattle.read_challenge.specs.Challenge.{readChallenge, checkInfo, infoOf, inMessage, onTaken}
 use Rattle.read_challenge.proofs.Laws.{fields-short}
 use Rattle.av_pairs.specs.AvPairs.{checkPairs}
-use Rattle.verdict.specs.Verdict.{negoVerdict, chalVerdict, authVerdict, readAs, placeIn, fixedOf, hasPair, FixedPart, Placed}
+use Rattle.verdict.specs.Verdict.{negoVerdict, chalVerdict, authVerdict, readAs, refusedPlace, fixedOf, failsAtPair, FixedPart, Placed}
 use Rattle.verdict.proofs.Faults.{Fault, past-end, missing, end-pair, pair-size, fault-of, list-inside}
 
 -- ---- refusals without a pair
 
-no-pair : (number : ℕ) → number < 10 → hasPair number ≡ true → ⊥
+no-pair : (number : ℕ) → number < 10 → failsAtPair number ≡ true → ⊥
 no-pair number h p = omega (arith, leb-true 10 number (and-left (leb 10 number) (leb number 13) (and-left (leb 10 number && leb number 13) (not (eqb number 11)) p)))
 
 -- what is known of a refusal: where it gives a field the fixed part is there, and its place is one of the message, with its pair there
@@ -178,13 +178,13 @@ verdict-known Negotiate s = negotiate-known s
 verdict-known Challenge s = chal-v (length s) (readChallenge s .reading) (challenge-known s)
 verdict-known Authenticate s = authenticate-known s
 
-pub read-near : (k : Kind) (s : List ℕ) → placeIn (readAs k s) ≤ 65535
+pub read-near : (k : Kind) (s : List ℕ) → refusedPlace (readAs k s) ≤ 65535
 read-near k s = go (readAs k s) (verdict-known k s) where
-  go : (v : Verdict) → KnownV (fixedOf k) (length s) v → placeIn v ≤ 65535
+  go : (v : Verdict) → KnownV (fixedOf k) (length s) v → refusedPlace v ≤ 65535
   go Clear h = omega arith
   go (Not e) h = h .near
 
-pub read-short : (k : Kind) (s : List ℕ) → placeIn (readAs k s) < 2 ^ 32
+pub read-short : (k : Kind) (s : List ℕ) → refusedPlace (readAs k s) < 2 ^ 32
 read-short k s = omega (arith, read-near k s)
 
 module _ (k : Kind) (s : List ℕ) (v : Verdict) (e : Refusal) (p : v ≡ readAs k s) (h : v ≡ Not e) where

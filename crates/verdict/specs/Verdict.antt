@@ -38,9 +38,9 @@ readAs Challenge s = chalVerdict (readChallenge s .reading)
 readAs Authenticate s = authVerdict (readAuthenticate s .reading)
 
 -- a refusal's pair place
-abbrev pub placeIn : Verdict → ℕ
-placeIn Clear = 0
-placeIn (Not e) = placeOf e
+abbrev pub refusedPlace : Verdict → ℕ
+refusedPlace Clear = 0
+refusedPlace (Not e) = placeOf e
 
 -- ---- a refusal of a message of n bytes
 
@@ -55,10 +55,10 @@ pub record FixedPart (fixed field n : ℕ) : Type 0 where
   pub there : (field ≡ 0 → ⊥) → fixed ≤ n
 
 -- checks 10, 12 and 13 fail at a pair, 11 where there is none
-abbrev pub hasPair : ℕ → Bool
-hasPair number = leb 10 number && leb number 13 && not (eqb number 11)
+abbrev pub failsAtPair : ℕ → Bool
+failsAtPair number = leb 10 number && leb number 13 && not (eqb number 11)
 
 -- the place has 32 bits, and a pair's id and length number stand there
 pub record Placed (e : Refusal) (n : ℕ) : Type 0 where
   pub short : placeOf e < 2 ^ 32
-  pub there : hasPair (numberOf e) ≡ true → placeOf e + 4 ≤ n
+  pub there : failsAtPair (numberOf e) ≡ true → placeOf e + 4 ≤ n

@@ -20,7 +20,7 @@ use Rattle.wire.proofs.Laws.{chain, groups}
 use Rattle.place.specs.Place.{Wrote}
 use Rattle.place.proofs.Numbers.{length-le32}
 use Rattle.place.proofs.Writings.{measured, counted-on}
-use Rattle.write_field.specs.Writing.{fieldOf}
+use Rattle.write_field.specs.Writing.{writtenField}
 use Rattle.write_field.proofs.Laws.{length-head, length-version}
 use Rattle.read_authenticate.specs.declared.Fields.{Fields}
 use Rattle.write_authenticate.specs.Writing.{fieldsTo, headsBytes, afterHeads, fixedBytes, payloadBytes, payloadSize, authenticateBytes, checkNamesToWrite, keyHolds, sizeToWrite, checkToWrite}
@@ -29,9 +29,9 @@ use Rattle.write_authenticate.specs.Writing.{fieldsTo, headsBytes, after
 
 -- the six fields are laid out one after the other
 pub laid-out : (lm nt domain user workstation key : ℕ) (a b c d e f : Field) →
-    a ≡ fieldOf (88 + domain + user + workstation) lm → b ≡ fieldOf (88 + domain + user + workstation + lm) nt →
-    c ≡ fieldOf 88 domain → d ≡ fieldOf (88 + domain) user → e ≡ fieldOf (88 + domain + user) workstation →
-    f ≡ fieldOf (88 + domain + user + workstation + lm + nt) key →
+    a ≡ writtenField (88 + domain + user + workstation) lm → b ≡ writtenField (88 + domain + user + workstation + lm) nt →
+    c ≡ writtenField 88 domain → d ≡ writtenField (88 + domain) user → e ≡ writtenField (88 + domain + user) workstation →
+    f ≡ writtenField (88 + domain + user + workstation + lm + nt) key →
     record { lm = a; nt = b; domain = c; user = d; workstation = e; key = f } ≡ fieldsTo lm nt domain user workstation key
 unfolding fieldsTo
 laid-out lm nt domain user workstation key a b c d e f pa pb pc pd pe pf = rw (pa, pb, pc, pd, pe, pf)

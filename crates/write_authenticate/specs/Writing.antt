@@ -15,7 +15,7 @@ use Rattle.head.specs.Head.{signature}
 use Rattle.place.specs.declared.written.Written.{Written}
 use Rattle.place.specs.Place.{le32}
 use Rattle.place.specs.Written.{sizeHolds, roomHolds, answered, outAfter}
-use Rattle.write_field.specs.Writing.{fieldOf, headBytes, versionBytes}
+use Rattle.write_field.specs.Writing.{writtenField, headBytes, versionBytes}
 use Rattle.read_authenticate.specs.declared.Fields.{Fields}
 
 -- ---- the fixed part: always 88 bytes
@@ -25,12 +25,12 @@ use Rattle.read_authenticate.specs.declared.Fields.{Fields}
 unfoldable pub fieldsTo : ℕ → ℕ → ℕ → ℕ → ℕ → ℕ → Fields
 fieldsTo lm nt domain user workstation key =
     record {
-      domain = fieldOf 88 domain;
-      user = fieldOf (88 + domain) user;
-      workstation = fieldOf (88 + domain + user) workstation;
-      lm = fieldOf (88 + domain + user + workstation) lm;
-      nt = fieldOf (88 + domain + user + workstation + lm) nt;
-      key = fieldOf (88 + domain + user + workstation + lm + nt) key;
+      domain = writtenField 88 domain;
+      user = writtenField (88 + domain) user;
+      workstation = writtenField (88 + domain + user) workstation;
+      lm = writtenField (88 + domain + user + workstation) lm;
+      nt = writtenField (88 + domain + user + workstation + lm) nt;
+      key = writtenField (88 + domain + user + workstation + lm + nt) key;
     }
 
 -- the heads in field order

@@ -14,9 +14,9 @@ use Rattle.wire.proofs.Laws.{held-true}
 use Rattle.wire.proofs.Bools.{and-left, and-right}
 use Rattle.read_dns_name.specs.declared.Reading.the-variants.{Taken}
 use Rattle.read_dns_name.specs.DnsName.{readName, labelsAt}
-use Rattle.read_dns_name.specs.Rfc1035.{EndAt, LabelAt, NameFrom, end, label, codedLength}
+use Rattle.read_dns_name.specs.Rfc1035.{NameEndAt, LabelAt, NameFrom, end, label, codedLength}
 use Rattle.read_dns_name.proofs.Exact.{is-taken}
-use Rattle.write_dns_name.specs.Writing.{onFirst, pieces, labelsOf, labelBytes, coded, nameBytes, labelsHold, textHolds, codedHolds, beforeStop}
+use Rattle.write_dns_name.specs.Writing.{onFirst, pieces, splitLabels, labelBytes, coded, nameBytes, labelsHold, textHolds, codedHolds, beforeStop}
 
 -- labels that hold have 1 to 63 bytes
 record First (l : List ℕ) (ls : List (List ℕ)) : Type 0 where
@@ -60,7 +60,7 @@ written : (ls : List (List ℕ)) (pre post : List ℕ) (run : ℕ) → labelsHol
     NameFrom (pre ++ (coded ls ++ post)) run (length pre) ls 0 (length pre + length (coded ls))
 unfolding coded labelBytes
 written [] pre post run h =
-    let w : EndAt (pre ++ (0 ∷ post)) (length pre) = record { there = omega (arith, length-append pre (0 ∷ post)); byte = getD-append-seam pre 0 post 0 } in
+    let w : NameEndAt (pre ++ (0 ∷ post)) (length pre) = record { there = omega (arith, length-append pre (0 ∷ post)); byte = getD-append-seam pre 0 post 0 } in
     end w refl refl refl
 written (l ∷ ls) pre post run h =
     let f = first l ls h in
@@ -82,14 +82,14 @@ written (l ∷ ls) pre post run h =
 
 pub back : (t pre post : List ℕ) → textHolds t ≡ Held → codedHolds t ≡ Held →
     (readName (pre ++ (nameBytes t ++ post)) (length pre) ≡ Taken (record { jumps = 0; next = length pre + length (nameBytes t) })) ×
-    (labelsAt (pre ++ (nameBytes t ++ post)) (length pre) ≡ labelsOf t)
+    (labelsAt (pre ++ (nameBytes t ++ post)) (length pre) ≡ splitLabels t)
 unfolding textHolds codedHolds nameBytes
 back t pre post h g =
-    is-taken (pre ++ (coded (labelsOf t) ++ post)) (length pre) (labelsOf t) 0 (length pre + length (coded (labelsOf t)))
+    is-taken (pre ++ (coded (splitLabels t) ++ post)) (length pre) (splitLabels t) 0 (length pre + length (coded (splitLabels t)))
     (record {
-      coded = written (labelsOf t) pre post (length pre) h;
+      coded = written (splitLabels t) pre post (length pre) h;
       few = omega arith;
-      short = leb-true (codedLength (labelsOf t)) 255 (held-true (leb (codedLength (labelsOf t)) 255) g);
+      short = leb-true (codedLength (splitLabels t)) 255 (held-true (leb (codedLength (splitLabels t)) 255) g);
     })
 
 -- ---- the pieces of a text are the one list of parts without a full stop that, joined with full stops, is the text

@@ -11,7 +11,7 @@ use Rattle.wire.specs.declared.check.Checked.{Checked}
 use Rattle.wire.specs.declared.check.Checked.the-variants.{Held, Failed}
 use Rattle.wire.specs.Check.{checked, after}
 use Rattle.read_dns_name.specs.Rfc1035.{codedLength}
-use Rattle.write_dns_name.specs.Writing.{onFirst, pieces, labelsOf, labelBytes, coded, nameBytes, labelHolds, labelsHold, textHolds, codedHolds, beforeStop}
+use Rattle.write_dns_name.specs.Writing.{onFirst, pieces, splitLabels, labelBytes, coded, nameBytes, labelHolds, labelsHold, textHolds, codedHolds, beforeStop}
 use Rattle.write_dns_name.proofs.Pieces.{piece-last, piece-more, piece-size}
 
 -- the pieces before `at` hold
@@ -48,13 +48,13 @@ module _ (t : List ℕ) (at : ℕ) (w : Holding t at) (n : ℕ) (e : n ≡ befor
 
 -- ---- an empty text, and any other
 
-no-labels : (t : List ℕ) → length t ≡ 0 → labelsOf t ≡ []
-unfolding labelsOf
+no-labels : (t : List ℕ) → length t ≡ 0 → splitLabels t ≡ []
+unfolding splitLabels
 no-labels [] h = refl
 no-labels (b ∷ t) h = absurd (omega arith)
 
-some-labels : (t : List ℕ) → (length t ≡ 0 → ⊥) → labelsOf t ≡ pieces t
-unfolding labelsOf
+some-labels : (t : List ℕ) → (length t ≡ 0 → ⊥) → splitLabels t ≡ pieces t
+unfolding splitLabels
 some-labels [] h = absurd (h refl)
 some-labels (b ∷ t) h = refl
 
@@ -108,8 +108,8 @@ module _ (t : List ℕ) where
   pub size-some : (n : ℕ) → (length t ≡ 0 → ⊥) → n ≡ min 65536 (2 + length t) → n ≡ min 65536 (length (nameBytes t))
   size-some n h e = omega (arith, e, size-all h)
 
-same-short : (t : List ℕ) → leb (length t) 253 ≡ leb (codedLength (labelsOf t)) 255
-unfolding labelsOf
+same-short : (t : List ℕ) → leb (length t) 253 ≡ leb (codedLength (splitLabels t)) 255
+unfolding splitLabels
 same-short [] = refl
 same-short (b ∷ t) = go (leb (length (b ∷ t)) 253) refl where
   go : (x : Bool) → leb (length (b ∷ t)) 253 ≡ x → leb (length (b ∷ t)) 253 ≡ leb (codedLength (pieces (b ∷ t))) 255

@@ -19,9 +19,9 @@ unfoldable pub pieces : List ℕ → List (List ℕ)
 pieces [] = [] ∷ []
 pieces (b ∷ t) = cond (eqb b 0x2E) ([] ∷ pieces t) (onFirst b (pieces t))
 
-unfoldable pub labelsOf : List ℕ → List (List ℕ)
-labelsOf [] = []
-labelsOf (b ∷ t) = pieces (b ∷ t)
+unfoldable pub splitLabels : List ℕ → List (List ℕ)
+splitLabels [] = []
+splitLabels (b ∷ t) = pieces (b ∷ t)
 
 -- each label after its length byte, and the zero byte
 unfoldable pub labelBytes : List ℕ → List ℕ
@@ -32,7 +32,7 @@ coded [] = 0 ∷ []
 coded (l ∷ ls) = labelBytes l ++ coded ls
 
 unfoldable pub nameBytes : List ℕ → List ℕ
-nameBytes t = coded (labelsOf t)
+nameBytes t = coded (splitLabels t)
 
 -- "50 for an empty label or one over 63"
 abbrev pub labelHolds : ℕ → Checked
@@ -44,10 +44,10 @@ labelsHold (l ∷ ls) = after (labelHolds (length l)) Failed (labelsHold ls)
 
 -- 50 and 53 for a text
 unfoldable pub textHolds : List ℕ → Checked
-textHolds t = labelsHold (labelsOf t)
+textHolds t = labelsHold (splitLabels t)
 
 unfoldable pub codedHolds : List ℕ → Checked
-codedHolds t = checked (leb (codedLength (labelsOf t)) 255)
+codedHolds t = checked (leb (codedLength (splitLabels t)) 255)
 
 -- how many bytes stand before the first full stop; all of them if there is none
 unfoldable pub beforeStop : List ℕ → ℕ

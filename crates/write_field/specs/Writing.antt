@@ -9,8 +9,8 @@ use Rattle.negotiate_flags.specs.Flags.{version}
 use Rattle.place.specs.Place.{le16, le32}
 
 -- a field to be written: MaxLen equals Len
-abbrev pub fieldOf : ℕ → ℕ → Field
-fieldOf offset len = record { offset = offset; len = len; «max_len» = len }
+abbrev pub writtenField : ℕ → ℕ → Field
+writtenField offset len = record { offset = offset; len = len; «max_len» = len }
 
 -- a head: Len, MaxLen (equal to Len), offset
 unfoldable pub headBytes : Field → List ℕ

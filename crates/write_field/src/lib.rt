@@ -3,14 +3,14 @@ ghost use mathlib.Core.Path.{_≡_};
 ghost use Prim.Native.Nat.{_+_, _≤_};
 ghost use lib.ListN.{length};
 ghost use Rattle.place.specs.Place.{Wrote};
-ghost use Rattle.write_field.specs.Writing.{fieldOf, headBytes, versionBytes};
+ghost use Rattle.write_field.specs.Writing.{writtenField, headBytes, versionBytes};
 use field::Field;
 use negotiate_flags::NegotiateFlags;
 use place::Place;
 
 pub fn field_to(offset: usize, len: usize) -> Field
     requires { ⌜ (offset ≤ 65535) × (len ≤ 65535) ⌝ }
-    ensures { λ r. ⌜ r ≡ fieldOf offset len ⌝ }
+    ensures { λ r. ⌜ r ≡ writtenField offset len ⌝ }
 {
     Field {
         offset: offset as u32,

@@ -17,7 +17,7 @@ use Rattle.wire.proofs.Laws.{chain, after-clear}
 use Rattle.place.specs.Place.{Wrote}
 use Rattle.place.proofs.Numbers.{length-le32}
 use Rattle.place.proofs.Writings.{measured, counted-on}
-use Rattle.write_field.specs.Writing.{fieldOf}
+use Rattle.write_field.specs.Writing.{writtenField}
 use Rattle.write_field.proofs.Laws.{length-head, length-version}
 use Rattle.read_negotiate.specs.declared.Fields.{Fields}
 use Rattle.write_negotiate.specs.Writing.{flagsToWrite, fieldsTo, afterType, fixedBytes, negotiateBytes, sizeToWrite, checkToWrite}
@@ -25,7 +25,7 @@ use Rattle.write_negotiate.specs.Writing.{flagsToWrite, fieldsTo, afterT
 -- ---- the fixed part
 
 -- both names are laid out one after the other
-pub laid-out : (domain workstation : ℕ) (a b : Field) → a ≡ fieldOf 40 domain → b ≡ fieldOf (40 + domain) workstation →
+pub laid-out : (domain workstation : ℕ) (a b : Field) → a ≡ writtenField 40 domain → b ≡ writtenField (40 + domain) workstation →
     record { domain = a; workstation = b } ≡ fieldsTo domain workstation
 unfolding fieldsTo
 laid-out domain workstation a b pa pb = rw (pa, pb)

@@ -14,7 +14,7 @@ use Rattle.head.specs.Head.{signature}
 use Rattle.place.specs.declared.written.Written.{Written}
 use Rattle.place.specs.Place.{le32}
 use Rattle.place.specs.Written.{sizeHolds, roomHolds, answered, outAfter}
-use Rattle.write_field.specs.Writing.{fieldOf, headBytes, versionBytes}
+use Rattle.write_field.specs.Writing.{writtenField, headBytes, versionBytes}
 use Rattle.read_negotiate.specs.declared.Fields.{Fields}
 
 -- ---- the fixed part: always 40 bytes
@@ -30,7 +30,7 @@ flagsToWrite flags domain workstation =
 -- where names of these lengths stand: from 40 on, domain, workstation, with no padding; an empty one's offset is where it
 -- would stand
 unfoldable pub fieldsTo : ℕ → ℕ → Fields
-fieldsTo domain workstation = record { domain = fieldOf 40 domain; workstation = fieldOf (40 + domain) workstation }
+fieldsTo domain workstation = record { domain = writtenField 40 domain; workstation = writtenField (40 + domain) workstation }
 
 -- flags at 12, the heads at 16 and 24, Version at 32
 unfoldable pub afterType : NegotiateFlags → List ℕ → Fields → List ℕ

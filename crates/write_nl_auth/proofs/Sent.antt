@@ -27,24 +27,24 @@ use Rattle.place.proofs.Numbers.{length-le32}
 use Rattle.place.proofs.Writings.{whole-length, whole-content}
 use Rattle.nl_auth_flags.specs.declared.NlAuthFlags.{NlAuthFlags}
 use Rattle.nl_auth_flags.specs.Flags.{nbDomain, nbComputer, dnsDomain, dnsHost, utf8Computer, noFlags, stringsHold}
-use Rattle.read_nl_auth.specs.NlAuth.{beforeZero}
+use Rattle.read_nl_auth.specs.NlAuth.{stringLength}
 use Rattle.write_dns_name.specs.Writing.{nameBytes, textHolds}
-use Rattle.write_nl_auth.specs.Writing.{headBytes, stringBytes, bytesUnder, oemBytes, nameUnder, utf8Bytes, requestBytes, responseBytes, noZero, checkZeros, checkLabels, checkCoded, checkStrings, under, checkUnder, checkRequest, requestAnswer, requestOut}
+use Rattle.write_nl_auth.specs.Writing.{typeAndFlags, zeroTerminated, bytesUnder, oemBytes, nameBytesUnder, utf8Bytes, requestBytes, responseBytes, noZero, checkZeros, checkLabels, checkCoded, checkStrings, under, checkUnder, checkRequest, requestAnswer, requestOut}
 
 -- the string of a bit that was told to be set
 module _ (s : List ℕ) (d : Bool) (h : d ≡ true) where
-  set-bytes : bytesUnder d s ≡ stringBytes s
+  set-bytes : bytesUnder d s ≡ zeroTerminated s
   unfolding bytesUnder
   set-bytes = rw h
 
   set-length : length (bytesUnder d s) ≡ length s + 1
-  unfolding stringBytes
+  unfolding zeroTerminated
   set-length = rw set-bytes (length-append s (0 ∷ []))
 
   pub set-room : (l : List ℕ) (at : ℕ) → at + length (bytesUnder d s) ≤ length l → length s + 1 ≤ length (take (length l - at) (drop at l))
   set-room l at r = simp (length-take, length-drop) (omega (arith, set-length))
 
-  pub set-wrote : (l k : List ℕ) (i p : ℕ) → Wrote l k i p (stringBytes s) → Wrote l k i p (bytesUnder d s)
+  pub set-wrote : (l k : List ℕ) (i p : ℕ) → Wrote l k i p (zeroTerminated s) → Wrote l k i p (bytesUnder d s)
   set-wrote l k i p w = rw set-bytes w
 
   pub set-size : (n m r : ℕ) → m ≡ min 65536 (n + length s) → r ≡ min 65536 (m + 1) → r ≡ min 65536 (n + length (bytesUnder d s))
@@ -64,20 +64,20 @@ module _ (s : List ℕ) (d : Bool) (h : d ≡ false) where
 
 -- the name of a bit that was told to be set
 module _ (s : List ℕ) (d : Bool) (h : d ≡ true) where
-  set-name : nameUnder d s ≡ nameBytes s
-  unfolding nameUnder
+  set-name : nameBytesUnder d s ≡ nameBytes s
+  unfolding nameBytesUnder
   set-name = rw h
 
-  pub set-name-room : (l : List ℕ) (at : ℕ) → at + length (nameUnder d s) ≤ length l → 0 + length (nameBytes s) ≤ length (take (length l - at) (drop at l))
+  pub set-name-room : (l : List ℕ) (at : ℕ) → at + length (nameBytesUnder d s) ≤ length l → 0 + length (nameBytes s) ≤ length (take (length l - at) (drop at l))
   set-name-room l at r = simp (length-take, length-drop) (omega (arith, ap length set-name))
 
-  pub set-name-fits : (l k z : List ℕ) (at r : ℕ) → at + length (nameUnder d s) ≤ length l → length l < 2 ^ 64 → Wrote k z 0 r (nameBytes s) → Fits w64 (at + r)
+  pub set-name-fits : (l k z : List ℕ) (at r : ℕ) → at + length (nameBytesUnder d s) ≤ length l → length l < 2 ^ 64 → Wrote k z 0 r (nameBytes s) → Fits w64 (at + r)
   set-name-fits l k z at r f g w = record { fits = omega (arith, w .place, ap length set-name) }
 
-  pub set-name-wrote : (l k : List ℕ) (i p : ℕ) → Wrote l k i p (nameBytes s) → Wrote l k i p (nameUnder d s)
+  pub set-name-wrote : (l k : List ℕ) (i p : ℕ) → Wrote l k i p (nameBytes s) → Wrote l k i p (nameBytesUnder d s)
   set-name-wrote l k i p w = rw set-name w
 
-  pub set-name-size : (n m r : ℕ) → m ≡ min 65536 (length (nameBytes s)) → r ≡ min 65536 (n + m) → r ≡ min 65536 (n + length (nameUnder d s))
+  pub set-name-size : (n m r : ℕ) → m ≡ min 65536 (length (nameBytes s)) → r ≡ min 65536 (n + m) → r ≡ min 65536 (n + length (nameBytesUnder d s))
   set-name-size n m r e f = omega (arith, ap length set-name)
 
   pub set-held : textHolds (under d s) ≡ Held → textHolds s ≡ Held
@@ -86,18 +86,18 @@ module _ (s : List ℕ) (d : Bool) (h : d ≡ true) where
 
 -- and of one that was told to be clear
 module _ (s : List ℕ) (d : Bool) (h : d ≡ false) where
-  clear-name : nameUnder d s ≡ []
-  unfolding nameUnder
+  clear-name : nameBytesUnder d s ≡ []
+  unfolding nameBytesUnder
   clear-name = rw h
 
-  pub clear-name-wrote : (l : List ℕ) (i : ℕ) → Wrote l l i i (nameUnder d s)
+  pub clear-name-wrote : (l : List ℕ) (i : ℕ) → Wrote l l i i (nameBytesUnder d s)
   clear-name-wrote l i = rw clear-name (nothing l i)
 
-  pub clear-name-size : (n : ℕ) → n ≤ 65536 → n ≡ min 65536 (n + length (nameUnder d s))
+  pub clear-name-size : (n : ℕ) → n ≤ 65536 → n ≡ min 65536 (n + length (nameBytesUnder d s))
   clear-name-size n l = simp (clear-name, add-zero) (omega arith)
 
 -- check 34, by the place of a zero byte
-pub zero-asked : (s : List ℕ) (n : ℕ) (r : Checked) → n ≡ beforeZero s → r ≡ checked (not (ltb n (length s))) → r ≡ noZero s
+pub zero-asked : (s : List ℕ) (n : ℕ) (r : Checked) → n ≡ stringLength s → r ≡ checked (not (ltb n (length s))) → r ≡ noZero s
 zero-asked s n r e f = rw e at f
 
 -- what the checks of the strings take of a bit's
@@ -142,8 +142,8 @@ pub asked-held : (s : List ℕ) (b d : Bool) → b ≡ d → textHolds (under d 
 asked-held s b d q e = rw q e
 
 -- lengths
-length-head : (t : ℕ) (flags : NlAuthFlags) → length (headBytes t flags) ≡ 8
-unfolding headBytes
+length-head : (t : ℕ) (flags : NlAuthFlags) → length (typeAndFlags t flags) ≡ 8
+unfolding typeAndFlags
 length-head t flags = simp (length-append, length-le32)
 
 pub length-response : length responseBytes ≡ 9
@@ -153,8 +153,8 @@ length-response = simp (length-append, length-head)
 module _ (flags : NlAuthFlags) (a b c d e : List ℕ) where
   abbrev requestSize : ℕ
   requestSize =
-      8 + (length (bytesUnder (nbDomain flags) a) + (length (bytesUnder (nbComputer flags) b) + (length (nameUnder (dnsDomain flags) c)
-      + (length (nameUnder (dnsHost flags) d) + length (nameUnder (utf8Computer flags) e)))))
+      8 + (length (bytesUnder (nbDomain flags) a) + (length (bytesUnder (nbComputer flags) b) + (length (nameBytesUnder (dnsDomain flags) c)
+      + (length (nameBytesUnder (dnsHost flags) d) + length (nameBytesUnder (utf8Computer flags) e)))))
 
   pub length-request : length (requestBytes flags a b c d e) ≡ requestSize
   unfolding requestBytes oemBytes utf8Bytes
@@ -178,16 +178,16 @@ module _ (flags : NlAuthFlags) (a b c d e : List ℕ) where
 
   -- its strings, by the answers v to z to their bits' questions
   module _ (v w x y z : Bool) (p : v ≡ nbDomain flags) (q : w ≡ nbComputer flags) (r : x ≡ dnsDomain flags) (s : y ≡ dnsHost flags) (t : z ≡ utf8Computer flags) where
-    answered-size : requestSize ≡ 8 + (length (bytesUnder v a) + (length (bytesUnder w b) + (length (nameUnder x c) + (length (nameUnder y d) + length (nameUnder z e)))))
+    answered-size : requestSize ≡ 8 + (length (bytesUnder v a) + (length (bytesUnder w b) + (length (nameBytesUnder x c) + (length (nameBytesUnder y d) + length (nameBytesUnder z e)))))
     answered-size = rw (p, q, r, s, t)
 
     -- their lengths, counted one by one
     pub size-is : (k l m n o : ℕ) →
         k ≡ min 65536 (8 + length (bytesUnder v a)) →
         l ≡ min 65536 (k + length (bytesUnder w b)) →
-        m ≡ min 65536 (l + length (nameUnder x c)) →
-        n ≡ min 65536 (m + length (nameUnder y d)) →
-        o ≡ min 65536 (n + length (nameUnder z e)) →
+        m ≡ min 65536 (l + length (nameBytesUnder x c)) →
+        n ≡ min 65536 (m + length (nameBytesUnder y d)) →
+        o ≡ min 65536 (n + length (nameBytesUnder z e)) →
         o ≡ min 65536 (length (requestBytes flags a b c d e))
     size-is k l m n o f g h i j = omega (arith, length-request, answered-size)
 
@@ -209,28 +209,28 @@ module _ (flags : NlAuthFlags) (a b l : List ℕ) (i : ℕ) (room : i + length (
     oem-wrote m n x = rw (← p, ← q) (and-then l k m _ _ i j n u x)
 
 module _ (flags : NlAuthFlags) (c d e l : List ℕ) (i : ℕ) (room : i + length (utf8Bytes flags c d e) ≤ length l) (x : Bool) (p : x ≡ dnsDomain flags) where
-  all-fit : i + (length (nameUnder (dnsDomain flags) c) + (length (nameUnder (dnsHost flags) d) + length (nameUnder (utf8Computer flags) e))) ≤ length l
+  all-fit : i + (length (nameBytesUnder (dnsDomain flags) c) + (length (nameBytesUnder (dnsHost flags) d) + length (nameBytesUnder (utf8Computer flags) e))) ≤ length l
   unfolding utf8Bytes
   all-fit = simp length-append at room
 
-  pub room-c : i + length (nameUnder x c) ≤ length l
+  pub room-c : i + length (nameBytesUnder x c) ≤ length l
   room-c = rw p (omega (arith, all-fit))
 
-  module _ (k : List ℕ) (j : ℕ) (u : Wrote l k i j (nameUnder x c)) (y : Bool) (q : y ≡ dnsHost flags) where
-    pub room-d : j + length (nameUnder y d) ≤ length k
+  module _ (k : List ℕ) (j : ℕ) (u : Wrote l k i j (nameBytesUnder x c)) (y : Bool) (q : y ≡ dnsHost flags) where
+    pub room-d : j + length (nameBytesUnder y d) ≤ length k
     room-d = rw q (omega (arith, all-fit, (rw p at u) .place, kept l k _ i j u))
 
-    module _ (m : List ℕ) (n : ℕ) (v : Wrote k m j n (nameUnder y d)) (z : Bool) (s : z ≡ utf8Computer flags) where
-      pub room-e : n + length (nameUnder z e) ≤ length m
+    module _ (m : List ℕ) (n : ℕ) (v : Wrote k m j n (nameBytesUnder y d)) (z : Bool) (s : z ≡ utf8Computer flags) where
+      pub room-e : n + length (nameBytesUnder z e) ≤ length m
       room-e = rw s (omega (arith, all-fit, (rw p at u) .place, (rw q at v) .place, kept l k _ i j u, kept k m _ j n v))
 
-      pub names-wrote : (o : List ℕ) (r : ℕ) → Wrote m o n r (nameUnder z e) → Wrote l o i r (utf8Bytes flags c d e)
+      pub names-wrote : (o : List ℕ) (r : ℕ) → Wrote m o n r (nameBytesUnder z e) → Wrote l o i r (utf8Bytes flags c d e)
       unfolding utf8Bytes
       names-wrote o r w = rw (← p, ← q, ← s) (and-then l k o _ _ i j r u (and-then k m o _ _ j n r v w))
 
 -- the head, the OEM strings and the UTF-8 strings
 pub request-wrote : (flags : NlAuthFlags) (a b c d e l h k m : List ℕ) (i j n : ℕ) →
-    Wrote l h 0 i (headBytes 0 flags) → Wrote h k i j (oemBytes flags a b) → Wrote k m j n (utf8Bytes flags c d e) →
+    Wrote l h 0 i (typeAndFlags 0 flags) → Wrote h k i j (oemBytes flags a b) → Wrote k m j n (utf8Bytes flags c d e) →
     Wrote l m 0 n (requestBytes flags a b c d e)
 unfolding requestBytes
 request-wrote flags a b c d e l h k m i j n u v w = and-then l h m _ _ 0 i n u (and-then h k m _ _ i j n v w)
@@ -291,7 +291,7 @@ module _ (l : List ℕ) (r : Checked) (e : r ≡ roomHolds 9 (length l)) (h : r 
   pub response-fits : length responseBytes ≤ length l
   response-fits = rw length-response nine
 
-module _ (l k m : List ℕ) (p q : ℕ) (v : Wrote l k 0 p (headBytes 1 noFlags)) (w : Wrote k m p q (0 ∷ [])) where
+module _ (l k m : List ℕ) (p q : ℕ) (v : Wrote l k 0 p (typeAndFlags 1 noFlags)) (w : Wrote k m p q (0 ∷ [])) where
   both : Wrote l m 0 q responseBytes
   unfolding responseBytes
   both = and-then l k m _ _ 0 p q v w

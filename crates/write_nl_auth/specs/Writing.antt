@@ -20,38 +20,38 @@ use Rattle.write_dns_name.specs.Writing.{nameBytes, textHolds, codedHolds}
 -- ---- the bytes
 
 -- MessageType and Flags
-unfoldable pub headBytes : ℕ → NlAuthFlags → List ℕ
-headBytes t flags = le32 t ++ le32 (flags .bits)
+unfoldable pub typeAndFlags : ℕ → NlAuthFlags → List ℕ
+typeAndFlags t flags = le32 t ++ le32 (flags .bits)
 
 -- string A or B and its zero byte
-unfoldable pub stringBytes : List ℕ → List ℕ
-stringBytes x = x ++ (0 ∷ [])
+unfoldable pub zeroTerminated : List ℕ → List ℕ
+zeroTerminated x = x ++ (0 ∷ [])
 
 -- the string of a bit; where that is clear it is passed over
 unfoldable pub bytesUnder : Bool → List ℕ → List ℕ
-bytesUnder set x = cond set (stringBytes x) []
+bytesUnder set x = cond set (zeroTerminated x) []
 
 -- the OEM strings, A and B
 unfoldable pub oemBytes : NlAuthFlags → List ℕ → List ℕ → List ℕ
 oemBytes flags a b = bytesUnder (nbDomain flags) a ++ bytesUnder (nbComputer flags) b
 
 -- the UTF-8 strings, C to E: "without jumps, from text split at full stops"
-unfoldable pub nameUnder : Bool → List ℕ → List ℕ
-nameUnder set x = cond set (nameBytes x) []
+unfoldable pub nameBytesUnder : Bool → List ℕ → List ℕ
+nameBytesUnder set x = cond set (nameBytes x) []
 
 unfoldable pub utf8Bytes : NlAuthFlags → List ℕ → List ℕ → List ℕ → List ℕ
 utf8Bytes flags c d e =
-    nameUnder (dnsDomain flags) c ++ (
-    nameUnder (dnsHost flags) d ++
-    nameUnder (utf8Computer flags) e)
+    nameBytesUnder (dnsDomain flags) c ++ (
+    nameBytesUnder (dnsHost flags) d ++
+    nameBytesUnder (utf8Computer flags) e)
 
 -- a request: one string for each set bit, A first
 unfoldable pub requestBytes : NlAuthFlags → List ℕ → List ℕ → List ℕ → List ℕ → List ℕ → List ℕ
-requestBytes flags a b c d e = headBytes 0 flags ++ (oemBytes flags a b ++ utf8Bytes flags c d e)
+requestBytes flags a b c d e = typeAndFlags 0 flags ++ (oemBytes flags a b ++ utf8Bytes flags c d e)
 
 -- a response: its flags are zero, its buffer is one zero byte
 unfoldable pub responseBytes : List ℕ
-responseBytes = headBytes 1 noFlags ++ (0 ∷ [])
+responseBytes = typeAndFlags 1 noFlags ++ (0 ∷ [])
 
 -- ---- the checks
 

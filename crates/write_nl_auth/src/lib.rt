@@ -8,7 +8,7 @@ ghost use Rattle.wire.specs.declared.check.Verdict.the-variants.{Clear};
 ghost use Rattle.place.specs.Place.{Wrote};
 ghost use Rattle.nl_auth_flags.specs.Flags.{dnsDomain, dnsHost, utf8Computer, known};
 ghost use Rattle.write_dns_name.specs.Writing.{textHolds};
-ghost use Rattle.write_nl_auth.specs.Writing.{headBytes, stringBytes, bytesUnder, oemBytes, nameUnder, utf8Bytes, requestBytes};
+ghost use Rattle.write_nl_auth.specs.Writing.{typeAndFlags, zeroTerminated, bytesUnder, oemBytes, nameBytesUnder, utf8Bytes, requestBytes};
 ghost use Rattle.write_nl_auth.specs.Writing.{noZero, checkZeros, checkLabels, checkCoded, checkStrings, under, checkUnder};
 ghost use Rattle.write_nl_auth.specs.Writing.{checkRequest, requestAnswer, requestOut, responseAnswer, responseOut};
 use nl_auth_flags::NlAuthFlags;
@@ -18,7 +18,7 @@ use place::written::add_capped;
 use place::written::room_holds;
 use place::written::size_holds;
 use read_nl_auth::NlAuth;
-use read_nl_auth::string::before_zero;
+use read_nl_auth::string::string_length;
 use wire::check::Checked;
 use wire::check::Verdict;
 use wire::check::check;
@@ -32,7 +32,7 @@ use write_dns_name::text_holds;
 fn no_zero(string: &[u8]) -> Checked
     ensures { λ r. ⌜ r ≡ noZero (now (string .entry)) ⌝ }
 {
-    check(!(before_zero(string) < string.len()))
+    check(!(string_length(string) < string.len()))
 }
 
 // Check 34, A first.
@@ -141,7 +141,7 @@ fn size_with(n: usize, set: bool, string: &[u8]) -> usize
 // The same with string C, D or E.
 fn size_with_name(n: usize, set: bool, text: &[u8]) -> usize
     requires { ⌜ n ≤ 65536 ⌝ }
-    ensures { λ r. ⌜ r ≡ min 65536 (n + length (nameUnder set (now (text .entry)))) ⌝ }
+    ensures { λ r. ⌜ r ≡ min 65536 (n + length (nameBytesUnder set (now (text .entry)))) ⌝ }
 {
     if set {
         return add_capped(n, coded_size(text));
@@ -193,7 +193,7 @@ fn check_request(
 fn put_head(out: &mut [u8], message_type: u32, flags: NlAuthFlags) -> Place
     requires { ⌜ 8 ≤ length (now out) ⌝ }
     ensures next { λ r. ⌜ r .at ≡ 8 ⌝ }
-    ensures { λ r. ⌜ Wrote (now (out .entry)) (now (out .exit)) 0 (r .at) (headBytes «message_type» flags) ⌝ }
+    ensures { λ r. ⌜ Wrote (now (out .entry)) (now (out .exit)) 0 (r .at) (typeAndFlags «message_type» flags) ⌝ }
 {
     let place = Place { at: 0 }.put_u32(out, message_type);
     place.put_u32(out, flags.bits)
@@ -203,7 +203,7 @@ fn put_head(out: &mut [u8], message_type: u32, flags: NlAuthFlags) -> Place
 fn put_string(out: &mut [u8], string: &[u8]) -> Place
     requires { ⌜ length (now string) + 1 ≤ length (now out) ⌝ }
     ensures next { λ r. ⌜ r .at ≡ length (now (string .entry)) + 1 ⌝ }
-    ensures { λ r. ⌜ Wrote (now (out .entry)) (now (out .exit)) 0 (r .at) (stringBytes (now (string .entry))) ⌝ }
+    ensures { λ r. ⌜ Wrote (now (out .entry)) (now (out .exit)) 0 (r .at) (zeroTerminated (now (string .entry))) ⌝ }
 {
     let place = Place { at: 0 }.put_bytes(out, string);
     place.put_u8(out, 0)
@@ -224,8 +224,8 @@ fn put_under(place: Place, out: &mut [u8], set: bool, string: &[u8]) -> Place
 
 // The same of string C, D or E, whose labels check 50 let pass.
 fn put_name_under(place: Place, out: &mut [u8], set: bool, text: &[u8]) -> Place
-    requires { ⌜ (textHolds (under set (now text)) ≡ Held) × (place .at + length (nameUnder set (now text)) ≤ length (now out)) ⌝ }
-    ensures { λ r. ⌜ Wrote (now (out .entry)) (now (out .exit)) (place .at) (r .at) (nameUnder set (now (text .entry))) ⌝ }
+    requires { ⌜ (textHolds (under set (now text)) ≡ Held) × (place .at + length (nameBytesUnder set (now text)) ≤ length (now out)) ⌝ }
+    ensures { λ r. ⌜ Wrote (now (out .entry)) (now (out .exit)) (place .at) (r .at) (nameBytesUnder set (now (text .entry))) ⌝ }
 {
     if set {
         let at = place.at;

@@ -21,13 +21,13 @@ use Rattle.place.proofs.Laws.{and-then, nothing, kept as same-length}
 use Rattle.place.proofs.Numbers.{length-le32}
 use Rattle.wire.specs.Number.{u32At}
 use Rattle.wire.proofs.Bools.{and-left, or-assoc, or-false}
-use Rattle.write_response_pairs.specs.ResponsePairs.{pairWith, hasPair, leftOut, kept, flagsSet, withBits, pairBytes, bytesOf}
+use Rattle.write_response_pairs.specs.ResponsePairs.{pairWith, hasPair, leftOut, kept, flagsSet, withBits, pairBytes, pairsBytes}
 use Rattle.write_response_pairs.proofs.Fits.{four, length-pair, bytes-append}
 
 -- ---- the walk for the size: what was seen, and what is left
 
 pub record Seeing (s : List ℕ) (at n : ℕ) (t f : Bool) : Type 0 where
-  pub size : min 65536 (n + length (bytesOf (kept (valuesAt s at)))) ≡ min 65536 (length (bytesOf (kept (valuesOf s))))
+  pub size : min 65536 (n + length (pairsBytes (kept (valuesAt s at)))) ≡ min 65536 (length (pairsBytes (kept (valuesOf s))))
   pub few : n ≤ 65536
   pub timestamp : t || hasPair isTimestamp (valuesAt s at) ≡ hasPair isTimestamp (valuesOf s)
   pub flags : f || hasPair isFlags (valuesAt s at) ≡ hasPair isFlags (valuesOf s)
@@ -37,10 +37,10 @@ see-none s = record { size = simp (values-start s) (ap (λ (n : ℕ). min 65536 
 
 -- the bytes of a pair that is kept, or none
 one-size : (p : Valued) (ps : List Valued) →
-    length (bytesOf (kept (p ∷ ps))) ≡ cond (leftOut (p .0)) 0 (4 + length (p .1)) + length (bytesOf (kept ps))
+    length (pairsBytes (kept (p ∷ ps))) ≡ cond (leftOut (p .0)) 0 (4 + length (p .1)) + length (pairsBytes (kept ps))
 one-size p ps = go (leftOut (p .0)) where
-  go : (b : Bool) → length (bytesOf (cond b (kept ps) (p ∷ kept ps))) ≡ cond b 0 (4 + length (p .1)) + length (bytesOf (kept ps))
-  go true = sym (zero-add (length (bytesOf (kept ps))))
+  go : (b : Bool) → length (pairsBytes (cond b (kept ps) (p ∷ kept ps))) ≡ cond b 0 (4 + length (p .1)) + length (pairsBytes (kept ps))
+  go true = sym (zero-add (length (pairsBytes (kept ps))))
   go false = simp (length-append, length-pair)
 
 module _ (s : List ℕ) (at n : ℕ) (t f : Bool) (w : Seeing s at n t f) where
@@ -53,8 +53,8 @@ module _ (s : List ℕ) (at n : ℕ) (t f : Bool) (w : Seeing s at n t f) where
     see-one p z m a b h g d x y =
         let v = more-values s at r e p h in
         let long : length (valueIn s p) ≡ p .len = value-long s p (there-inside s at r e p h) in
-        let l : length (bytesOf (kept (valuesAt s at))) ≡ z + length (bytesOf (kept (valuesAt s (endOf p)))) =
-        ap (λ (ps : List Valued). length (bytesOf (kept ps))) v ∙ one-size (p .id, valueIn s p) (valuesAt s (endOf p)) ∙ simp (long, g) in
+        let l : length (pairsBytes (kept (valuesAt s at))) ≡ z + length (pairsBytes (kept (valuesAt s (endOf p)))) =
+        ap (λ (ps : List Valued). length (pairsBytes (kept ps))) v ∙ one-size (p .id, valueIn s p) (valuesAt s (endOf p)) ∙ simp (long, g) in
         record {
           size = omega (arith, d, l, w .size);
           few = omega (arith, d);
@@ -62,8 +62,8 @@ module _ (s : List ℕ) (at n : ℕ) (t f : Bool) (w : Seeing s at n t f) where
           flags = or-assoc f b _ ∙ simp y (simp v at (w .flags));
         }
 
-    pub see-size : r ≡ Nothing → n ≡ min 65536 (length (bytesOf (kept (valuesOf s))))
-    see-size h = let l : length (bytesOf (kept (valuesAt s at))) ≡ 0 = ap (λ (ps : List Valued). length (bytesOf (kept ps))) (no-values s at r e h) in omega (arith, l, w .size, w .few)
+    pub see-size : r ≡ Nothing → n ≡ min 65536 (length (pairsBytes (kept (valuesOf s))))
+    see-size h = let l : length (pairsBytes (kept (valuesAt s at))) ≡ 0 = ap (λ (ps : List Valued). length (pairsBytes (kept ps))) (no-values s at r e h) in omega (arith, l, w .size, w .few)
 
     pub see-timestamp : r ≡ Nothing → t ≡ hasPair isTimestamp (valuesOf s)
     see-timestamp h = sym (or-false t) ∙ simp (no-values s at r e h) at (w .timestamp)
@@ -97,9 +97,9 @@ first-part bits p ps = go (leftOut (p .0)) (isFlags (p .0)) (eqb bits 0) refl re
 
 -- a pair that is left out, one that gets the bits, and one that stays
 module _ (bits : ℕ) (id : AvId) (b : Bool) (e : b ≡ leftOut id) where
-  pub one-none : (l value : List ℕ) (i : ℕ) → b ≡ true → Wrote l l i i (bytesOf (withBits bits (kept ((id, value) ∷ []))))
+  pub one-none : (l value : List ℕ) (i : ℕ) → b ≡ true → Wrote l l i i (pairsBytes (withBits bits (kept ((id, value) ∷ []))))
   one-none l value i h = go (eqb bits 0) where
-    go : (z : Bool) → Wrote l l i i (bytesOf (cond z (kept ((id, value) ∷ [])) (flagsSet bits (kept ((id, value) ∷ [])))))
+    go : (z : Bool) → Wrote l l i i (pairsBytes (cond z (kept ((id, value) ∷ [])) (flagsSet bits (kept ((id, value) ∷ [])))))
     go true = simp (← e, h) (nothing l i)
     go false = simp (← e, h) (nothing l i)
 
@@ -122,23 +122,23 @@ module _ (bits : ℕ) (id : AvId) (b : Bool) (e : b ≡ leftOut id) where
       go false z p g = absurd (let w : _≡_ {A = ℕ} 0 1 = cc in omega arith)
 
     pub one-flags : (l k value v : List ℕ) (i q w : ℕ) → (f && not (eqb bits 0)) ≡ true → v ≡ value → w ≡ u32At v 0 →
-        Wrote l k i q (pairBytes (pairWith 6 (le32 (bitOr w bits)))) → Wrote l k i q (bytesOf (withBits bits (kept ((id, value) ∷ []))))
+        Wrote l k i q (pairBytes (pairWith 6 (le32 (bitOr w bits)))) → Wrote l k i q (pairsBytes (withBits bits (kept ((id, value) ∷ []))))
     one-flags l k value v i q w g d x p = simp (flags-part value g, append-nil, ← d, ← x) p
 
     pub one-same : (l k value v : List ℕ) (i q : ℕ) → (f && not (eqb bits 0)) ≡ false → v ≡ value →
-        Wrote l k i q (pairBytes (pairWith (id .id) v)) → Wrote l k i q (bytesOf (withBits bits (kept ((id, value) ∷ []))))
+        Wrote l k i q (pairBytes (pairWith (id .id) v)) → Wrote l k i q (pairsBytes (withBits bits (kept ((id, value) ∷ []))))
     one-same l k value v i q g d p = simp (same-part value g, append-nil, ← d) p
 
     pub flags-room : (value : List ℕ) (n : ℕ) → (f && not (eqb bits 0)) ≡ true →
-        length (bytesOf (withBits bits (kept ((id, value) ∷ [])))) ≤ n → 0 + 8 ≤ n
+        length (pairsBytes (withBits bits (kept ((id, value) ∷ [])))) ≤ n → 0 + 8 ≤ n
     flags-room value n g r =
-        let z : length (bytesOf (withBits bits (kept ((id, value) ∷ [])))) ≡ 8 = ap (λ (ps : List Valued). length (bytesOf ps)) (flags-part value g) ∙ simp (append-nil, length-pair, length-le32) in
+        let z : length (pairsBytes (withBits bits (kept ((id, value) ∷ [])))) ≡ 8 = ap (λ (ps : List Valued). length (pairsBytes ps)) (flags-part value g) ∙ simp (append-nil, length-pair, length-le32) in
         omega (arith, r, z)
 
     pub pair-room : (value v : List ℕ) (n : ℕ) → (f && not (eqb bits 0)) ≡ false → v ≡ value →
-        length (bytesOf (withBits bits (kept ((id, value) ∷ [])))) ≤ n → 0 + (4 + length v) ≤ n
+        length (pairsBytes (withBits bits (kept ((id, value) ∷ [])))) ≤ n → 0 + (4 + length v) ≤ n
     pair-room value v n g d r =
-        let z : length (bytesOf (withBits bits (kept ((id, value) ∷ [])))) ≡ 4 + length v = ap (λ (ps : List Valued). length (bytesOf ps)) (same-part value g) ∙ simp (append-nil, length-pair, d) in
+        let z : length (pairsBytes (withBits bits (kept ((id, value) ∷ [])))) ≡ 4 + length v = ap (λ (ps : List Valued). length (pairsBytes ps)) (same-part value g) ∙ simp (append-nil, length-pair, d) in
         omega (arith, r, z)
 
     pub flags-long : (s v : List ℕ) (p : AvPair) → (f && not (eqb bits 0)) ≡ true → v ≡ valueIn s p → p .at + p .len ≤ length s →
@@ -164,7 +164,7 @@ part-room l at n h = simp (length-take, length-drop) (omega arith)
 pub record Putting (l k s : List ℕ) (due at bits q : ℕ) : Type 0 where
   pub done : List Valued
   pub all : withBits due (kept (valuesOf s)) ≡ done ++ withBits bits (kept (valuesAt s at))
-  pub wrote : Wrote l k 0 q (bytesOf done)
+  pub wrote : Wrote l k 0 q (pairsBytes done)
 
 pub put-none : (l s : List ℕ) (due : ℕ) → Putting l l s due 0 due 0
 put-none l s due = record { done = []; all = simp (values-start s); wrote = nothing l 0 }
@@ -179,27 +179,27 @@ module _ (l k s : List ℕ) (due at bits q : ℕ) (w : Putting l k s due at bits
       ∙ sym (append-assoc (w .done) (withBits bits (kept ((p .id, valueIn s p) ∷ []))) _)
 
   pub put-same : length k ≡ length l
-  put-same = same-length l k (bytesOf (w .done)) 0 q (w .wrote)
+  put-same = same-length l k (pairsBytes (w .done)) 0 q (w .wrote)
 
-  pub put-room : (p : AvPair) → r ≡ At p → length (bytesOf (withBits due (kept (valuesOf s)))) ≤ length l →
-      q + length (bytesOf (withBits bits (kept ((p .id, valueIn s p) ∷ [])))) ≤ length k
+  pub put-room : (p : AvPair) → r ≡ At p → length (pairsBytes (withBits due (kept (valuesOf s)))) ≤ length l →
+      q + length (pairsBytes (withBits bits (kept ((p .id, valueIn s p) ∷ [])))) ≤ length k
   put-room p h room =
-      let z : length (bytesOf (withBits due (kept (valuesOf s)))) ≡ length (bytesOf (w .done)) + length (bytesOf (withBits bits (kept ((p .id, valueIn s p) ∷ [])))) + length (bytesOf (withBits (cond (isFlags (p .id)) 0 bits) (kept (valuesAt s (endOf p))))) =
-      ap (λ (ps : List Valued). length (bytesOf ps)) (more p h) ∙ simp (bytes-append, length-append) in
+      let z : length (pairsBytes (withBits due (kept (valuesOf s)))) ≡ length (pairsBytes (w .done)) + length (pairsBytes (withBits bits (kept ((p .id, valueIn s p) ∷ [])))) + length (pairsBytes (withBits (cond (isFlags (p .id)) 0 bits) (kept (valuesAt s (endOf p))))) =
+      ap (λ (ps : List Valued). length (pairsBytes ps)) (more p h) ∙ simp (bytes-append, length-append) in
       omega (arith, room, z, w .wrote .place, put-same)
 
-  pub put-one : (m : List ℕ) (p : AvPair) (next b : ℕ) → r ≡ At p → Wrote k m q next (bytesOf (withBits bits (kept ((p .id, valueIn s p) ∷ [])))) →
+  pub put-one : (m : List ℕ) (p : AvPair) (next b : ℕ) → r ≡ At p → Wrote k m q next (pairsBytes (withBits bits (kept ((p .id, valueIn s p) ∷ [])))) →
       b ≡ cond (isFlags (p .id)) 0 bits → Putting l m s due (p .at + p .len) b next
   put-one m p next b h x f =
       record {
         done = w .done ++ withBits bits (kept ((p .id, valueIn s p) ∷ []));
         all = rw f (more p h);
-        wrote = simp bytes-append (and-then l k m (bytesOf (w .done)) _ 0 q next (w .wrote) x);
+        wrote = simp bytes-append (and-then l k m (pairsBytes (w .done)) _ 0 q next (w .wrote) x);
       }
 
-  pub put-all : r ≡ Nothing → Wrote l k 0 q (bytesOf (withBits due (kept (valuesOf s))))
+  pub put-all : r ≡ Nothing → Wrote l k 0 q (pairsBytes (withBits due (kept (valuesOf s))))
   put-all h = go (eqb bits 0) (w .all ∙ ap (λ (ps : List Valued). w .done ++ withBits bits (kept ps)) (no-values s at r e h)) where
-    go : (z : Bool) → withBits due (kept (valuesOf s)) ≡ w .done ++ cond z [] [] → Wrote l k 0 q (bytesOf (withBits due (kept (valuesOf s))))
+    go : (z : Bool) → withBits due (kept (valuesOf s)) ≡ w .done ++ cond z [] [] → Wrote l k 0 q (pairsBytes (withBits due (kept (valuesOf s))))
     go true x = simp (x, append-nil) (w .wrote)
     go false x = simp (x, append-nil) (w .wrote)
 

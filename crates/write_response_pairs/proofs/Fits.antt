@@ -19,7 +19,7 @@ use Rattle.place.specs.Place.{le32}
 use Rattle.place.proofs.Numbers.{length-le16, length-le32}
 use Rattle.wire.specs.Number.{u32At}
 use Rattle.wire.proofs.Bools.{and-left, and-right, and-both}
-use Rattle.write_response_pairs.specs.ResponsePairs.{pairWith, leftOut, kept, flagsSet, withBits, pairBytes, bytesOf}
+use Rattle.write_response_pairs.specs.ResponsePairs.{pairWith, leftOut, kept, flagsSet, withBits, pairBytes, pairsBytes}
 
 -- a pair that may stand in a list: it is not the end pair, and its id allows its size
 abbrev pub fitPair : Valued → Bool
@@ -61,24 +61,24 @@ pub length-pair : (p : Valued) → length (pairBytes p) ≡ 4 + length (p .1)
 unfolding pairBytes
 length-pair p = simp (length-append, length-le16) (omega arith)
 
-pub bytes-append : (ps qs : List Valued) → bytesOf (ps ++ qs) ≡ bytesOf ps ++ bytesOf qs
+pub bytes-append : (ps qs : List Valued) → pairsBytes (ps ++ qs) ≡ pairsBytes ps ++ pairsBytes qs
 bytes-append [] qs = refl
 bytes-append (p ∷ ps) qs = simp (bytes-append ps qs, append-assoc)
 
 -- bits that are set change no size
-set-size : (bits : ℕ) (ps : List Valued) → fitPairs ps ≡ true → length (bytesOf (flagsSet bits ps)) ≡ length (bytesOf ps)
+set-size : (bits : ℕ) (ps : List Valued) → fitPairs ps ≡ true → length (pairsBytes (flagsSet bits ps)) ≡ length (pairsBytes ps)
 set-size bits [] h = refl
 set-size bits (p ∷ ps) h = go (isFlags (p .0)) refl (set-size bits ps (and-right (fitPair p) (fitPairs ps) h)) where
   size : sizeAllowed (p .0) (length (p .1)) ≡ true
   size = and-right (not (isEnd (p .0))) (sizeAllowed (p .0) (length (p .1))) (and-left (fitPair p) (fitPairs ps) h)
 
-  go : (b : Bool) → isFlags (p .0) ≡ b → length (bytesOf (flagsSet bits ps)) ≡ length (bytesOf ps) →
-      length (bytesOf (cond b (pairWith 6 (le32 (bitOr (u32At (p .1) 0) bits)) ∷ ps) (p ∷ flagsSet bits ps))) ≡ length (bytesOf (p ∷ ps))
+  go : (b : Bool) → isFlags (p .0) ≡ b → length (pairsBytes (flagsSet bits ps)) ≡ length (pairsBytes ps) →
+      length (pairsBytes (cond b (pairWith 6 (le32 (bitOr (u32At (p .1) 0) bits)) ∷ ps) (p ∷ flagsSet bits ps))) ≡ length (pairsBytes (p ∷ ps))
   go true y ih = simp (length-append, length-pair, length-le32, four (p .0) (length (p .1)) size y)
   go false y ih = simp (length-append, length-pair, ih)
 
-pub bits-size : (bits : ℕ) (ps : List Valued) → fitPairs ps ≡ true → length (bytesOf (withBits bits ps)) ≡ length (bytesOf ps)
+pub bits-size : (bits : ℕ) (ps : List Valued) → fitPairs ps ≡ true → length (pairsBytes (withBits bits ps)) ≡ length (pairsBytes ps)
 bits-size bits ps h = go (eqb bits 0) where
-  go : (b : Bool) → length (bytesOf (cond b ps (flagsSet bits ps))) ≡ length (bytesOf ps)
+  go : (b : Bool) → length (pairsBytes (cond b ps (flagsSet bits ps))) ≡ length (pairsBytes ps)
   go true = refl
   go false = set-size bits ps h

@@ -26,14 +26,14 @@ use Rattle.wire.specs.declared.refusal.Refusal.{Refusal}
 use Rattle.wire.specs.declared.refusal.Refusal.the-variants.{TooLongToWrite, OddNameToWrite, NoRoom}
 use Rattle.wire.specs.Check.{verdictRefusal}
 use Rattle.wire.proofs.Laws.{after-clear}
-use Rattle.write_response_pairs.specs.ResponsePairs.{pairWith, hasPair, isNone, kept, dueBits, bitsDue, withBits, addsFlags, addedPairs, pairsBack, pairsFor, pairBytes, bytesOf, listBytes, listWith, listFor, checkList, listAnswer, listOut, writeAnswer, writeOut}
+use Rattle.write_response_pairs.specs.ResponsePairs.{pairWith, hasPair, isNone, kept, dueBits, bitsDue, withBits, addsFlags, addedPairs, pairsBack, pairsFor, pairBytes, pairsBytes, listBytes, listWith, listFor, checkList, listAnswer, listOut, writeAnswer, writeOut}
 use Rattle.write_response_pairs.proofs.Fits.{values-fit, kept-fit, length-pair, bytes-append, bits-size}
 
 -- ---- the added pairs
 
 module _ (adds : Bool) (bits : ℕ) where
   abbrev pub flagsAdded : List ℕ
-  flagsAdded = bytesOf (cond adds (pairWith 6 (le32 bits) ∷ []) [])
+  flagsAdded = pairsBytes (cond adds (pairWith 6 (le32 bits) ∷ []) [])
 
   pub flags-none : (l : List ℕ) (i : ℕ) → adds ≡ false → Wrote l l i i flagsAdded
   flags-none l i h = simp h (nothing l i)
@@ -46,7 +46,7 @@ module _ (adds : Bool) (bits : ℕ) where
 
   pub length-flags : length flagsAdded ≡ cond adds 8 0
   length-flags = go adds where
-    go : (b : Bool) → length (bytesOf (cond b (pairWith 6 (le32 bits) ∷ []) [])) ≡ cond b 8 0
+    go : (b : Bool) → length (pairsBytes (cond b (pairWith 6 (le32 bits) ∷ []) [])) ≡ cond b 8 0
     go true = simp (append-nil, length-pair, length-le32)
     go false = refl
 
@@ -123,24 +123,24 @@ module _ (bits : ℕ) (info name bind : List ℕ) where
   list-empty h = simp (eq-eqb (length info) 0 h)
 
   pub list-parts : (length info ≡ 0 → ⊥) →
-      listWith bits info name bind ≡ bytesOf (withBits bits (kept (valuesOf info))) ++ listBytes (addedPairs adding bits name bind)
+      listWith bits info name bind ≡ pairsBytes (withBits bits (kept (valuesOf info))) ++ listBytes (addedPairs adding bits name bind)
   unfolding listWith listBytes pairsFor pairsBack
   list-parts h = simp (ne-eqb (length info) 0 h, bytes-append, append-assoc)
 
-  kept-size : length (bytesOf (withBits bits (kept (valuesOf info)))) ≡ length (bytesOf (kept (valuesOf info)))
+  kept-size : length (pairsBytes (withBits bits (kept (valuesOf info)))) ≡ length (pairsBytes (kept (valuesOf info)))
   kept-size = bits-size bits (kept (valuesOf info)) (kept-fit (valuesOf info) (values-fit info))
 
   pub list-size : length (listWith bits info name bind)
-      ≡ cond (isNone info) 4 (length (bytesOf (kept (valuesOf info))) + (cond adding 8 0 + (12 + (length name + length bind))))
+      ≡ cond (isNone info) 4 (length (pairsBytes (kept (valuesOf info))) + (cond adding 8 0 + (12 + (length name + length bind))))
   list-size = go (isNone info) refl where
     go : (b : Bool) → isNone info ≡ b → length (listWith bits info name bind)
-        ≡ cond b 4 (length (bytesOf (kept (valuesOf info))) + (cond adding 8 0 + (12 + (length name + length bind))))
+        ≡ cond b 4 (length (pairsBytes (kept (valuesOf info))) + (cond adding 8 0 + (12 + (length name + length bind))))
     go true e = ap length (list-empty (eqb-true (length info) 0 e)) ∙ length-pair (pairWith 0 [])
     go false e =
         ap length (list-parts (eqb-false (length info) 0 e)) ∙ simp (length-append, kept-size, length-added adding bits name bind)
 
   -- as it is counted
-  pub size-counted : (size n : ℕ) (adds : Bool) → adds ≡ adding → size ≡ min 65536 (length (bytesOf (kept (valuesOf info)))) →
+  pub size-counted : (size n : ℕ) (adds : Bool) → adds ≡ adding → size ≡ min 65536 (length (pairsBytes (kept (valuesOf info)))) →
       n ≡ min 65536 (cond (isNone info) 4 (size + (cond adds 8 0 + (12 + (length name + length bind))))) → n ≡ min 65536 (length (listWith bits info name bind))
   size-counted size n adds a e h = h ∙ go (isNone info) refl where
     go : (b : Bool) → isNone info ≡ b →
@@ -155,18 +155,18 @@ module _ (bits : ℕ) (info name bind : List ℕ) where
     empty-room h = omega (arith, room, ap length (list-empty h), length-pair (pairWith 0 []))
 
     module _ (h : length info ≡ 0 → ⊥) where
-      parts : length (listWith bits info name bind) ≡ length (bytesOf (withBits bits (kept (valuesOf info)))) + length (listBytes (addedPairs adding bits name bind))
+      parts : length (listWith bits info name bind) ≡ length (pairsBytes (withBits bits (kept (valuesOf info)))) + length (listBytes (addedPairs adding bits name bind))
       parts = ap length (list-parts h) ∙ simp length-append
 
-      pub kept-room : length (bytesOf (withBits bits (kept (valuesOf info)))) ≤ length l
+      pub kept-room : length (pairsBytes (withBits bits (kept (valuesOf info)))) ≤ length l
       kept-room = omega (arith, room, parts)
 
       module _ (adds : Bool) (a : adds ≡ adding) where
-        pub added-room : (m : List ℕ) (q : ℕ) → Wrote l m 0 q (bytesOf (withBits bits (kept (valuesOf info)))) →
+        pub added-room : (m : List ℕ) (q : ℕ) → Wrote l m 0 q (pairsBytes (withBits bits (kept (valuesOf info)))) →
             q + length (listBytes (addedPairs adds bits name bind)) ≤ length m
         added-room m q w = rw a (omega (arith, room, parts, w .place, same-length l m _ 0 q w))
 
-        pub parts-are : (m k : List ℕ) (q r : ℕ) → Wrote l m 0 q (bytesOf (withBits bits (kept (valuesOf info)))) →
+        pub parts-are : (m k : List ℕ) (q r : ℕ) → Wrote l m 0 q (pairsBytes (withBits bits (kept (valuesOf info)))) →
             Wrote m k q r (listBytes (addedPairs adds bits name bind)) → Wrote l k 0 r (listWith bits info name bind)
         parts-are m k q r v w = rw (list-parts h) (and-then l m k _ _ 0 q r v (rw a at w))
 
@@ -174,7 +174,7 @@ module _ (bits : ℕ) (info name bind : List ℕ) where
     empty-is k q h w = rw (list-empty h) w
 
   module _ (short : length (listWith bits info name bind) ≤ 65535) (h : length info ≡ 0 → ⊥) where
-    long : length (listWith bits info name bind) ≡ length (bytesOf (withBits bits (kept (valuesOf info)))) + (cond adding 8 0 + (12 + (length name + length bind)))
+    long : length (listWith bits info name bind) ≡ length (pairsBytes (withBits bits (kept (valuesOf info)))) + (cond adding 8 0 + (12 + (length name + length bind)))
     long = ap length (list-parts h) ∙ simp (length-append, length-added adding bits name bind)
 
     pub name-short : length name ≤ 65535
@@ -222,7 +222,7 @@ module _ (info : List ℕ) where
   pub adds-are : (bits : ℕ) (f : Bool) → f ≡ hasPair isFlags (valuesOf info) → (not (eqb bits 0) && not f) ≡ addsFlags bits (valuesOf info)
   adds-are bits f e = rw e
 
-  pub size-are : (bits size n : ℕ) (name bind : List ℕ) (f : Bool) → f ≡ hasPair isFlags (valuesOf info) → size ≡ min 65536 (length (bytesOf (kept (valuesOf info)))) →
+  pub size-are : (bits size n : ℕ) (name bind : List ℕ) (f : Bool) → f ≡ hasPair isFlags (valuesOf info) → size ≡ min 65536 (length (pairsBytes (kept (valuesOf info)))) →
       n ≡ min 65536 (cond (eqb (length info) 0) 4 (size + (cond (not (eqb bits 0) && not f) 8 0 + (12 + (length name + length bind))))) →
       n ≡ min 65536 (length (listWith bits info name bind))
   size-are bits size n name bind f e z g = size-counted bits info name bind size n _ (adds-are bits f e) z g

@@ -84,16 +84,16 @@ unfoldable pub pairBytes : Valued → List ℕ
 pairBytes p = le16 (p .0 .id) ++ (le16 (length (p .1)) ++ p .1)
 
 -- a list's bytes: one pair after the other, and the end pair
-abbrev pub bytesOf : List Valued → List ℕ
-bytesOf [] = []
-bytesOf (p ∷ ps) = pairBytes p ++ bytesOf ps
+abbrev pub pairsBytes : List Valued → List ℕ
+pairsBytes [] = []
+pairsBytes (p ∷ ps) = pairBytes p ++ pairsBytes ps
 
 -- one pair of a list as it goes back, with the bits that are due
-abbrev pub backBytes : ℕ → List ℕ → AvPair → List ℕ
-backBytes bits info p = bytesOf (withBits bits (kept ((p .id, valueIn info p) ∷ [])))
+abbrev pub pairBytesBack : ℕ → List ℕ → AvPair → List ℕ
+pairBytesBack bits info p = pairsBytes (withBits bits (kept ((p .id, valueIn info p) ∷ [])))
 
 unfoldable pub listBytes : List Valued → List ℕ
-listBytes ps = bytesOf ps ++ pairBytes (pairWith endId [])
+listBytes ps = pairsBytes ps ++ pairBytes (pairWith endId [])
 
 -- the list for TargetInfo's bytes, with these bits due, and with those that are
 unfoldable pub listWith : ℕ → List ℕ → List ℕ → List ℕ → List ℕ
@@ -103,13 +103,13 @@ unfoldable pub listFor : List ℕ → List ℕ → Bool → List ℕ → List �
 listFor info name unverified bindings = listWith (bitsDue info name unverified) info name bindings
 
 -- check 31: the target name has even length
-abbrev pub evenName : List ℕ → Checked
-evenName name = checked (eqb (length name % 2) 0)
+abbrev pub evenTargetName : List ℕ → Checked
+evenTargetName name = checked (eqb (length name % 2) 0)
 
 -- checks 31, 30 and 33 for a list of so many bytes
 unfoldable pub checkList : ℕ → List ℕ → ℕ → Verdict
 checkList room name size =
-    after (evenName name) (Not (OddNameToWrite 2)) (
+    after (evenTargetName name) (Not (OddNameToWrite 2)) (
     after (sizeHolds size) (Not TooLongToWrite) (
     after (roomHolds size room) (Not NoRoom)
     Clear))

@@ -12,7 +12,7 @@ ghost use Rattle.wire.specs.declared.check.Verdict.the-variants.{Clear};
 ghost use Rattle.av_pairs.specs.AvPairs.{checkPairs, valuesOf};
 ghost use Rattle.place.specs.Place.{Wrote, le32};
 ghost use Rattle.write_response_pairs.specs.ResponsePairs.{pairWith, hasPair, leftOut, kept, bitsDue, withBits, addsFlags, addedPairs};
-ghost use Rattle.write_response_pairs.specs.ResponsePairs.{pairBytes, bytesOf, backBytes, listBytes, listWith, checkList, listAnswer, listOut, writeAnswer, writeOut};
+ghost use Rattle.write_response_pairs.specs.ResponsePairs.{pairBytes, pairsBytes, pairBytesBack, listBytes, listWith, checkList, listAnswer, listOut, writeAnswer, writeOut};
 use crate::av_flags::AvFlags;
 use av_id::AvId;
 use av_pairs::AvPair;
@@ -67,7 +67,7 @@ fn kept_size(id: AvId, len: u16) -> usize
 // Goes over a list once.
 fn look_over(list: &[u8]) -> Seen
     requires { ⌜ checkPairs (now list) ≡ Clear ⌝ }
-    ensures size { λ r. ⌜ r .size ≡ min 65536 (length (bytesOf (kept (valuesOf (now (list .entry)))))) ⌝ }
+    ensures size { λ r. ⌜ r .size ≡ min 65536 (length (pairsBytes (kept (valuesOf (now (list .entry)))))) ⌝ }
     ensures timestamp { λ r. ⌜ r .timestamp ≡ hasPair isTimestamp (valuesOf (now (list .entry))) ⌝ }
     ensures flags { λ r. ⌜ r .flags ≡ hasPair isFlags (valuesOf (now (list .entry))) ⌝ }
 {
@@ -122,8 +122,8 @@ fn put_end(place: Place, out: &mut [u8]) -> Place
 // A pair of the list as it goes back, if it does, with the bits that are still due: from the start of the lent part on.
 fn put_part(out: &mut [u8], list: &[u8], p: AvPair, bits: u32) -> Place
     requires { ⌜ (p .at + p .len ≤ length (now list)) × (isFlags (p .id) ≡ true → p .len ≡ 4) × (p .len ≤ 65535)
-        × (length (backBytes bits (now list) p) ≤ length (now out)) ⌝ }
-    ensures { λ r. ⌜ Wrote (now (out .entry)) (now (out .exit)) 0 (r .at) (backBytes bits (now (list .entry)) p) ⌝ }
+        × (length (pairBytesBack bits (now list) p) ≤ length (now out)) ⌝ }
+    ensures { λ r. ⌜ Wrote (now (out .entry)) (now (out .exit)) 0 (r .at) (pairBytesBack bits (now (list .entry)) p) ⌝ }
 {
     let place = Place { at: 0 };
     let id = p.id;
@@ -140,8 +140,8 @@ fn put_part(out: &mut [u8], list: &[u8], p: AvPair, bits: u32) -> Place
 // The pair at its place: its writer is lent the output from there on.
 fn put_one(place: Place, out: &mut [u8], list: &[u8], p: AvPair, bits: u32) -> Place
     requires { ⌜ (p .at + p .len ≤ length (now list)) × (isFlags (p .id) ≡ true → p .len ≡ 4) × (p .len ≤ 65535)
-        × (place .at + length (backBytes bits (now list) p) ≤ length (now out)) ⌝ }
-    ensures { λ r. ⌜ Wrote (now (out .entry)) (now (out .exit)) (place .at) (r .at) (backBytes bits (now (list .entry)) p) ⌝ }
+        × (place .at + length (pairBytesBack bits (now list) p) ≤ length (now out)) ⌝ }
+    ensures { λ r. ⌜ Wrote (now (out .entry)) (now (out .exit)) (place .at) (r .at) (pairBytesBack bits (now (list .entry)) p) ⌝ }
 {
     let at = place.at;
     let end = put_part(&mut out[at..], list, p, bits);
@@ -160,8 +160,8 @@ fn bits_after(bits: u32, id: AvId) -> u32
 
 // Writes the pairs of a list that are kept, from the start of the output on.
 fn put_kept(out: &mut [u8], list: &[u8], due: u32) -> Place
-    requires { ⌜ (checkPairs (now list) ≡ Clear) × (length (bytesOf (withBits due (kept (valuesOf (now list))))) ≤ length (now out)) ⌝ }
-    ensures { λ r. ⌜ Wrote (now (out .entry)) (now (out .exit)) 0 (r .at) (bytesOf (withBits due (kept (valuesOf (now (list .entry)))))) ⌝ }
+    requires { ⌜ (checkPairs (now list) ≡ Clear) × (length (pairsBytes (withBits due (kept (valuesOf (now list))))) ≤ length (now out)) ⌝ }
+    ensures { λ r. ⌜ Wrote (now (out .entry)) (now (out .exit)) 0 (r .at) (pairsBytes (withBits due (kept (valuesOf (now (list .entry)))))) ⌝ }
 {
     let mut at: usize = 0;
     let mut place = Place { at: 0 };
@@ -180,7 +180,7 @@ fn put_kept(out: &mut [u8], list: &[u8], due: u32) -> Place
 // The added flags pair, if one is.
 fn put_added_flags(place: Place, out: &mut [u8], adds: bool, bits: u32) -> Place
     requires { ⌜ place .at + cond adds 8 0 ≤ length (now out) ⌝ }
-    ensures { λ r. ⌜ Wrote (now (out .entry)) (now (out .exit)) (place .at) (r .at) (bytesOf (cond adds (pairWith flagsId (le32 bits) ∷ []) [])) ⌝ }
+    ensures { λ r. ⌜ Wrote (now (out .entry)) (now (out .exit)) (place .at) (r .at) (pairsBytes (cond adds (pairWith flagsId (le32 bits) ∷ []) [])) ⌝ }
 {
     if adds {
         return put_flags(place, out, bits);

@@ -1,5 +1,5 @@
 -- `batch::check_messages` meets its contract: a walk of its MIR, by hand. No branch stands in it, and no literal but 0, 1 and the size of an entry: what is decided, and what is answered, is the callees'.
--- The borrow of the entries is opened once, before the loop, and closed once, after it. All that the proof knows of `to_fill`, `answered` and `check_buffer` is that each meets its contract.
+-- The borrow of the entries is opened once, before the loop, and closed once, after it. All that the proof knows of `to_fill`, `withAnswer` and `check_buffer` is that each meets its contract.
 -- Assumes nothing.
 use mathlib.Core.Path.{_≡_, refl, sym, _∙_, ap, subst}
 use Prim.Native.Nat.{ℕ, _+_, _-_, _*_, _≤_, _<_, _^_, zero-le}
@@ -51,7 +51,7 @@ use denote.Triple.Walked.{Stays, stay-none-slice, stay-slice, walkOf, AllGo, goe
 use denote.Exit.{yes}
 use native.Mathlib.Omega.{arith}
 use Rattle.head.specs.Head.{lengthHolds}
-use Rattle.batch.specs.Batch.{answerTo, answered, bufferVerdict, toFill, filled}
+use Rattle.batch.specs.Batch.{answerTo, withAnswer, bufferVerdict, toFill, filled}
 use Rattle.wire.specs.declared.check.Verdict.{Verdict}
 use Rattle.batch.specs.declared.Answer.{Answer as Three}
 use Rattle.batch.specs.declared.Entry.{Entry}
@@ -131,7 +131,7 @@ module _ {M : Type 1} (𝓤 : URA M) (H : Heap 𝓤) (A : Atoms 𝓤) (W : Given
   c = toFill (now s) n
 
   abbrev to-answer : Entry → Entry
-  to-answer = answered (now s)
+  to-answer = withAnswer (now s)
 
   abbrev x : RefT (List Entry)
   x = record { ptr = (b, o); name = γ; now = xs }

@@ -21,7 +21,7 @@ use Rattle.read_challenge.specs.declared.Challenge.{Challenge}
 use Rattle.read_challenge.specs.declared.Reading.{Reading}
 use Rattle.read_challenge.specs.declared.Reading.the-variants.{Taken, Refused}
 use Rattle.read_challenge.specs.Challenge.{fieldsAt, readingOf, readChallenge, onTaken, infoOf}
-use Rattle.respond.specs.Domain.{Part, ownPart, valuePart, onFound, domainPart}
+use Rattle.respond.specs.Domain.{Part, ownPart, valuePart, onPairFound, domainPart}
 use Rattle.target_info.specs.TargetInfo.{firstBy}
 use Rattle.demands.specs.Message.{challenge, Set, Nonempty, lenOf, offsetOf, Fails}
 use Rattle.demands.specs.PairList.{sizeOf, PairAt, FirstWith, PairThere}
@@ -94,7 +94,7 @@ module _ (s b : List ℕ) (info : InfoBytes s b) where
   part-judged : (own : List ℕ) → Judged own
       (onTaken (λ e. ownPart own) (readingOf s) (λ c.
       cond (unicode (c .flags))
-      (onFound (firstBy isNbDomainName (pairsOf (infoOf s c))) (valuePart s c) (ownPart own))
+      (onPairFound (firstBy isNbDomainName (pairsOf (infoOf s c))) (valuePart s c) (ownPart own))
       (ownPart own)))
   unfolding readChallenge
   part-judged own = go (readingOf s) refl (reading.judged s b info) where
@@ -106,19 +106,19 @@ module _ (s b : List ℕ) (info : InfoBytes s b) where
 
     found : ChallengeHolds s b → Set challenge s 0x1 → (none : (n i : ℕ) → Fails challenge s n i → ⊥) (start : ℕ) → start ≡ fieldStart s (fieldsAt s (flagsAt s 20) .«target_info») →
         (x : Found) → JudgedW b 2 isNbDomainName (asks 2) 0 x →
-        Judged own (onFound x (λ p. record { ofChallenge = true; start = start + p .at; bytes = take (p .len) (drop (p .at) b) }) (ownPart own))
+        Judged own (onPairFound x (λ p. record { ofChallenge = true; start = start + p .at; bytes = take (p .len) (drop (p .at) b) }) (ownPart own))
     found holds set none start e (At p) j = rw (j .3) (at-place holds set none (j .0) (j .1) (j .2) start e)
     found holds set none start e Nothing j = inr (λ h u p. j (p .0) (p .1), refl)
 
     made : Challenge → List ℕ → Part
     made c l =
         cond (unicode (c .flags))
-        (onFound (firstBy isNbDomainName (pairsOf l)) (λ p. record { ofChallenge = true; start = fieldStart s (c .fields .«target_info») + p .at; bytes = take (p .len) (drop (p .at) l) }) (ownPart own))
+        (onPairFound (firstBy isNbDomainName (pairsOf l)) (λ p. record { ofChallenge = true; start = fieldStart s (c .fields .«target_info») + p .at; bytes = take (p .len) (drop (p .at) l) }) (ownPart own))
         (ownPart own)
 
     wide : (u : Bool) → unicode (flagsAt s 20) ≡ u → ChallengeHolds s b → (none : (n i : ℕ) → Fails challenge s n i → ⊥) →
         Judged own (cond u
-        (onFound (firstBy isNbDomainName (pairsOf b)) (λ p. record { ofChallenge = true; start = fieldStart s (fieldsAt s (flagsAt s 20) .«target_info») + p .at; bytes = take (p .len) (drop (p .at) b) }) (ownPart own))
+        (onPairFound (firstBy isNbDomainName (pairsOf b)) (λ p. record { ofChallenge = true; start = fieldStart s (fieldsAt s (flagsAt s 20) .«target_info») + p .at; bytes = take (p .len) (drop (p .at) b) }) (ownPart own))
         (ownPart own))
     wide true p holds none = found holds (eqb-true _ 1 p) none (fieldStart s (fieldsAt s (flagsAt s 20) .«target_info»)) refl (firstBy isNbDomainName (pairsOf b)) (first-in-list b 2 isNbDomainName (asks 2))
     wide false p holds none = inr (λ h u q. both-ways (unicode (flagsAt s 20)) (eq-eqb _ 1 u) p, refl)
@@ -126,7 +126,7 @@ module _ (s b : List ℕ) (info : InfoBytes s b) where
     go : (r : Reading) → readingOf s ≡ r → reading.Judged s b info r → Judged own
         (onTaken (λ e. ownPart own) r (λ c.
         cond (unicode (c .flags))
-        (onFound (firstBy isNbDomainName (pairsOf (infoOf s c))) (valuePart s c) (ownPart own))
+        (onPairFound (firstBy isNbDomainName (pairsOf (infoOf s c))) (valuePart s c) (ownPart own))
         (ownPart own)))
     go (Taken c) e holds =
         let t = taken-as s c e in

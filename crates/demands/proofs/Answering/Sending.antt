@@ -20,7 +20,7 @@ use Rattle.target_info.specs.declared.Timestamp.{Timestamp}
 use Rattle.target_info.specs.declared.Timestamp.the-variants.{Time, Nothing}
 use Rattle.respond.specs.declared.decision.Settings.{Settings}
 use Rattle.respond.specs.Answer.{Supplied, micDue, timeToSend, lmToSend, micToSend, keyToSend}
-use Rattle.respond.specs.Domain.{Part, onFound, domainPart, domainToSend}
+use Rattle.respond.specs.Domain.{Part, onPairFound, domainPart, domainToSend}
 use Rattle.target_info.specs.TargetInfo.{firstBy, timestampIn}
 use Rattle.demands.specs.Message.{challenge, Set}
 use Rattle.demands.specs.PairList.{sizeOf, FirstWith, PairThere}
@@ -132,21 +132,21 @@ module _ (s b : List ℕ) where
   pair-value p = take (p .len) (drop (p .at) b)
 
   theirs : List ℕ
-  theirs = cond (unicode (flagsAt s 20)) (onFound (firstBy isNbDomainName (pairsOf b)) pair-value []) []
+  theirs = cond (unicode (flagsAt s 20)) (onPairFound (firstBy isNbDomainName (pairsOf b)) pair-value []) []
 
   theirs-is : Set challenge s 0x1 → (place : ℕ) → FirstWith b 2 place 0 → theirs ≡ take (sizeOf b place) (drop (place + 4) b)
   unfolding theirs pair-value
   theirs-is set place first =
       simp (eq-eqb _ 1 set) (go (firstBy isNbDomainName (pairsOf b)) (first-in-list b 2 isNbDomainName (asks 2)))
     where
-      go : (x : Found) → JudgedW b 2 isNbDomainName (asks 2) 0 x → onFound x pair-value [] ≡ take (sizeOf b place) (drop (place + 4) b)
+      go : (x : Found) → JudgedW b 2 isNbDomainName (asks 2) 0 x → onPairFound x pair-value [] ≡ take (sizeOf b place) (drop (place + 4) b)
       go (At p) j = rw (j .3) (ap (λ (k : ℕ). take (sizeOf b k) (drop (k + 4) b)) (one-place b 2 (j .0) place 0 (j .1) first))
       go Unfound j = absurd (j place first)
 
   theirs-none : (Set challenge s 0x1 × PairThere b 2 → ⊥) → theirs ≡ []
   unfolding theirs
   theirs-none not-so = go (unicode (flagsAt s 20)) (firstBy isNbDomainName (pairsOf b)) refl (first-in-list b 2 isNbDomainName (asks 2)) where
-    go : (u : Bool) (x : Found) → unicode (flagsAt s 20) ≡ u → JudgedW b 2 isNbDomainName (asks 2) 0 x → cond u (onFound x pair-value []) [] ≡ []
+    go : (u : Bool) (x : Found) → unicode (flagsAt s 20) ≡ u → JudgedW b 2 isNbDomainName (asks 2) 0 x → cond u (onPairFound x pair-value []) [] ≡ []
     go true (At p) e j = absurd (not-so (eqb-true _ 1 e, (j .0, j .1)))
     go true Unfound e j = refl
     go false x e j = refl

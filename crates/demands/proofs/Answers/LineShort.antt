@@ -63,7 +63,7 @@ use Rattle.demands.proofs.TakenExactly.Negotiate.{negotiate-judged, neg
 use Rattle.demands.proofs.NlAuth.{nl-auth-judged, nl-auth-own}
 use Rattle.demands.proofs.OwnBytes.{none-fails, authenticate-own}
 use Rattle.demands.proofs.Answers.SmallFields.{authenticate-small, negotiate-small, nl-auth-small, challenge-small, SmallC}
-use Rattle.demands.proofs.Answers.Told.{Small, number-small}
+use Rattle.demands.proofs.Answers.Decoded.{Small, number-small}
 
 -- ---- what a taken message's line is made of
 

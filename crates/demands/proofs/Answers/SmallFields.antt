@@ -31,7 +31,7 @@ use Rattle.av_pairs.specs.declared.Count.the-variants.{Pairs, Refused as Uncoun
 use Rattle.target_info.specs.declared.Search.the-variants.{Done, Refused as Unsearched}
 use Rattle.av_pairs.specs.declared.Step.{Step}
 use Rattle.av_pairs.specs.declared.Step.the-variants.{Pair, End, Refused as Faulty}
-use Rattle.av_pairs.specs.AvPairs.{left, pairThere, endPairHolds, valueInside, sizeHolds, pairOf, idAt, stepAt, pairsOf, checkPairs, countPairs, askAt}
+use Rattle.av_pairs.specs.AvPairs.{left, pairThere, endPairHolds, valueInside, valueSizeHolds, pairOf, idAt, stepAt, pairsOf, checkPairs, countPairs, askAt}
 use Rattle.read_challenge.specs.declared.Reading.{Reading as ChallengeReading}
 use Rattle.read_challenge.specs.declared.Reading.the-variants.{Taken as ChallengeTaken, Refused as ChallengeRefused}
 use Rattle.read_challenge.specs.declared.ServerNamesReading.the-variants.{Taken as NamesTaken, Refused as NamesRefused}
@@ -52,7 +52,7 @@ use Rattle.respond.specs.declared.decision.Decided.{Decided}
 use Rattle.respond.specs.declared.decision.Decided.the-variants.{Taken as Decides, Refused as Declines}
 use Rattle.respond.specs.declared.decision.Settings.{Settings}
 use Rattle.respond.specs.Decision.{decisionOn, strengthHolds, serverNamesHold}
-use Rattle.write_response_pairs.specs.ResponsePairs.{evenName, checkList, listFor, listAnswer, writeAnswer as pairsAnswer}
+use Rattle.write_response_pairs.specs.ResponsePairs.{evenTargetName, checkList, listFor, listAnswer, writeAnswer as pairsAnswer}
 use Rattle.c_number.specs.Outcome.{Outcome, numbers, refused}
 use Rattle.c_read.specs.Numbers.{negotiateOutcome, authenticateOutcome, challengeOutcome, timestampOutcome, serverNamesOutcome, nlAuthOutcome}
 use Rattle.c_pairs.specs.Pairs.{countOutcome, searchOutcome, stepOutcome}
@@ -60,10 +60,10 @@ use Rattle.c_respond.specs.Settings.{settingsOf}
 use Rattle.c_respond.specs.Respond.{decidedOutcome}
 use Rattle.target_info.specs.TargetInfo.{firstPair, findPair, timestampIn, serverNamesIn}
 use Rattle.verdict.specs.Verdict.{negoVerdict, chalVerdict}
-use Rattle.mic.specs.Mic.{keyHolds as sessionKeyHolds, authenticateVerdict, checkMessages, whenClear, micOf, workOut}
+use Rattle.mic.specs.Mic.{keySizeHolds as sessionKeyHolds, authenticateVerdict, checkInputs, whenClear, micOf, computedMic}
 use Rattle.c_mic.specs.Numbers.{handedOut}
 use Rattle.demands.specs.Answers.{Writing, write-negotiate, write-authenticate, write-nl-auth-request, write-nl-auth-response, write-response-pairs, writingAnswer}
-use Rattle.demands.specs.FromC.{Call, read-negotiate, read-timestamp, read-server-names, read-nl-auth, count-pairs, find-pair, next-pair, decide, work-out-mic, outcome, TwoArrayCall, read-authenticate, read-challenge, twoArrayOutcome}
+use Rattle.demands.specs.FromC.{Call, read-negotiate, read-timestamp, read-server-names, read-nl-auth, count-pairs, find-pair, next-pair, decide, compute-mic, outcome, TwoArrayCall, read-authenticate, read-challenge, twoArrayOutcome}
 use Rattle.demands.specs.Message.{Format, negotiate, authenticate, challenge, Fails}
 use Rattle.demands.specs.NlAuth.{NlFails}
 use Rattle.demands.proofs.Order.{on-row}
@@ -72,7 +72,7 @@ use Rattle.demands.proofs.TakenExactly.Challenge.{JudgedF, fields-of-ju
 use Rattle.demands.proofs.TakenExactly.Negotiate.{negotiate-judged}
 use Rattle.demands.proofs.NlAuth.{nl-auth-judged}
 use Rattle.demands.proofs.TakenExactly.{authenticate-judged}
-use Rattle.demands.proofs.Answers.Told.{Small}
+use Rattle.demands.proofs.Answers.Decoded.{Small}
 
 -- ---- reading: by the tables of checks
 
@@ -165,7 +165,7 @@ unfolding pairOf
 small-pair id len at left =
     of-after SmallS (endPairHolds id len left) _ _ (omega arith)
     (of-after SmallS (valueInside len left) _ _ (omega arith)
-    (of-after SmallS (sizeHolds id len) _ _ (omega arith)
+    (of-after SmallS (valueSizeHolds id len) _ _ (omega arith)
     (small-cond SmallS (isEnd id) End (Pair (record { id = id; at = at + 4; len = len })) tt tt)))
 
 pub step-small : (s : List ℕ) (at : ℕ) → SmallS (stepAt s at)
@@ -281,7 +281,7 @@ authenticate-written-small room flags v mic lm nt domain user workstation key =
 list-checks : (room : ℕ) (name : List ℕ) (size : ℕ) → SmallV (checkList room name size)
 unfolding checkList
 list-checks room name size =
-    of-after SmallV (evenName name) _ _ (omega arith)
+    of-after SmallV (evenTargetName name) _ _ (omega arith)
     (of-after SmallV (sizeToHold size) _ _ (omega arith)
     (of-after SmallV (roomHolds size room) (Not NoRoom) Clear (omega arith) tt))
 
@@ -314,8 +314,8 @@ bytes-small bytes out =
 
 -- ---- the MIC
 
-pub mic-small : (n : ℕ) (nego chal auth : List ℕ) → SmallV (checkMessages n nego chal auth)
-unfolding checkMessages readChallenge
+pub mic-small : (n : ℕ) (nego chal auth : List ℕ) → SmallV (checkInputs n nego chal auth)
+unfolding checkInputs readChallenge
 mic-small n nego chal auth =
     of-after SmallV (sessionKeyHolds n) (Not WrongSessionKey) _ (omega arith)
     (small-clear (negoVerdict (readNegotiate nego)) _ (of-negotiate (readNegotiate nego) refl)
@@ -341,7 +341,7 @@ SmallO (numbers xs) = Unit
 SmallO (refused e) = Small e
 
 pub outcome-small : (c : Call) → SmallO (outcome c)
-unfolding timestampOf serverNamesOf countPairs findPair askAt workOut
+unfolding timestampOf serverNamesOf countPairs findPair askAt computedMic
 outcome-small (read-negotiate s) = go (readNegotiate s) refl where
   go : (r : NegotiateReading) → readNegotiate s ≡ r → SmallO (negotiateOutcome r)
   go (NegotiateTaken m) p = tt
@@ -375,7 +375,7 @@ outcome-small (decide settings s) = go (decisionOn (settingsOf settings) s) (dec
   go : (r : Decided) → SmallD r → SmallO (decidedOutcome r)
   go (Decides d) w = tt
   go (Declines e) w = w
-outcome-small (work-out-mic key nego chal auth) = go (checkMessages (length key) nego chal auth) (mic-small (length key) nego chal auth) where
+outcome-small (compute-mic key nego chal auth) = go (checkInputs (length key) nego chal auth) (mic-small (length key) nego chal auth) where
   go : (v : Verdict) → SmallV v → SmallO (handedOut v (whenClear v (micOf key nego chal auth)))
   go Clear w = tt
   go (Not e) w = w

@@ -17,7 +17,7 @@ use Rattle.av_pairs.specs.AvPairs.{checkPairs, stepAt, pairOf, left}
 use Rattle.read_challenge.specs.Challenge.{fieldsAt as challengeFieldsAt, checkEnds as challengeEnds, checkBegins as challengeBegins, checkNames as challengeNames, checkFields as challengeChecks, fieldsOf, checkInfo, readingOf as challengeReadingOf, readChallenge}
 use Rattle.read_authenticate.specs.Authenticate.{fieldsAt, checkEnds, checkBegins, checkNames, checkShared, checkFields, micPresent, readingOf, readAuthenticate}
 use Rattle.batch.specs.declared.Entry.{Entry}
-use Rattle.batch.specs.Batch.{answered}
+use Rattle.batch.specs.Batch.{withAnswer}
 use Rattle.demands.specs.Bench.{p1}
 use Rattle.demands.specs.Examples.{challengeMessage}
 use Rattle.demands.specs.Hypotheses.{otherChallenge}
@@ -25,13 +25,13 @@ use Rattle.demands.specs.Explained.{formatOf}
 use Rattle.demands.specs.Message.{authenticate, Covers, DifferInIgnored}
 use Rattle.demands.specs.Secret.{secret-field}
 use Rattle.demands.proofs.Hypotheses.{hypotheses-met}
-use Rattle.demands.specs.Batch.{markOf, message, Within, NameOf, ignoredNight, Open, in-name, in-first-64, in-challenge, Listed, ListedSecret, night, nightList, otherNight, BatchExample}
+use Rattle.demands.specs.Batch.{markOf, message, InMessage, NameOf, otherIgnoredBuffer, Open, in-name, in-first-64, in-challenge, Listed, ListedSecret, twoMessages, twoEntries, otherSecretBuffer, BatchExample}
 
 abbrev second : Entry
 second = record { start = 100; length = 120; mark = 3; answer = record { number = 7; field = 8; place = 9 } }
 
 -- byte 196 of the night is one of P1's NT response
-nt-byte : ListedSecret nightList night 196
+nt-byte : ListedSecret twoEntries twoMessages 196
 nt-byte =
     record {
       entry = second;
@@ -44,10 +44,10 @@ nt-byte =
     }
 
 -- and no other entry's name, among its first 64 bytes or in a challenge
-not-open : (e : Entry) → Listed e nightList → Within e 196 → Open night e 196 → ⊥
+not-open : (e : Entry) → Listed e twoEntries → InMessage e 196 → Open twoMessages e 196 → ⊥
 not-open e (inl h) w o = let z : 196 < 100 = rw h at (w .1) in omega (arith, z)
-not-open e (inr (inl h)) w o = go (subst (λ (y : Entry). Open night y 196) h o) where
-  go : Open night second 196 → ⊥
+not-open e (inr (inl h)) w o = go (subst (λ (y : Entry). Open twoMessages y 196) h o) where
+  go : Open twoMessages second 196 → ⊥
   go (in-first-64 l) = omega (arith, l)
   go (in-challenge m) = let z : _≡_ {A = ℕ} 3 2 = m in omega (arith, z)
   go (in-name k i m n f ne c) = of k m n c where
@@ -60,15 +60,15 @@ not-open e (inr (inl h)) w o = go (subst (λ (y : Entry). Open night y 196) h o)
     by-name false false p q l c =
         let z = named 5 (omega (arith, eqb-false i 3 p, eqb-false i 4 q, l .0, l .1)) c in omega (arith, z .0, z .1)
 
-    of : (k : Kind) → _≡_ {A = ℕ} 3 (markOf k) → NameOf k i → Covers (formatOf k) (message night second) i 96 → ⊥
+    of : (k : Kind) → _≡_ {A = ℕ} 3 (markOf k) → NameOf k i → Covers (formatOf k) (message twoMessages second) i 96 → ⊥
     of Negotiate m n c = omega (arith, m)
     of Challenge m n c = omega (arith, m)
     of Authenticate m n c = by-name (eqb i 3) (eqb i 4) refl refl n c
 not-open e (inr (inr h)) w o = absurd h
 
 -- its first message differs in MaxLen, and its second in nothing
-in-ignored : (e : Entry) → Listed e nightList → (k : Kind) → e .mark ≡ markOf k →
-    DifferInIgnored (formatOf k) (message night e) (message ignoredNight e)
+in-ignored : (e : Entry) → Listed e twoEntries → (k : Kind) → e .mark ≡ markOf k →
+    DifferInIgnored (formatOf k) (message twoMessages e) (message otherIgnoredBuffer e)
 in-ignored e (inl h) k m = rw h (first k (sym (ap (λ (y : Entry). y .mark) h) ∙ m)) where
   first : (k : Kind) → _≡_ {A = ℕ} 2 (markOf k) → DifferInIgnored (formatOf k) challengeMessage otherChallenge
   first Negotiate m = absurd (omega (arith, m))
@@ -78,7 +78,7 @@ in-ignored e (inr (inl h)) k m = rw h (record { length-same = refl; bytes-same =
 in-ignored e (inr (inr h)) k m = absurd h
 
 pub batch-example : BatchExample
-unfolding answered readHead signatureHolds fieldAt fieldBytes readAuthenticate readingOf fieldsAt checkEnds checkBegins checkNames checkShared checkFields micPresent readChallenge challengeReadingOf checkInfo fieldsOf challengeFieldsAt challengeEnds challengeBegins challengeNames challengeChecks checkPairs stepAt pairOf left
+unfolding withAnswer readHead signatureHolds fieldAt fieldBytes readAuthenticate readingOf fieldsAt checkEnds checkBegins checkNames checkShared checkFields micPresent readChallenge challengeReadingOf checkInfo fieldsOf challengeFieldsAt challengeEnds challengeBegins challengeNames challengeChecks checkPairs stepAt pairOf left
 batch-example =
     record {
       differ = (
@@ -94,14 +94,14 @@ batch-example =
       in-message = refl;
     }
   where
-    secret : (p : ℕ) (b : Bool) → eqb p 196 ≡ b → (getD night p 0 ≡ getD otherNight p 0) ⊎ ListedSecret nightList night p
-    secret p true e = inr (subst (λ (q : ℕ). ListedSecret nightList night q) (sym (eqb-true p 196 e)) nt-byte)
-    secret p false e = inl (sym (getD-set-other night 196 p 0xBB 0 (eqb-false p 196 e)))
+    secret : (p : ℕ) (b : Bool) → eqb p 196 ≡ b → (getD twoMessages p 0 ≡ getD otherSecretBuffer p 0) ⊎ ListedSecret twoEntries twoMessages p
+    secret p true e = inr (subst (λ (q : ℕ). ListedSecret twoEntries twoMessages q) (sym (eqb-true p 196 e)) nt-byte)
+    secret p false e = inl (sym (getD-set-other twoMessages 196 p 0xBB 0 (eqb-false p 196 e)))
 
-    opened : (p : ℕ) (b : Bool) → eqb p 196 ≡ b → (e : Entry) → Listed e nightList → Within e p → Open night e p →
-        getD night p 0 ≡ getD otherNight p 0
-    opened p true h e l w o = let at = eqb-true p 196 h in absurd (not-open e l (subst (λ (q : ℕ). Within e q) at w) (subst (λ (q : ℕ). Open night e q) at o))
-    opened p false h e l w o = sym (getD-set-other night 196 p 0xBB 0 (eqb-false p 196 h))
+    opened : (p : ℕ) (b : Bool) → eqb p 196 ≡ b → (e : Entry) → Listed e twoEntries → InMessage e p → Open twoMessages e p →
+        getD twoMessages p 0 ≡ getD otherSecretBuffer p 0
+    opened p true h e l w o = let at = eqb-true p 196 h in absurd (not-open e l (subst (λ (q : ℕ). InMessage e q) at w) (subst (λ (q : ℕ). Open twoMessages e q) at o))
+    opened p false h e l w o = sym (getD-set-other twoMessages 196 p 0xBB 0 (eqb-false p 196 h))
 
     two : _≡_ {A = ℕ} 0xAA 0xBB → ⊥
     two e = omega arith

@@ -21,7 +21,7 @@ use Rattle.read_authenticate.specs.Authenticate.{readAuthenticate}
 use Rattle.write_canonical.specs.Canonical.{Meaning, meaningOf, zeroVersion, meaningAnswer, canonicalAnswer}
 use Rattle.demands.specs.Canonical.{keyLen, canonicalSize, CanonicalFails, canonicalOrder, CanonicalIsWritten, NoOtherRefusal}
 use Rattle.demands.specs.Message.{authenticate, FlagSet, lenOf, Nonempty, Fails}
-use Rattle.demands.specs.Order.{BeforeBy, First, FirstIn, placeIn}
+use Rattle.demands.specs.Order.{BeforeBy, First, FirstIn, rankIn}
 use Rattle.demands.specs.OwnBytes.{OwnField, OwnAnswer}
 use Rattle.demands.specs.WrittenExactly.{WrittenExactly, Fails5, Fails30, Fails33, nameOf, authenticateSize, authenticateOrder, AuthenticateWritingFails}
 use Rattle.demands.proofs.Canonical.{each-means, answer-of, mic-long, answer-refused}
@@ -34,11 +34,11 @@ use Rattle.demands.proofs.WrittenExactly.MessagesWritten.{authenticate-
 
 -- the same failures under another table and another order, in which each stands d places further on
 module _ (answer : Written) (o p : List ℕ) (F G : ℕ → ℕ → Type 0) (size size′ d : ℕ) (sizes : size ≡ size′)
-    (to : (n i : ℕ) → F n i → G n i) (from : (n i : ℕ) → G n i → F n i) (moved : (n i : ℕ) → F n i → placeIn p n ≡ placeIn o n + d) where
-  back : (m j n i : ℕ) → F m j → F n i → BeforeBy (placeIn p) m j n i → BeforeBy (placeIn o) m j n i
+    (to : (n i : ℕ) → F n i → G n i) (from : (n i : ℕ) → G n i → F n i) (moved : (n i : ℕ) → F n i → rankIn p n ≡ rankIn o n + d) where
+  back : (m j n i : ℕ) → F m j → F n i → BeforeBy (rankIn p) m j n i → BeforeBy (rankIn o) m j n i
   back m j n i f g b = ⊎-elim (λ l. inl (omega (arith, moved m j f, moved n i g, l))) (λ q. inr q) b
 
-  on : (m j n i : ℕ) → F m j → F n i → BeforeBy (placeIn o) m j n i → BeforeBy (placeIn p) m j n i
+  on : (m j n i : ℕ) → F m j → F n i → BeforeBy (rankIn o) m j n i → BeforeBy (rankIn p) m j n i
   on m j n i f g b = ⊎-elim (λ l. inl (omega (arith, moved m j f, moved n i g, l))) (λ q. inr q) b
 
   same-failures : WrittenExactly answer o F size → WrittenExactly answer p G size′
@@ -74,7 +74,7 @@ module _ (s : List ℕ) where
   full i l r some = record { first = l; last = omega arith; counts = λ e. absurd (omega arith); some = some }
 
   -- a reading's failure has the place of its number
-  reading-place : (n i : ℕ) → Fails authenticate s n i → (placeIn canonicalOrder n + 1 ≡ n) × (n ≤ 9)
+  reading-place : (n i : ℕ) → Fails authenticate s n i → (rankIn canonicalOrder n + 1 ≡ n) × (n ≤ 9)
   reading-place n i =
       on-row 1 n _ _ (Q n) (λ e x. at 1 e (refl, omega arith)) (
       on-row 2 n _ _ (Q n) (λ e x. at 2 e (refl, omega arith)) (
@@ -87,7 +87,7 @@ module _ (s : List ℕ) where
       on-row 9 n _ _ (Q n) (λ e x. at 9 e (refl, omega arith)) (λ x. absurd x)))))))))
     where
       Q : ℕ → Type 0
-      Q k = (placeIn canonicalOrder k + 1 ≡ k) × (k ≤ 9)
+      Q k = (rankIn canonicalOrder k + 1 ≡ k) × (k ≤ 9)
 
       at : (k : ℕ) → n ≡ k → Q k → Q n
       at k e q = subst Q (sym e) q
@@ -122,19 +122,19 @@ module _ (room : ℕ) (s : List ℕ) where
   -- and its first failure is the first here
   first-of-reading : (n i : ℕ) → First (Fails authenticate s) n i → FirstIn canonicalOrder G n i
   first-of-reading n i f = record { fails = of-reading n i (f .fails); none-before = none } where
-    here : (placeIn canonicalOrder n + 1 ≡ n) × (n ≤ 9)
+    here : (rankIn canonicalOrder n + 1 ≡ n) × (n ≤ 9)
     here = reading-place s n i (f .fails)
 
-    later : (k m j : ℕ) → 9 ≤ placeIn canonicalOrder k → 9 < k → m ≡ k → BeforeBy (placeIn canonicalOrder) m j n i → ⊥
+    later : (k m j : ℕ) → 9 ≤ rankIn canonicalOrder k → 9 < k → m ≡ k → BeforeBy (rankIn canonicalOrder) m j n i → ⊥
     later k m j l g e b =
-        ⊎-elim (λ q. omega (arith, l, here .0, here .1, subst (λ (x : ℕ). placeIn canonicalOrder x < placeIn canonicalOrder n) e q))
+        ⊎-elim (λ q. omega (arith, l, here .0, here .1, subst (λ (x : ℕ). rankIn canonicalOrder x < rankIn canonicalOrder n) e q))
         (λ q. omega (arith, e, g, q .0, here .1)) b
 
-    before : (m j : ℕ) → Fails authenticate s m j → BeforeBy (placeIn canonicalOrder) m j n i → ⊥
+    before : (m j : ℕ) → Fails authenticate s m j → BeforeBy (rankIn canonicalOrder) m j n i → ⊥
     before m j h b =
         f .none-before m j (⊎-elim (λ l. inl (omega (arith, l, here .0, reading-place s m j h .0))) (λ q. inr q) b) h
 
-    none : (m j : ℕ) → BeforeBy (placeIn canonicalOrder) m j n i → G m j → ⊥
+    none : (m j : ℕ) → BeforeBy (rankIn canonicalOrder) m j n i → G m j → ⊥
     none m j b =
         on-row 32 m _ _ ⊥ (λ e x. later 32 m j (omega arith) (omega arith) e b) (
         on-row 30 m _ _ ⊥ (λ e x. later 30 m j (omega arith) (omega arith) e b) (
@@ -256,7 +256,7 @@ module _ (room : ℕ) (s : List ℕ) where
         at : (k : ℕ) → n ≡ k → F k i → F n i
         at k e g = subst (λ (z : ℕ). F z i) (sym e) g
 
-    moved : (n i : ℕ) → F n i → placeIn canonicalOrder n ≡ placeIn authenticateOrder n + 7
+    moved : (n i : ℕ) → F n i → rankIn canonicalOrder n ≡ rankIn authenticateOrder n + 7
     moved n i =
         on-row 5 n _ _ (Q n) (λ e x. absurd (no-5 i x)) (
         on-row 31 n _ _ (Q n) (λ e x. absurd (no-31 i x)) (
@@ -265,7 +265,7 @@ module _ (room : ℕ) (s : List ℕ) where
         on-row 33 n _ _ (Q n) (λ e x. subst Q (sym e) refl) (λ x. absurd x)))))
       where
         Q : ℕ → Type 0
-        Q k = placeIn canonicalOrder k ≡ placeIn authenticateOrder k + 7
+        Q k = rankIn canonicalOrder k ≡ rankIn authenticateOrder k + 7
 
     taken-written : WrittenExactly (meaningAnswer room m) canonicalOrder G (canonicalSize s)
     unfolding meaningAnswer m

@@ -9,10 +9,10 @@ use Rattle.read_negotiate.specs.Negotiate as N
 use Rattle.read_negotiate.specs.Negotiate.{readNegotiate}
 use Rattle.read_challenge.specs.Challenge.{fieldsAt as challengeFieldsAt, checkEnds as challengeEnds, checkBegins as challengeBegins, checkNames as challengeNames, checkFields as challengeChecks, fieldsOf, checkInfo, readingOf as challengeReadingOf, readChallenge}
 use Rattle.read_authenticate.specs.Authenticate.{fieldsAt, checkEnds, checkBegins, checkNames, checkShared, checkFields, micPresent, readingOf, readAuthenticate}
-use Rattle.line_checks.specs.Checks.{plainWords, pairText, pairWords, messageWords, figureWords, failedWords, wordsOf, lineOf, checkLines}
+use Rattle.line_checks.specs.Checks.{plainWords, pairFigures, pairWords, messageWords, figureWords, failedWords, wordsOf, checkLine, checkLines}
 use Rattle.explain.specs.Explain.{figuresOf, figuresAs, explainedAs, explanation}
 use Rattle.demands.specs.Explained.{ExplainedExample}
 
 pub explained-example : ExplainedExample
-unfolding explanation explainedAs figuresAs figuresOf checkLines lineOf wordsOf plainWords pairText pairWords messageWords figureWords failedWords numberWord decimal decimalSize hexDigit kindOf readHead signatureHolds fieldAt fieldBytes readAuthenticate readingOf fieldsAt checkEnds checkBegins checkNames checkShared checkFields micPresent readNegotiate N.fieldsAt N.checkEnds N.checkBegins N.checkFields readChallenge challengeReadingOf checkInfo fieldsOf challengeFieldsAt challengeEnds challengeBegins challengeNames challengeChecks checkPairs stepAt pairOf left
+unfolding explanation explainedAs figuresAs figuresOf checkLines checkLine wordsOf plainWords pairFigures pairWords messageWords figureWords failedWords numberWord decimal decimalSize hexDigit kindOf readHead signatureHolds fieldAt fieldBytes readAuthenticate readingOf fieldsAt checkEnds checkBegins checkNames checkShared checkFields micPresent readNegotiate N.fieldsAt N.checkEnds N.checkBegins N.checkFields readChallenge challengeReadingOf checkInfo fieldsOf challengeFieldsAt challengeEnds challengeBegins challengeNames challengeChecks checkPairs stepAt pairOf left
 explained-example = record { of-field = refl; of-pair = refl; of-taken = refl; of-negotiate = refl }

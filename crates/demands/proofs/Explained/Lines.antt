@@ -9,8 +9,8 @@ use borrow.Author.Tests.{eqb-true, eqb-false, eq-eqb, ne-eqb, ltb-true, ltb-fals
 use Rattle.wire.specs.Text.{ascii}
 use Rattle.line_words.specs.Words.{numberWord, lineEnd}
 use Rattle.line_checks.specs.declared.Figures.{Figures as Given}
-use Rattle.line_checks.specs.Checks.{plainWords, pairText, pairWords, messageWords, figureWords, failedWords, wordsOf, lineOf, linesFrom}
-use Rattle.demands.specs.Order.{placeIn}
+use Rattle.line_checks.specs.Checks.{plainWords, pairFigures, pairWords, messageWords, figureWords, failedWords, wordsOf, checkLine, linesFrom}
+use Rattle.demands.specs.Order.{rankIn}
 use Rattle.demands.specs.Explained.{Figures, State, held, failed, not-reached, lineText, printOf}
 use Rattle.demands.proofs.Bools.{true-not-false}
 
@@ -25,29 +25,29 @@ stateBy false true f = failed f
 stateBy false false f = not-reached
 
 abbrev pub stateOf : Given → List ℕ → ℕ → State
-stateOf g checks n = stateBy (ltb (placeIn checks n) (placeIn checks (g .number))) (eqb n (g .number)) (shown g)
+stateOf g checks n = stateBy (ltb (rankIn checks n) (rankIn checks (g .number))) (eqb n (g .number)) (shown g)
 
 -- ---- a line
 
-line-held : (g : Given) (n : ℕ) → eqb n (g .number) ≡ false → lineOf true g n ≡ lineText n held
-unfolding lineOf wordsOf plainWords numberWord
+line-held : (g : Given) (n : ℕ) → eqb n (g .number) ≡ false → checkLine true g n ≡ lineText n held
+unfolding checkLine wordsOf plainWords numberWord
 line-held g n h = simp (h, append-assoc)
 
-line-not-reached : (g : Given) (n : ℕ) → lineOf false g n ≡ lineText n not-reached
-unfolding lineOf wordsOf plainWords numberWord
+line-not-reached : (g : Given) (n : ℕ) → checkLine false g n ≡ lineText n not-reached
+unfolding checkLine wordsOf plainWords numberWord
 line-not-reached g n = simp append-assoc
 
 in-turn : (a b c d e p z : List ℕ) → (a ++ (b ++ (c ++ (d ++ (e ++ p))))) ++ z ≡ a ++ (b ++ (c ++ (d ++ (e ++ (p ++ z)))))
 in-turn a b c d e p z = simp append-assoc
 
 failed-words : (g : Given) → failedWords g ++ lineEnd ≡ lineText (g .number) (failed (shown g))
-unfolding failedWords figureWords messageWords pairWords pairText numberWord
+unfolding failedWords figureWords messageWords pairWords pairFigures numberWord
 failed-words g =
     in-turn (numberWord (ascii "check ") (g .number)) (numberWord (ascii " failed field=") (g .field)) (numberWord (ascii " offset=") (g .head .offset))
     (numberWord (ascii " length=") (g .head .len)) (numberWord (ascii " message=") (g .message)) (pairWords g) lineEnd
 
-line-failed : (g : Given) (n : ℕ) → n ≡ g .number → lineOf true g n ≡ lineText n (failed (shown g))
-unfolding lineOf wordsOf
+line-failed : (g : Given) (n : ℕ) → n ≡ g .number → checkLine true g n ≡ lineText n (failed (shown g))
+unfolding checkLine wordsOf
 line-failed g n h = rw h (simp (eq-eqb (g .number) (g .number) refl) (failed-words g))
 
 -- ---- the lines: no check is listed twice
@@ -83,42 +83,42 @@ none-reached : (g : Given) (cs : List ℕ) → linesFrom false g cs ≡ printOf 
 none-reached g [] = refl
 none-reached g (c ∷ cs) = rw (line-not-reached g c, none-reached g cs)
 
-place-here : (c : ℕ) (cs : List ℕ) → placeIn (c ∷ cs) c ≡ 0
+place-here : (c : ℕ) (cs : List ℕ) → rankIn (c ∷ cs) c ≡ 0
 place-here c cs = simp (eq-eqb c c refl)
 
-place-there : (c : ℕ) (cs : List ℕ) (x : ℕ) → (x ≡ c → ⊥) → placeIn (c ∷ cs) x ≡ 1 + placeIn cs x
+place-there : (c : ℕ) (cs : List ℕ) (x : ℕ) → (x ≡ c → ⊥) → rankIn (c ∷ cs) x ≡ 1 + rankIn cs x
 place-there c cs x h = simp (ne-eqb x c h)
 
 -- after the check that failed
 state-after : (g : Given) (c : ℕ) (cs : List ℕ) (x : ℕ) → c ≡ g .number → (x ≡ c → ⊥) → not-reached ≡ stateOf g (c ∷ cs) x
 state-after g c cs x e h =
-    let not-before : ltb (placeIn (c ∷ cs) x) (placeIn (c ∷ cs) (g .number)) ≡ false =
-    rw (← e) (le-ltb (placeIn (c ∷ cs) x) (placeIn (c ∷ cs) c) (omega (arith, place-here c cs))) in
+    let not-before : ltb (rankIn (c ∷ cs) x) (rankIn (c ∷ cs) (g .number)) ≡ false =
+    rw (← e) (le-ltb (rankIn (c ∷ cs) x) (rankIn (c ∷ cs) c) (omega (arith, place-here c cs))) in
     simp (not-before, ne-eqb x (g .number) (λ q. h (q ∙ sym e)))
 
 -- before it, and at it
 state-held : (g : Given) (c : ℕ) (cs : List ℕ) → (g .number ≡ c → ⊥) → held ≡ stateOf g (c ∷ cs) c
-state-held g c cs h = simp (lt-ltb (placeIn (c ∷ cs) c) (placeIn (c ∷ cs) (g .number)) (omega (arith, place-here c cs, place-there c cs (g .number) h)))
+state-held g c cs h = simp (lt-ltb (rankIn (c ∷ cs) c) (rankIn (c ∷ cs) (g .number)) (omega (arith, place-here c cs, place-there c cs (g .number) h)))
 
 state-failed : (g : Given) (c : ℕ) (cs : List ℕ) → c ≡ g .number → failed (shown g) ≡ stateOf g (c ∷ cs) c
 state-failed g c cs e =
-    let not-before : ltb (placeIn (c ∷ cs) c) (placeIn (c ∷ cs) (g .number)) ≡ false =
-    rw (← e) (le-ltb (placeIn (c ∷ cs) c) (placeIn (c ∷ cs) c) (omega arith)) in
+    let not-before : ltb (rankIn (c ∷ cs) c) (rankIn (c ∷ cs) (g .number)) ≡ false =
+    rw (← e) (le-ltb (rankIn (c ∷ cs) c) (rankIn (c ∷ cs) c) (omega arith)) in
     simp (not-before, eq-eqb c (g .number) e)
 
 -- a check before both changes nothing
 state-on : (g : Given) (c : ℕ) (cs : List ℕ) (x : ℕ) → (g .number ≡ c → ⊥) → (x ≡ c → ⊥) → stateOf g cs x ≡ stateOf g (c ∷ cs) x
-state-on g c cs x h e = rw (place-there c cs x e, place-there c cs (g .number) h) (ap (λ (t : Bool). stateBy t (eqb x (g .number)) (shown g)) (go (ltb (placeIn cs x) (placeIn cs (g .number))) refl)) where
-  go : (t : Bool) → ltb (placeIn cs x) (placeIn cs (g .number)) ≡ t → ltb (placeIn cs x) (placeIn cs (g .number)) ≡ ltb (1 + placeIn cs x) (1 + placeIn cs (g .number))
-  go true p = p ∙ sym (lt-ltb (1 + placeIn cs x) (1 + placeIn cs (g .number)) (omega (arith, ltb-true (placeIn cs x) (placeIn cs (g .number)) p)))
-  go false p = p ∙ sym (le-ltb (1 + placeIn cs x) (1 + placeIn cs (g .number)) (omega (arith, ltb-false (placeIn cs x) (placeIn cs (g .number)) p)))
+state-on g c cs x h e = rw (place-there c cs x e, place-there c cs (g .number) h) (ap (λ (t : Bool). stateBy t (eqb x (g .number)) (shown g)) (go (ltb (rankIn cs x) (rankIn cs (g .number))) refl)) where
+  go : (t : Bool) → ltb (rankIn cs x) (rankIn cs (g .number)) ≡ t → ltb (rankIn cs x) (rankIn cs (g .number)) ≡ ltb (1 + rankIn cs x) (1 + rankIn cs (g .number))
+  go true p = p ∙ sym (lt-ltb (1 + rankIn cs x) (1 + rankIn cs (g .number)) (omega (arith, ltb-true (rankIn cs x) (rankIn cs (g .number)) p)))
+  go false p = p ∙ sym (le-ltb (1 + rankIn cs x) (1 + rankIn cs (g .number)) (omega (arith, ltb-false (rankIn cs x) (rankIn cs (g .number)) p)))
 
 pub lines-are : (g : Given) (checks : List ℕ) → distinct checks ≡ true → linesFrom true g checks ≡ printOf (stateOf g checks) checks
 lines-are g [] h = refl
 lines-are g (c ∷ cs) h = go (member c cs) (eqb c (g .number)) refl refl h (λ r. lines-are g cs r) where
   go : (m t : Bool) → member c cs ≡ m → eqb c (g .number) ≡ t → (not m && distinct cs) ≡ true →
       (distinct cs ≡ true → linesFrom true g cs ≡ printOf (stateOf g cs) cs) →
-      lineOf true g c ++ linesFrom (true && not t) g cs ≡ printOf (stateOf g (c ∷ cs)) (c ∷ cs)
+      checkLine true g c ++ linesFrom (true && not t) g cs ≡ printOf (stateOf g (c ∷ cs)) (c ∷ cs)
   go true t p q r later = absurd (true-not-false (sym r))
   go false true p q r later =
       let e = eqb-true c (g .number) q in

@@ -6,7 +6,7 @@ use mathlib.Core.List.{List}
 use native.Mathlib.Omega.{arith}
 use lib.ListN.{length}
 use Rattle.head.specs.declared.Kind.the-variants.{Challenge}
-use Rattle.demands.specs.Order.{placeIn}
+use Rattle.demands.specs.Order.{rankIn}
 use Rattle.demands.specs.PairList.{idOf, sizeOf, SizeAllowed, PairAt, EndAt, WellFormed, end, pair, Holds, empty, listed, Fails10, Fails11, Fails12, Fails13, FaultAt, fault10, fault11, fault12, fault13, FirstFault, here, later}
 use Rattle.demands.specs.Explained.{printedChecks, PairFails, Leads, there, past, Before}
 use Rattle.demands.proofs.Order.{at-row}
@@ -81,12 +81,12 @@ module _ (b : List ℕ) where
   first-leads (later u f) = past u (first-leads f)
 
   -- it is one of the checks of a challenge
-  fault-listed : (at n : ℕ) → FaultAt b at n → placeIn (printedChecks Challenge) n < 12
+  fault-listed : (at n : ℕ) → FaultAt b at n → rankIn (printedChecks Challenge) n < 12
   fault-listed at n (fault11 e f) = rw e (omega arith)
   fault-listed at n (fault12 e a f) = rw e (omega arith)
   fault-listed at n (fault10 e a c f) = rw e (omega arith)
   fault-listed at n (fault13 e a c d f) = rw e (omega arith)
 
-  pub first-listed : {n p at : ℕ} → FirstFault b n p at → placeIn (printedChecks Challenge) n < 12
+  pub first-listed : {n p at : ℕ} → FirstFault b n p at → rankIn (printedChecks Challenge) n < 12
   first-listed (here x f) = fault-listed _ _ f
   first-listed (later u f) = first-listed f

@@ -14,7 +14,7 @@ use Rattle.head.specs.declared.Kind.{Kind}
 use Rattle.head.specs.declared.Kind.the-variants.{Negotiate, Challenge, Authenticate}
 use Rattle.head.specs.Head.{flagsAt}
 use Rattle.read_challenge.specs.Challenge as C
-use Rattle.demands.specs.Order.{First, placeIn}
+use Rattle.demands.specs.Order.{First, rankIn}
 use Rattle.demands.specs.Message.{Format, negotiate, authenticate, challenge, Nonempty, Fails}
 use Rattle.demands.specs.TakenExactly.{InfoBytes, ChallengeFails, in-fields, in-list}
 use Rattle.demands.specs.Explained.{printedChecks, formatOf, TakenAs, RefusedAs, FailsAt, at-field, at-pair, HoldsUpTo, OneOf, Before}
@@ -40,15 +40,15 @@ Sorted lo (c ∷ cs) = (lo < c) × Sorted c cs
 above : (lo : ℕ) (cs : List ℕ) (n : ℕ) → Sorted lo cs → OneOf cs n → lo < n
 above lo [] n h l = absurd (omega arith)
 above lo (c ∷ cs) n h l = go (eqb n c) refl l (λ q. above c cs n (h .1) q) where
-  go : (t : Bool) → eqb n c ≡ t → cond t 0 (1 + placeIn cs n) < suc (length cs) → (OneOf cs n → c < n) → lo < n
+  go : (t : Bool) → eqb n c ≡ t → cond t 0 (1 + rankIn cs n) < suc (length cs) → (OneOf cs n → c < n) → lo < n
   go true p q rest = omega (arith, eqb-true n c p, h .0)
   go false p q rest = omega (arith, rest (omega arith), h .0)
 
 in-order : (lo : ℕ) (front back : List ℕ) (m n : ℕ) → Sorted lo front → OneOf front n → Before (front ++ back) m n → m < n
 in-order lo [] back m n h l b = absurd (omega (arith, l))
 in-order lo (c ∷ cs) back m n h l b = go (eqb m c) (eqb n c) refl refl l b (λ q r. in-order c cs back m n (h .1) q r) where
-  go : (x y : Bool) → eqb m c ≡ x → eqb n c ≡ y → cond y 0 (1 + placeIn cs n) < suc (length cs) →
-      cond x 0 (1 + placeIn (cs ++ back) m) < cond y 0 (1 + placeIn (cs ++ back) n) → (OneOf cs n → Before (cs ++ back) m n → m < n) → m < n
+  go : (x y : Bool) → eqb m c ≡ x → eqb n c ≡ y → cond y 0 (1 + rankIn cs n) < suc (length cs) →
+      cond x 0 (1 + rankIn (cs ++ back) m) < cond y 0 (1 + rankIn (cs ++ back) n) → (OneOf cs n → Before (cs ++ back) m n → m < n) → m < n
   go x true p q l b rest = absurd (omega arith)
   go true false p q l b rest = omega (arith, eqb-true m c p, above c cs n (h .1) (omega arith))
   go false false p q l b rest = rest (omega arith) (omega arith)

@@ -34,10 +34,10 @@ use Rattle.read_authenticate.specs.declared.Reading.the-variants.{Taken as Auth
 use Rattle.read_authenticate.specs.Authenticate.{readAuthenticate}
 use Rattle.read_authenticate.specs.Authenticate as A
 use Rattle.line_checks.specs.declared.Figures.{Figures as Given}
-use Rattle.line_checks.specs.Checks.{pairText, pairWords, messageWords, figureWords, failedWords, wordsOf, lineOf, linesFrom, checkLines}
-use Rattle.verdict.specs.Verdict.{negoVerdict, chalVerdict, authVerdict, readAs, hasPair}
-use Rattle.explain.specs.Explain.{checksOf, fieldsOf, numbered, figuresOf, figuresOn, figuresAs, explainedAs, explanation}
-use Rattle.demands.specs.MaxLen.{bareNegotiate, bareChallenge, bareAuthenticate}
+use Rattle.line_checks.specs.Checks.{pairFigures, pairWords, messageWords, figureWords, failedWords, wordsOf, checkLine, linesFrom, checkLines}
+use Rattle.verdict.specs.Verdict.{negoVerdict, chalVerdict, authVerdict, readAs, failsAtPair}
+use Rattle.explain.specs.Explain.{checksOf, fieldsByNumber, fieldNumbered, figuresOf, figuresOn, figuresAs, explainedAs, explanation}
+use Rattle.demands.specs.MaxLen.{negotiateWithoutMaxLen, challengeWithoutMaxLen, authenticateWithoutMaxLen}
 use Rattle.demands.specs.Message.{negotiate, authenticate, challenge, lenOf, offsetOf, Nonempty, DifferInIgnored}
 use Rattle.demands.specs.Secret.{DifferInSecrets}
 use Rattle.demands.specs.Explained.{printedChecks, formatOf, FailsAt, at-field, at-pair, Before, ExplainedIgnored, SecretExplained}
@@ -55,47 +55,47 @@ use Rattle.demands.proofs.Message.Chain.{up-to-9}
 use Rattle.demands.proofs.Explained.Reasons.{Why, why, info-counts, not-negotiate, not-authenticate}
 
 -- a print without the MaxLen of the head that it tells
-abbrev bareFigures : Given → Given
-bareFigures g =
+abbrev figuresWithoutMaxLen : Given → Given
+figuresWithoutMaxLen g =
     record { number = g .number; field = g .field; head = kept false (g .head); message = g .message; at = g .at; id = g .id; size = g .size }
 
-lines-bare : (reached : Bool) (g : Given) (checks : List ℕ) → linesFrom reached g checks ≡ linesFrom reached (bareFigures g) checks
-unfolding kept lineOf wordsOf failedWords figureWords messageWords pairWords pairText
+lines-bare : (reached : Bool) (g : Given) (checks : List ℕ) → linesFrom reached g checks ≡ linesFrom reached (figuresWithoutMaxLen g) checks
+unfolding kept checkLine wordsOf failedWords figureWords messageWords pairWords pairFigures
 lines-bare reached g [] = refl
-lines-bare reached g (n ∷ ns) = ap (λ (l : List ℕ). lineOf reached g n ++ l) (lines-bare (reached && not (eqb n (g .number))) g ns)
+lines-bare reached g (n ∷ ns) = ap (λ (l : List ℕ). checkLine reached g n ++ l) (lines-bare (reached && not (eqb n (g .number))) g ns)
 
 -- heads by number, without MaxLen
-abbrev bareHeads : List (ℕ × Field) → List (ℕ × Field)
-bareHeads [] = []
-bareHeads (f ∷ fs) = (f .0, kept false (f .1)) ∷ bareHeads fs
+abbrev headsWithoutMaxLen : List (ℕ × Field) → List (ℕ × Field)
+headsWithoutMaxLen [] = []
+headsWithoutMaxLen (f ∷ fs) = (f .0, kept false (f .1)) ∷ headsWithoutMaxLen fs
 
-numbered-bare : (i : ℕ) (fs : List (ℕ × Field)) → kept false (numbered i fs) ≡ numbered i (bareHeads fs)
+numbered-bare : (i : ℕ) (fs : List (ℕ × Field)) → kept false (fieldNumbered i fs) ≡ fieldNumbered i (headsWithoutMaxLen fs)
 unfolding kept
 numbered-bare i [] = refl
 numbered-bare i (f ∷ fs) = go (eqb i (f .0)) (numbered-bare i fs) where
-  go : (b : Bool) → kept false (numbered i fs) ≡ numbered i (bareHeads fs) →
-      kept false (cond b (f .1) (numbered i fs)) ≡ cond b (kept false (f .1)) (numbered i (bareHeads fs))
+  go : (b : Bool) → kept false (fieldNumbered i fs) ≡ fieldNumbered i (headsWithoutMaxLen fs) →
+      kept false (cond b (f .1) (fieldNumbered i fs)) ≡ cond b (kept false (f .1)) (fieldNumbered i (headsWithoutMaxLen fs))
   go true p = refl
   go false p = p
 
 -- the figures of one refusal are the same where the heads are, MaxLen apart, and the numbers of its pair
-figures-same : (s t : List ℕ) (fs gs : List (ℕ × Field)) (v : Verdict) → length s ≡ length t → bareHeads fs ≡ bareHeads gs →
-    ((e : Refusal) → v ≡ Not e → hasPair (numberOf e) ≡ true → (u16At s (placeOf e) ≡ u16At t (placeOf e)) × (u16At s (placeOf e + 2) ≡ u16At t (placeOf e + 2))) →
-    bareFigures (figuresOn s fs v) ≡ bareFigures (figuresOn t gs v)
+figures-same : (s t : List ℕ) (fs gs : List (ℕ × Field)) (v : Verdict) → length s ≡ length t → headsWithoutMaxLen fs ≡ headsWithoutMaxLen gs →
+    ((e : Refusal) → v ≡ Not e → failsAtPair (numberOf e) ≡ true → (u16At s (placeOf e) ≡ u16At t (placeOf e)) × (u16At s (placeOf e + 2) ≡ u16At t (placeOf e + 2))) →
+    figuresWithoutMaxLen (figuresOn s fs v) ≡ figuresWithoutMaxLen (figuresOn t gs v)
 unfolding figuresOf
 figures-same s t fs gs Clear l f h = refl
-figures-same s t fs gs (Not e) l f h = go (hasPair (numberOf e)) refl where
-  head : kept false (numbered (fieldOf e) fs) ≡ kept false (numbered (fieldOf e) gs)
-  head = numbered-bare (fieldOf e) fs ∙ ap (numbered (fieldOf e)) f ∙ sym (numbered-bare (fieldOf e) gs)
+figures-same s t fs gs (Not e) l f h = go (failsAtPair (numberOf e)) refl where
+  head : kept false (fieldNumbered (fieldOf e) fs) ≡ kept false (fieldNumbered (fieldOf e) gs)
+  head = numbered-bare (fieldOf e) fs ∙ ap (fieldNumbered (fieldOf e)) f ∙ sym (numbered-bare (fieldOf e) gs)
 
-  go : (b : Bool) → hasPair (numberOf e) ≡ b →
-      bareFigures (figuresOf s (numbered (fieldOf e) fs) e) ≡ bareFigures (figuresOf t (numbered (fieldOf e) gs) e)
+  go : (b : Bool) → failsAtPair (numberOf e) ≡ b →
+      figuresWithoutMaxLen (figuresOf s (fieldNumbered (fieldOf e) fs) e) ≡ figuresWithoutMaxLen (figuresOf t (fieldNumbered (fieldOf e) gs) e)
   go true p = let x = h e refl p in simp (l, head, x .0, x .1)
   go false p = simp (l, head, p)
 
 -- ---- the pair of a refusal
 
-pair-number : (n : ℕ) → hasPair n ≡ true → OfPair n
+pair-number : (n : ℕ) → failsAtPair n ≡ true → OfPair n
 pair-number n h = go (eqb n 10) (eqb n 12) refl refl where
   within : leb 10 n && leb n 13 ≡ true
   within = and-left (leb 10 n && leb n 13) (not (eqb n 11)) h
@@ -111,14 +111,14 @@ pair-number n h = go (eqb n 10) (eqb n 12) refl refl where
       inr (inr (omega (arith, leb-true 10 n (and-left (leb 10 n) (leb n 13) within), leb-true n 13 (and-right (leb 10 n) (leb n 13) within), eqb-false n 10 p, eqb-false n 12 q, eqb-false n 11 (other (eqb n 11) (and-right (leb 10 n && leb n 13) (not (eqb n 11)) h)))))
 
 -- only a challenge has one
-no-pair : (k : Kind) (s : List ℕ) → (k ≡ Challenge → ⊥) → (e : Refusal) → readAs k s ≡ Not e → hasPair (numberOf e) ≡ true → ⊥
+no-pair : (k : Kind) (s : List ℕ) → (k ≡ Challenge → ⊥) → (e : Refusal) → readAs k s ≡ Not e → failsAtPair (numberOf e) ≡ true → ⊥
 no-pair k s other e h p = go (why k s _ _ _ (refused-as (readAs k s) e h) .fails) where
   go : FailsAt k s (numberOf e) (fieldOf e) (placeOf e) → ⊥
   go (at-field f z) = omega (arith, up-to-9 _ s (numberOf e) (fieldOf e) f, by-pair (numberOf e) (λ m. 10 ≤ m) (pair-number (numberOf e) p) (omega arith) (omega arith) (omega arith))
   go (at-pair b q c i x l t f z) = other c
 
 -- and its numbers are no ignored bytes
-module _ (s t : List ℕ) (d : DifferInIgnored challenge s t) (e : Refusal) (h : readAs Challenge s ≡ Not e) (p : hasPair (numberOf e) ≡ true) where
+module _ (s t : List ℕ) (d : DifferInIgnored challenge s t) (e : Refusal) (h : readAs Challenge s ≡ Not e) (p : failsAtPair (numberOf e) ≡ true) where
   reason : Why Challenge s (numberOf e) (fieldOf e) (placeOf e)
   reason = why Challenge s _ _ _ (refused-as (readAs Challenge s) e h)
 
@@ -147,20 +147,20 @@ module _ (s t : List ℕ) (d : DifferInIgnored challenge s t) (e : Refusal) (h :
 
 -- ---- the print
 
-print-same : (k : Kind) (s t : List ℕ) → length s ≡ length t → readAs k s ≡ readAs k t → bareHeads (fieldsOf k s) ≡ bareHeads (fieldsOf k t) →
-    ((e : Refusal) → readAs k s ≡ Not e → hasPair (numberOf e) ≡ true → (u16At s (placeOf e) ≡ u16At t (placeOf e)) × (u16At s (placeOf e + 2) ≡ u16At t (placeOf e + 2))) →
+print-same : (k : Kind) (s t : List ℕ) → length s ≡ length t → readAs k s ≡ readAs k t → headsWithoutMaxLen (fieldsByNumber k s) ≡ headsWithoutMaxLen (fieldsByNumber k t) →
+    ((e : Refusal) → readAs k s ≡ Not e → failsAtPair (numberOf e) ≡ true → (u16At s (placeOf e) ≡ u16At t (placeOf e)) × (u16At s (placeOf e + 2) ≡ u16At t (placeOf e + 2))) →
     explainedAs k s ≡ explainedAs k t
 unfolding explainedAs figuresAs checkLines
 print-same k s t l v f h =
     lines-bare true (figuresAs k s) (checksOf k)
     ∙ ap (λ (g : Given). linesFrom true g (checksOf k))
-    (figures-same s t (fieldsOf k s) (fieldsOf k t) (readAs k s) l f h ∙ ap (λ (x : Verdict). bareFigures (figuresOn t (fieldsOf k t) x)) v)
+    (figures-same s t (fieldsByNumber k s) (fieldsByNumber k t) (readAs k s) l f h ∙ ap (λ (x : Verdict). figuresWithoutMaxLen (figuresOn t (fieldsByNumber k t) x)) v)
     ∙ sym (lines-bare true (figuresAs k t) (checksOf k))
 
 secret-print : (s t : List ℕ) → DifferInSecrets s t → explainedAs Authenticate s ≡ explainedAs Authenticate t
 secret-print s t d =
     print-same Authenticate s t (d .length-same) (ap authVerdict (secret-read s t d .reading))
-    (ap (λ (f : AuthFields). bareHeads (A.allFields f)) (secret-fields s t d (flagsAt s 60) ∙ ap (λ (w : NegotiateFlags). A.fieldsAt t w) (secret-flags s t d)))
+    (ap (λ (f : AuthFields). headsWithoutMaxLen (A.allFields f)) (secret-fields s t d (flagsAt s 60) ∙ ap (λ (w : NegotiateFlags). A.fieldsAt t w) (secret-flags s t d)))
     (λ e h p. absurd (no-pair Authenticate s not-authenticate e h p))
 
 pub secret-explained : SecretExplained
@@ -174,15 +174,15 @@ secret-explained s t d e =
     }
 
 -- a reading's verdict doesn't go by MaxLen
-nego-verdict : (r : NegoReading) → negoVerdict r ≡ negoVerdict (bareNegotiate r)
+nego-verdict : (r : NegoReading) → negoVerdict r ≡ negoVerdict (negotiateWithoutMaxLen r)
 nego-verdict (NegoTaken m) = refl
 nego-verdict (NegoRefused e) = refl
 
-auth-verdict : (r : AuthReading) → authVerdict r ≡ authVerdict (bareAuthenticate r)
+auth-verdict : (r : AuthReading) → authVerdict r ≡ authVerdict (authenticateWithoutMaxLen r)
 auth-verdict (AuthTaken a) = refl
 auth-verdict (AuthRefused e) = refl
 
-chal-verdict : (r : ChalReading) → chalVerdict r ≡ chalVerdict (bareChallenge r)
+chal-verdict : (r : ChalReading) → chalVerdict r ≡ chalVerdict (challengeWithoutMaxLen r)
 chal-verdict (ChalTaken c) = refl
 chal-verdict (ChalRefused e) = refl
 

@@ -23,16 +23,16 @@ use Rattle.read_challenge.specs.declared.Reading.{Reading}
 use Rattle.read_challenge.specs.declared.Reading.the-variants.{Taken, Refused}
 use Rattle.read_challenge.specs.Challenge.{readChallenge}
 use Rattle.line_checks.specs.declared.Figures.{Figures as Given}
-use Rattle.line_checks.specs.Checks.{aboutPair, plainWords, pairText, pairWords, messageWords, figureWords, failedWords, wordsOf, lineOf, linesFrom, checkLines}
-use Rattle.verdict.specs.Verdict.{chalVerdict, readAs, hasPair}
-use Rattle.explain.specs.Explain.{checksOf, fieldsOf, numbered, ofPair, figuresOf, figuresOn, figuresAs, explainedAs, explanation}
+use Rattle.line_checks.specs.Checks.{aboutPair, plainWords, pairFigures, pairWords, messageWords, figureWords, failedWords, wordsOf, checkLine, linesFrom, checkLines}
+use Rattle.verdict.specs.Verdict.{chalVerdict, readAs, failsAtPair}
+use Rattle.explain.specs.Explain.{checksOf, fieldsByNumber, fieldNumbered, ofPair, figuresOf, figuresOn, figuresAs, explainedAs, explanation}
 use Rattle.explain.proofs.Laws.{no-head}
 use Rattle.demands.specs.Message.{Nonempty}
-use Rattle.demands.specs.Explained.{formatOf, ExplainedShort, ExplainedTells}
+use Rattle.demands.specs.Explained.{formatOf, ExplainedShort, ExplainedDecodes}
 use Rattle.demands.proofs.TakenExactly.{authenticate-judged}
 use Rattle.demands.proofs.TakenExactly.Negotiate.{negotiate-judged}
 use Rattle.demands.proofs.TakenExactly.Places.{place-in-message}
-use Rattle.demands.proofs.Answers.Told.{number-small}
+use Rattle.demands.proofs.Answers.Decoded.{number-small}
 use Rattle.demands.proofs.Digits.{decimal-has-value}
 use Rattle.demands.proofs.Explained.{head-is}
 use Rattle.demands.proofs.Answers.{short-tells}
@@ -52,7 +52,7 @@ record Small (g : Given) : Type 0 where
   size : g .size < 65536
 
 pair-bound : (g : Given) → Small g → length (pairWords g) ≤ 29
-unfolding pairWords pairText
+unfolding pairWords pairFigures
 pair-bound g w = go (aboutPair (g .number)) where
   go : (t : Bool) → length (cond t (numberWord (ascii " at=") (g .at) ++ (numberWord (ascii " id=") (g .id) ++ numberWord (ascii " size=") (g .size))) []) ≤ 29
   go true =
@@ -75,24 +75,24 @@ failed-bound g w =
     ))
 
 -- a check that is not reached has the longest line but for the one that failed
-held-bound : (g : Given) (n : ℕ) → eqb n (g .number) ≡ false → length (lineOf true g n) ≤ length (lineOf false g n)
-unfolding lineOf wordsOf plainWords
+held-bound : (g : Given) (n : ℕ) → eqb n (g .number) ≡ false → length (checkLine true g n) ≤ length (checkLine false g n)
+unfolding checkLine wordsOf plainWords
 held-bound g n h = simp (h, length-append) (omega arith)
 
-failed-line : (g : Given) (n : ℕ) → Small g → eqb n (g .number) ≡ true → length (lineOf true g n) ≤ 98
-unfolding lineOf wordsOf
+failed-line : (g : Given) (n : ℕ) → Small g → eqb n (g .number) ≡ true → length (checkLine true g n) ≤ 98
+unfolding checkLine wordsOf
 failed-line g n w h = simp (h, length-append) (omega (arith, failed-bound g w))
 
 -- that line has at least 20 bytes
-unreached-size : (g : Given) (n : ℕ) → 20 ≤ length (lineOf false g n)
-unfolding lineOf wordsOf plainWords numberWord
+unreached-size : (g : Given) (n : ℕ) → 20 ≤ length (checkLine false g n)
+unfolding checkLine wordsOf plainWords numberWord
 unreached-size g n = simp length-append (omega (arith, decimal-has-value n .some))
 
 lines-bound : (g : Given) (cs : List ℕ) → Small g → length (linesFrom true g cs) ≤ 78 + length (linesFrom false g cs)
 lines-bound g [] w = omega arith
 lines-bound g (c ∷ cs) w = go (eqb c (g .number)) refl (lines-bound g cs w) where
   go : (t : Bool) → eqb c (g .number) ≡ t → length (linesFrom true g cs) ≤ 78 + length (linesFrom false g cs) →
-      length (lineOf true g c ++ linesFrom (true && not (eqb c (g .number))) g cs) ≤ 78 + length (lineOf false g c ++ linesFrom false g cs)
+      length (checkLine true g c ++ linesFrom (true && not (eqb c (g .number))) g cs) ≤ 78 + length (checkLine false g c ++ linesFrom false g cs)
   go true p rest = rw p (simp length-append (omega (arith, failed-line g c w p, unreached-size g c)))
   go false p rest = rw p (simp length-append (omega (arith, held-bound g c p, rest)))
 
@@ -107,20 +107,20 @@ module _ (s : List ℕ) (bytes : (i : ℕ) → getD s i 0 < 256) where
   small32 at = omega (arith, small16 at, small16 (at + 2))
 
   of-pair : (n at : ℕ) → ofPair n (u16At s at) < 65536
-  of-pair n at = go (hasPair n) where
+  of-pair n at = go (failsAtPair n) where
     go : (t : Bool) → cond t (u16At s at) 0 < 65536
     go true = omega (arith, small16 at)
     go false = omega arith
 
   head-small : (k : Kind) (i : ℕ) → (0 < i → Nonempty (formatOf k) s i) →
-      (i < 10) × (numbered i (fieldsOf k s) .offset < 4294967296) × (numbered i (fieldsOf k s) .len < 65536)
+      (i < 10) × (fieldNumbered i (fieldsByNumber k s) .offset < 4294967296) × (fieldNumbered i (fieldsByNumber k s) .len < 65536)
   head-small k i h = go (ltb 0 i) refl where
     last : (k : Kind) → formatOf k .last ≤ 6
     last Negotiate = omega arith
     last Challenge = omega arith
     last Authenticate = omega arith
 
-    go : (t : Bool) → ltb 0 i ≡ t → (i < 10) × (numbered i (fieldsOf k s) .offset < 4294967296) × (numbered i (fieldsOf k s) .len < 65536)
+    go : (t : Bool) → ltb 0 i ≡ t → (i < 10) × (fieldNumbered i (fieldsByNumber k s) .offset < 4294967296) × (fieldNumbered i (fieldsByNumber k s) .len < 65536)
     go true p =
         let w = h (ltb-true 0 i p) in
         let x = head-is k s i w in
@@ -141,7 +141,7 @@ module _ (s : List ℕ) (bytes : (i : ℕ) → getD s i 0 < 256) where
   given-small : (k : Kind) → Small (figuresAs k s)
   unfolding figuresAs figuresOf
   given-small k = go (readAs k s) refl where
-    go : (v : Verdict) → readAs k s ≡ v → Small (figuresOn s (fieldsOf k s) v)
+    go : (v : Verdict) → readAs k s ≡ v → Small (figuresOn s (fieldsByNumber k s) v)
     go Clear h =
         record {
           number = omega arith;
@@ -169,7 +169,7 @@ module _ (s : List ℕ) (bytes : (i : ℕ) → getD s i 0 < 256) where
 -- ---- the print
 
 none-reached : (k : Kind) (g : Given) → length (linesFrom false g (checksOf k)) ≤ 244
-unfolding lineOf wordsOf plainWords numberWord decimal decimalSize
+unfolding checkLine wordsOf plainWords numberWord decimal decimalSize
 none-reached Negotiate g = let n : length (linesFrom false g (checksOf Negotiate)) ≡ 140 = refl in omega (arith, n)
 none-reached Challenge g = let n : length (linesFrom false g (checksOf Challenge)) ≡ 244 = refl in omega (arith, n)
 none-reached Authenticate g = let n : length (linesFrom false g (checksOf Authenticate)) ≡ 180 = refl in omega (arith, n)
@@ -180,5 +180,5 @@ explained-short s bytes =
     let k = kindOf s in
     omega (arith, lines-bound (figuresAs k s) (checksOf k) (given-small s bytes k), none-reached k (figuresAs k s))
 
-pub explained-tells : ExplainedTells
-explained-tells s out bytes = short-tells (explanation s) out (omega (arith, explained-short s bytes))
+pub explained-decodes : ExplainedDecodes
+explained-decodes s out bytes = short-tells (explanation s) out (omega (arith, explained-short s bytes))

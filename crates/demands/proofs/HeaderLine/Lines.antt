@@ -12,8 +12,8 @@ use Rattle.wire.specs.Text.{ascii}
 use Rattle.wire.specs.declared.check.Checked.the-variants.{Held}
 use Rattle.wire.proofs.Laws.{held-true}
 use Rattle.wire.proofs.Bools.{and-left, and-right}
-use Rattle.http_header.specs.HttpHeader.{upper, schemeHolds, afterSpaces, textOf}
-use Rattle.demands.specs.HeaderLine.{InCase, SchemeAt, TextAfter, TextIsThere, Spelt, LineOf}
+use Rattle.http_header.specs.HttpHeader.{upper, schemeHolds, afterSpaces, textAfterScheme}
+use Rattle.demands.specs.HeaderLine.{InCase, SchemeAt, TextAfter, TextIsThere, EqualIgnoringCase, LineOf}
 
 -- ---- letters
 
@@ -103,15 +103,15 @@ pub starts-so : (b : List ℕ) → (getD b 0 0 ≡ 0x20 → ⊥) → afterSpaces
 starts-so [] h = refl
 starts-so (c ∷ b) h = simp (ne-eqb c 0x20 h)
 
-pub text-is : (t b : List ℕ) → TextAfter t b → b ≡ textOf t
-unfolding textOf
+pub text-is : (t b : List ℕ) → TextAfter t b → b ≡ textAfterScheme t
+unfolding textAfterScheme
 text-is t b a = sym (ap afterSpaces (a .split) ∙ spaces-go (a .spaces) b ∙ starts-so b (a .no-space))
 
 pub text-is-there : TextIsThere
-unfolding textOf
+unfolding textAfterScheme
 text-is-there t =
     record {
-      text = textOf t;
+      text = textAfterScheme t;
       follows = record { spaces = spaced (drop 4 t) .0; split = spaced (drop 4 t) .1; no-space = none-left (drop 4 t) };
       only = λ b a. text-is t b a;
     }
@@ -119,8 +119,8 @@ text-is-there t =
 -- ---- a line of a word, spaces and a text
 
 -- a line with its scheme word is one, of the text that follows
-pub line-of : (t : List ℕ) → SchemeAt t → LineOf (textOf t) t
-unfolding textOf
+pub line-of : (t : List ℕ) → SchemeAt t → LineOf (textAfterScheme t) t
+unfolding textAfterScheme
 line-of [] s = absurd (omega (arith, s .space))
 line-of (a ∷ []) s = absurd (omega (arith, s .space))
 line-of (a ∷ b ∷ []) s = absurd (omega (arith, s .space))
@@ -130,7 +130,7 @@ line-of (a ∷ b ∷ c ∷ d ∷ e ∷ t) s =
     record {
       word = a ∷ b ∷ c ∷ d ∷ [];
       spaces = suc (spaced t .0);
-      spelt = (s .letter-n, (s .letter-t, (s .letter-l, (s .letter-m, tt))));
+      letters = (s .letter-n, (s .letter-t, (s .letter-l, (s .letter-m, tt))));
       some = omega arith;
       whole =
           ap₂ (λ (x : ℕ) (y : List ℕ). a ∷ b ∷ c ∷ d ∷ x ∷ y) (s .space) (spaced t .1)
@@ -139,7 +139,7 @@ line-of (a ∷ b ∷ c ∷ d ∷ e ∷ t) s =
 
 -- and back: such a line has its scheme word, and what follows is its text, but for spaces in front
 module _ (b : List ℕ) where
-  scheme-word : (word : List ℕ) (n : ℕ) → Spelt (ascii "NTLM") word → 1 ≤ n → SchemeAt (word ++ (replicate n 0x20 ++ b))
+  scheme-word : (word : List ℕ) (n : ℕ) → EqualIgnoringCase (ascii "NTLM") word → 1 ≤ n → SchemeAt (word ++ (replicate n 0x20 ++ b))
   scheme-word [] n w l = absurd w
   scheme-word (x ∷ []) n w l = absurd (w .1)
   scheme-word (x ∷ y ∷ []) n w l = absurd (w .1 .1)
@@ -149,8 +149,8 @@ module _ (b : List ℕ) where
   scheme-word (x ∷ y ∷ z ∷ u ∷ []) (suc n) w l =
       record { letter-n = w .0; letter-t = w .1 .0; letter-l = w .1 .1 .0; letter-m = w .1 .1 .1 .0; space = refl }
 
-  word-text : (word : List ℕ) (n : ℕ) → Spelt (ascii "NTLM") word → textOf (word ++ (replicate n 0x20 ++ b)) ≡ afterSpaces b
-  unfolding textOf
+  word-text : (word : List ℕ) (n : ℕ) → EqualIgnoringCase (ascii "NTLM") word → textAfterScheme (word ++ (replicate n 0x20 ++ b)) ≡ afterSpaces b
+  unfolding textAfterScheme
   word-text [] n w = absurd w
   word-text (x ∷ []) n w = absurd (w .1)
   word-text (x ∷ y ∷ []) n w = absurd (w .1 .1)
@@ -159,7 +159,7 @@ module _ (b : List ℕ) where
   word-text (x ∷ y ∷ z ∷ u ∷ []) n w = spaces-go n b
 
   pub line-scheme : (t : List ℕ) → LineOf b t → schemeHolds t ≡ Held
-  line-scheme t l = scheme-held t (subst SchemeAt (sym (l .whole)) (scheme-word (l .word) (l .spaces) (l .spelt) (l .some)))
+  line-scheme t l = scheme-held t (subst SchemeAt (sym (l .whole)) (scheme-word (l .word) (l .spaces) (l .letters) (l .some)))
 
-  pub line-text : (t : List ℕ) → LineOf b t → textOf t ≡ afterSpaces b
-  line-text t l = ap textOf (l .whole) ∙ word-text (l .word) (l .spaces) (l .spelt)
+  pub line-text : (t : List ℕ) → LineOf b t → textAfterScheme t ≡ afterSpaces b
+  line-text t l = ap textAfterScheme (l .whole) ∙ word-text (l .word) (l .spaces) (l .letters)

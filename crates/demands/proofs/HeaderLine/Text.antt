@@ -9,7 +9,7 @@ use lib.Dec.{eqb}
 use lib.ListN.{length, getD}
 use borrow.Author.Tests.{eqb-true, eqb-false}
 use Rattle.wire.proofs.Bools.{and-left, and-right}
-use Rattle.base64.specs.Base64.{alphabet, letter, isLetter, valueOf, groupHolds, isEmpty, isBase64, decode}
+use Rattle.base64.specs.Base64.{alphabet, letter, isLetter, valueOf, groupHolds, isEmptyText, isBase64, decode}
 use Rattle.base64.proofs.Alphabet.{value-letter, is-letter, letter-value, value-small, pad-no-letter}
 use Rattle.base64.proofs.Size.{decoded-length}
 use Rattle.demands.specs.HeaderLine.{characters, OneTable, HasValue, NotBase64, decodedSize}
@@ -119,13 +119,13 @@ base64-groups [] g = refl
 base64-groups (a ∷ []) g = absurd (true-not-false (sym g))
 base64-groups (a ∷ b ∷ []) g = absurd (true-not-false (sym g))
 base64-groups (a ∷ b ∷ c ∷ []) g = absurd (true-not-false (sym g))
-base64-groups (a ∷ b ∷ c ∷ d ∷ t) g = omega (arith, base64-groups t (and-right (groupHolds (isEmpty t) a b c d) (isBase64 t) g))
+base64-groups (a ∷ b ∷ c ∷ d ∷ t) g = omega (arith, base64-groups t (and-right (groupHolds (isEmptyText t) a b c d) (isBase64 t) g))
 
-empty-none : (t : List ℕ) → isEmpty t ≡ true → length t ≡ 0
+empty-none : (t : List ℕ) → isEmptyText t ≡ true → length t ≡ 0
 empty-none [] h = refl
 empty-none (x ∷ t) h = absurd (true-not-false (sym h))
 
-full-some : (t : List ℕ) → isEmpty t ≡ false → 0 < length t
+full-some : (t : List ℕ) → isEmptyText t ≡ false → 0 < length t
 full-some [] h = absurd (true-not-false h)
 full-some (x ∷ t) h = omega arith
 
@@ -140,15 +140,15 @@ has-fault [] g = absurd (true-not-false g)
 has-fault (a ∷ []) g = inr (inr (inl (λ e. omega (arith, e))))
 has-fault (a ∷ b ∷ []) g = inr (inr (inl (λ e. omega (arith, e))))
 has-fault (a ∷ b ∷ c ∷ []) g = inr (inr (inl (λ e. omega (arith, e))))
-has-fault (a ∷ b ∷ c ∷ d ∷ t) g = go (isBase64 t) (isEmpty t) refl refl (has-fault t) where
-  go : (x y : Bool) → isBase64 t ≡ x → isEmpty t ≡ y → (isBase64 t ≡ false → NotBase64 t) → NotBase64 (a ∷ b ∷ c ∷ d ∷ t)
+has-fault (a ∷ b ∷ c ∷ d ∷ t) g = go (isBase64 t) (isEmptyText t) refl refl (has-fault t) where
+  go : (x y : Bool) → isBase64 t ≡ x → isEmptyText t ≡ y → (isBase64 t ≡ false → NotBase64 t) → NotBase64 (a ∷ b ∷ c ∷ d ∷ t)
   go false y e f i = later a b c d t (i e)
   go true true e f i =
       last-fails a b c d t (empty-none t f)
-      (sym (ap (λ (z : Bool). groupHolds z a b c d) f) ∙ and-false (groupHolds (isEmpty t) a b c d) (isBase64 t) g e)
+      (sym (ap (λ (z : Bool). groupHolds z a b c d) f) ∙ and-false (groupHolds (isEmptyText t) a b c d) (isBase64 t) g e)
   go true false e f i =
       inner-fails a b c d t (omega (arith, full-some t f, base64-groups t e))
-      (sym (ap (λ (z : Bool). groupHolds z a b c d) f) ∙ and-false (groupHolds (isEmpty t) a b c d) (isBase64 t) g e)
+      (sym (ap (λ (z : Bool). groupHolds z a b c d) f) ∙ and-false (groupHolds (isEmptyText t) a b c d) (isBase64 t) g e)
 
 -- ---- what is in base64 has none
 
@@ -276,13 +276,13 @@ no-fault (a ∷ []) g = absurd (true-not-false (sym g))
 no-fault (a ∷ b ∷ []) g = absurd (true-not-false (sym g))
 no-fault (a ∷ b ∷ c ∷ []) g = absurd (true-not-false (sym g))
 no-fault (a ∷ b ∷ c ∷ d ∷ t) g =
-    by-kind (kind-of (isEmpty t) a b c d (and-left (groupHolds (isEmpty t) a b c d) (isBase64 t) g))
+    by-kind (kind-of (isEmptyText t) a b c d (and-left (groupHolds (isEmptyText t) a b c d) (isBase64 t) g))
     (base64-groups t rest) (no-fault t rest)
   where
     rest : isBase64 t ≡ true
-    rest = and-right (groupHolds (isEmpty t) a b c d) (isBase64 t) g
+    rest = and-right (groupHolds (isEmptyText t) a b c d) (isBase64 t) g
 
-    by-kind : Kind (isEmpty t) a b c d → length t % 4 ≡ 0 → (NotBase64 t → ⊥) → NotBase64 (a ∷ b ∷ c ∷ d ∷ t) → ⊥
+    by-kind : Kind (isEmptyText t) a b c d → length t % 4 ≡ 0 → (NotBase64 t → ⊥) → NotBase64 (a ∷ b ∷ c ∷ d ∷ t) → ⊥
     by-kind (four la lb lc ld) n i = four-right a b c d t n la lb lc ld i
     by-kind (padded l la lb lc pd z) n i = padded-right a b c d t n la lb (empty-none t l) lc pd z
     by-kind (twice l la lb pc pd z) n i = twice-right a b c d t n la lb (empty-none t l) pc pd z

@@ -41,7 +41,7 @@ use Rattle.line_nl_auth.specs.Nl.{nlOem, nlUtf8, nlText}
 use Rattle.line_nl_string.specs.StringText.{oemText, utf8Text}
 use Rattle.demands.specs.Ignored.{SameBytes, SameFields, SameAnswer, SameNegotiate, SameChallenge, SameNlAuth, AuthenticateLineIgnored, NegotiateLineIgnored, ChallengeLineIgnored, MaxWordSaid, NtlmLineIgnored, NlAuthLineIgnored}
 use Rattle.demands.specs.Message.{Format, negotiate, authenticate, challenge, DifferInIgnored}
-use Rattle.demands.specs.MaxLen.{bareAuthenticate, bareChallenge, bareNegotiate, EndsInMax, AlikeToMax}
+use Rattle.demands.specs.MaxLen.{authenticateWithoutMaxLen, challengeWithoutMaxLen, negotiateWithoutMaxLen, EndsInMax, AlikeToMax}
 use Rattle.demands.specs.TakenExactly.{IsTaken}
 use Rattle.verdict.specs.Verdict.{negoVerdict, chalVerdict, authVerdict}
 use Rattle.demands.proofs.Alike.{same32}
@@ -91,7 +91,7 @@ auth-ends s a h =
       said = rw (taken-answer s a h) (digits-said authenticate s (A.allFields (A.fieldsAt s (flagsAt s 60))) (auth-all s) refl);
     }
 
-auth-before-same : (s t : List ℕ) (a b : Message) → SameFields s t (a .fields) → bareAuthenticate (Taken a) ≡ bareAuthenticate (Taken b) →
+auth-before-same : (s t : List ℕ) (a b : Message) → SameFields s t (a .fields) → authenticateWithoutMaxLen (Taken a) ≡ authenticateWithoutMaxLen (Taken b) →
     authBefore t b ≡ authBefore s a
 unfolding authBefore authNames fieldBytes
 auth-before-same s t a b f e =
@@ -111,7 +111,7 @@ authenticate-line-ignored s t d = (
     w : SameAnswer s t
     w = authenticate-ignored s t d
 
-    taken : (r q : Reading) → readAuthenticate s .reading ≡ r → readAuthenticate t .reading ≡ q → bareAuthenticate r ≡ bareAuthenticate q →
+    taken : (r q : Reading) → readAuthenticate s .reading ≡ r → readAuthenticate t .reading ≡ q → authenticateWithoutMaxLen r ≡ authenticateWithoutMaxLen q →
         IsTaken (authVerdict r) → AlikeToMax authenticate s t (authLine s r) (authLine t q)
     taken (Taken a) (Taken b) p q e i =
         alike-to authenticate s t _ _ (authBefore s a) (auth-ends s a p)
@@ -119,7 +119,7 @@ authenticate-line-ignored s t d = (
     taken (Taken a) (Refused x) p q e i = absurd (let z : _≡_ {A = ℕ} 0 1 = cc in omega arith)
     taken (Refused x) q p r e i = absurd i
 
-    refused : (r q : Reading) → bareAuthenticate r ≡ bareAuthenticate q → (IsTaken (authVerdict r) → ⊥) → authLine s r ≡ authLine t q
+    refused : (r q : Reading) → authenticateWithoutMaxLen r ≡ authenticateWithoutMaxLen q → (IsTaken (authVerdict r) → ⊥) → authLine s r ≡ authLine t q
     refused (Taken a) q e i = absurd (i tt)
     refused (Refused x) (Taken b) e i = absurd (let z : _≡_ {A = ℕ} 0 1 = cc in omega arith)
     refused (Refused x) (Refused y) e i = ap refusedLine (let same : x ≡ y = cc in same)
@@ -161,7 +161,7 @@ chal-ends s c h =
     }
 
 chal-before-same : (s t : List ℕ) (c e : Asked) → SameBytes s t (c .fields .«target_name») → SameBytes s t (c .fields .«target_info») →
-    bareChallenge (ChallengeTaken c) ≡ bareChallenge (ChallengeTaken e) → chalBefore t e ≡ chalBefore s c
+    challengeWithoutMaxLen (ChallengeTaken c) ≡ challengeWithoutMaxLen (ChallengeTaken e) → chalBefore t e ≡ chalBefore s c
 unfolding chalBefore fieldBytes
 chal-before-same s t c e n i p =
     sym (ap (before t) p) ∙ sym (simp (n, i))
@@ -180,7 +180,7 @@ challenge-line-ignored s t d = (
     w : SameChallenge s t
     w = challenge-ignored s t d
 
-    taken : (r q : ChallengeReading) → readChallenge s .reading ≡ r → readChallenge t .reading ≡ q → bareChallenge r ≡ bareChallenge q →
+    taken : (r q : ChallengeReading) → readChallenge s .reading ≡ r → readChallenge t .reading ≡ q → challengeWithoutMaxLen r ≡ challengeWithoutMaxLen q →
         IsTaken (chalVerdict r) → AlikeToMax challenge s t (chalLine s r) (chalLine t q)
     taken (ChallengeTaken c) (ChallengeTaken e) p q same i =
         alike-to challenge s t _ _ (chalBefore s c) (chal-ends s c p)
@@ -188,7 +188,7 @@ challenge-line-ignored s t d = (
     taken (ChallengeTaken c) (ChallengeRefused x) p q same i = absurd (let z : _≡_ {A = ℕ} 0 1 = cc in omega arith)
     taken (ChallengeRefused x) q p r same i = absurd i
 
-    refused : (r q : ChallengeReading) → bareChallenge r ≡ bareChallenge q → (IsTaken (chalVerdict r) → ⊥) → chalLine s r ≡ chalLine t q
+    refused : (r q : ChallengeReading) → challengeWithoutMaxLen r ≡ challengeWithoutMaxLen q → (IsTaken (chalVerdict r) → ⊥) → chalLine s r ≡ chalLine t q
     refused (ChallengeTaken c) q same i = absurd (i tt)
     refused (ChallengeRefused x) (ChallengeTaken e) same i = absurd (let z : _≡_ {A = ℕ} 0 1 = cc in omega arith)
     refused (ChallengeRefused x) (ChallengeRefused y) same i = ap refusedLine (let e : x ≡ y = cc in e)
@@ -214,7 +214,7 @@ nego-ends s m h =
     }
 
 nego-before-same : (s t : List ℕ) (m o : Opening) → SameBytes s t (m .fields .domain) → SameBytes s t (m .fields .workstation) →
-    bareNegotiate (NegotiateTaken m) ≡ bareNegotiate (NegotiateTaken o) → negoBefore t o ≡ negoBefore s m
+    negotiateWithoutMaxLen (NegotiateTaken m) ≡ negotiateWithoutMaxLen (NegotiateTaken o) → negoBefore t o ≡ negoBefore s m
 unfolding negoBefore negoNames fieldBytes
 nego-before-same s t m o f g e =
     sym (ap (before t) e) ∙ sym (simp (f, g))
@@ -233,7 +233,7 @@ negotiate-line-ignored s t d = (
     w : SameNegotiate s t
     w = negotiate-ignored s t d
 
-    taken : (r q : NegotiateReading) → readNegotiate s ≡ r → readNegotiate t ≡ q → bareNegotiate r ≡ bareNegotiate q →
+    taken : (r q : NegotiateReading) → readNegotiate s ≡ r → readNegotiate t ≡ q → negotiateWithoutMaxLen r ≡ negotiateWithoutMaxLen q →
         IsTaken (negoVerdict r) → AlikeToMax negotiate s t (negoLine s r) (negoLine t q)
     taken (NegotiateTaken m) (NegotiateTaken o) p q e i =
         alike-to negotiate s t _ _ (negoBefore s m) (nego-ends s m p)
@@ -241,7 +241,7 @@ negotiate-line-ignored s t d = (
     taken (NegotiateTaken m) (NegotiateRefused x) p q e i = absurd (let z : _≡_ {A = ℕ} 0 1 = cc in omega arith)
     taken (NegotiateRefused x) q p r e i = absurd i
 
-    refused : (r q : NegotiateReading) → bareNegotiate r ≡ bareNegotiate q → (IsTaken (negoVerdict r) → ⊥) → negoLine s r ≡ negoLine t q
+    refused : (r q : NegotiateReading) → negotiateWithoutMaxLen r ≡ negotiateWithoutMaxLen q → (IsTaken (negoVerdict r) → ⊥) → negoLine s r ≡ negoLine t q
     refused (NegotiateTaken m) q e i = absurd (i tt)
     refused (NegotiateRefused x) (NegotiateTaken o) e i = absurd (let z : _≡_ {A = ℕ} 0 1 = cc in omega arith)
     refused (NegotiateRefused x) (NegotiateRefused y) e i = ap refusedLine (let same : x ≡ y = cc in same)

@@ -25,7 +25,7 @@ use Rattle.read_dns_name.specs.DnsName.{readName}
 use Rattle.read_nl_auth.specs.declared.string.Scan.{Scan}
 use Rattle.read_nl_auth.specs.declared.string.Scan.the-variants.{Found, Missing}
 use Rattle.nl_auth_flags.specs.Flags.{nbDomain, nbComputer, dnsDomain, dnsHost, utf8Computer}
-use Rattle.read_nl_auth.specs.NlAuth.{noString, labelsOf, beforeZero, holdsZero, stringAt, stringUnder, onFound, refusalIn, nameString, onName, nameAt, nameUnder, onNamed, flagsAt, readUtf8, readRequest, readResponse, readNlAuth}
+use Rattle.read_nl_auth.specs.NlAuth.{noString, labelsOf, stringLength, holdsZero, stringAt, stringUnder, onFound, refusalIn, nameString, onName, nameAt, nameUnder, onNamed, flagsAt, readUtf8, readRequest, readResponse, readNlAuth}
 use Rattle.demands.specs.Ignored.{SameString, NlDifferInIgnored, NlAuthIgnored}
 use Rattle.demands.specs.NlAuth.{typeOf, numbered, maskOf, StandsAt, plain, name, Strings}
 use Rattle.demands.specs.OwnBytes.{OwnString, OwnName, OwnRequest, OwnResponse}
@@ -49,17 +49,17 @@ module _ (s t : List ℕ) (d : NlDifferInIgnored s t) where
   unfolding stringUnder stringAt
   string-same b at e x y l h = rw (buffer-same at l) (go b) where
     here : Scan
-    here = cond (holdsZero (drop at t)) (Found (record { offset = at; len = beforeZero (drop at t); jumps = 0 }) (at + beforeZero (drop at t) + 1)) Missing
+    here = cond (holdsZero (drop at t)) (Found (record { offset = at; len = stringLength (drop at t); jumps = 0 }) (at + stringLength (drop at t) + 1)) Missing
 
     found : (z : Bool) →
-        onFound (cond z (Found (record { offset = at; len = beforeZero (drop at t); jumps = 0 }) (at + beforeZero (drop at t) + 1)) Missing) e x
-        ≡ onFound (cond z (Found (record { offset = at; len = beforeZero (drop at t); jumps = 0 }) (at + beforeZero (drop at t) + 1)) Missing) e y
-    found true = h (record { offset = at; len = beforeZero (drop at t); jumps = 0 }) (at + beforeZero (drop at t) + 1) (omega arith)
+        onFound (cond z (Found (record { offset = at; len = stringLength (drop at t); jumps = 0 }) (at + stringLength (drop at t) + 1)) Missing) e x
+        ≡ onFound (cond z (Found (record { offset = at; len = stringLength (drop at t); jumps = 0 }) (at + stringLength (drop at t) + 1)) Missing) e y
+    found true = h (record { offset = at; len = stringLength (drop at t); jumps = 0 }) (at + stringLength (drop at t) + 1) (omega arith)
     found false = refl
 
     go : (c : Bool) →
-        onFound (cond c (cond (holdsZero (drop at t)) (Found (record { offset = at; len = beforeZero (drop at t); jumps = 0 }) (at + beforeZero (drop at t) + 1)) Missing) (Found noString at)) e x
-        ≡ onFound (cond c (cond (holdsZero (drop at t)) (Found (record { offset = at; len = beforeZero (drop at t); jumps = 0 }) (at + beforeZero (drop at t) + 1)) Missing) (Found noString at)) e y
+        onFound (cond c (cond (holdsZero (drop at t)) (Found (record { offset = at; len = stringLength (drop at t); jumps = 0 }) (at + stringLength (drop at t) + 1)) Missing) (Found noString at)) e x
+        ≡ onFound (cond c (cond (holdsZero (drop at t)) (Found (record { offset = at; len = stringLength (drop at t); jumps = 0 }) (at + stringLength (drop at t) + 1)) Missing) (Found noString at)) e y
     go true = found (holdsZero (drop at t))
     go false = h noString at l
 

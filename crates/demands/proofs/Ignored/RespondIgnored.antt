@@ -17,10 +17,10 @@ use Rattle.respond.specs.declared.decision.Decided.{Decided}
 use Rattle.respond.specs.declared.decision.Decided.the-variants.{Taken, Refused}
 use Rattle.respond.specs.Answer.{refusing, sending, withDomain, respondTo}
 use Rattle.respond.specs.Decision.{decisionOn, onDecided, strengthHolds, serverNamesHold}
-use Rattle.respond.specs.Domain.{Part, ownPart, onFound, domainPart, domainToSend}
+use Rattle.respond.specs.Domain.{Part, ownPart, onPairFound, domainPart, domainToSend}
 use Rattle.target_info.specs.TargetInfo.{firstBy, timestampIn, serverNamesIn}
 use Rattle.demands.specs.Ignored.{DecisionIgnored, DomainIgnored, RespondIgnored, ThinCallsIgnored}
-use Rattle.demands.specs.ThinCalls.{goesBy}
+use Rattle.demands.specs.ThinCalls.{settingsFor}
 use Rattle.demands.proofs.Ignored.ChallengeIgnored.{made-same}
 use Rattle.demands.proofs.MaxLen.{kept}
 
@@ -36,7 +36,7 @@ decision-ignored settings s t d =
 part-of : List ℕ → ℕ → Challenge → List ℕ → Part
 part-of own n c info =
     cond (unicode (c .flags))
-    (onFound (firstBy isNbDomainName (pairsOf info))
+    (onPairFound (firstBy isNbDomainName (pairsOf info))
     (λ p. record {
       ofChallenge = true;
       start = cond (leb (c .fields .«target_info» .offset + c .fields .«target_info» .len) n) (c .fields .«target_info» .offset) 0 + p .at;
@@ -59,4 +59,4 @@ respond-ignored settings s t d x =
     ∙ ap (λ (p : Part). onDecided (refusing x) (decisionOn settings t) (λ z. sending settings z (withDomain (p .bytes) x))) (domain-ignored (x .domain) s t d)
 
 pub thin-calls-ignored : ThinCallsIgnored
-thin-calls-ignored call s t d = respond-ignored (goesBy call) s t d
+thin-calls-ignored call s t d = respond-ignored (settingsFor call) s t d

@@ -52,9 +52,9 @@ use Rattle.c_respond.specs.Respond.{decisionNumbers, decidedOutcome}
 use Rattle.target_info.specs.TargetInfo.{findPair}
 use Rattle.md5.specs.Digest.{wordBytes, md5}
 use Rattle.hmac_md5.specs.Hmac.{hmac}
-use Rattle.mic.specs.Mic.{micOf, checkMessages, whenClear, workOut}
+use Rattle.mic.specs.Mic.{micOf, checkInputs, whenClear, computedMic}
 use Rattle.c_mic.specs.Numbers.{handedOut}
-use Rattle.demands.specs.FromC.{Call, read-negotiate, read-timestamp, read-server-names, read-nl-auth, count-pairs, find-pair, next-pair, decide, work-out-mic, count, outcome, TwoArrayCall, read-authenticate, read-challenge, numberCount, byteCount, twoArrayOutcome, bytesBeside}
+use Rattle.demands.specs.FromC.{Call, read-negotiate, read-timestamp, read-server-names, read-nl-auth, count-pairs, find-pair, next-pair, decide, compute-mic, count, outcome, TwoArrayCall, read-authenticate, read-challenge, numberCount, byteCount, twoArrayOutcome, bytesBeside}
 use Rattle.demands.specs.Kept.{Front, Handed, CallFront, TwoArraysFront}
 use Rattle.demands.proofs.OwnBytes.ChallengeOwn.{taken-as}
 use Rattle.demands.proofs.Kept.{front-length, front-rest}
@@ -84,7 +84,7 @@ Counted n (numbers xs) = length xs ≡ n
 Counted n (refused e) = Unit
 
 counted : (c : Call) → Counted (count c) (outcome c)
-unfolding negotiateNumbers timestampNumbers serverNamesNumbers nlAuthNumbers foundNumbers pairNumbers decisionNumbers workOut
+unfolding negotiateNumbers timestampNumbers serverNamesNumbers nlAuthNumbers foundNumbers pairNumbers decisionNumbers computedMic
 counted (read-negotiate s) = go (readNegotiate s) where
   go : (r : NegotiateReading) → Counted 7 (negotiateOutcome r)
   go (NegotiateTaken m) = refl
@@ -123,7 +123,7 @@ counted (decide settings s) = go (decisionOn (settingsOf settings) s) where
     by (Time t) = refl
     by NoTime = refl
   go (Declines e) = tt
-counted (work-out-mic key nego chal auth) = go (checkMessages (length key) nego chal auth) where
+counted (compute-mic key nego chal auth) = go (checkInputs (length key) nego chal auth) where
   go : (v : Verdict) → Counted 16 (handedOut v (whenClear v (micOf key nego chal auth)))
   go Clear = mic-length key nego chal auth
   go (Not e) = tt

@@ -15,7 +15,7 @@ use Rattle.respond.specs.declared.answer.Answered.the-variants.{Refused}
 use Rattle.respond.specs.Answer.{respondTo}
 use Rattle.c_number.specs.Number.{refusalNumber, bit}
 use Rattle.c_number.specs.Outcome.{Outcome, numbers, refused, outcomeNumber, outcomeOut, outcomeBytes, callNumber, callOut, twoArrayNumber, twoArrayOut, twoArrayBytes}
-use Rattle.c_respond.specs.Respond.{EffectFromC, numbered, respondFromC}
+use Rattle.c_respond.specs.Respond.{EffectFromC, asNumbers, respondFromC}
 use Rattle.demands.specs.Kept.{CallKept, TwoArraysKept, KeptAnswer, RespondedKept}
 use Rattle.demands.proofs.Kept.AnswerKept.{respond-kept}
 use Rattle.demands.proofs.Kept.CallFront.{at-front}
@@ -69,7 +69,7 @@ responded-kept settings s x xs v8 m16 =
     whole : Bool → Answered → List ℕ → EffectFromC
     whole t b l =
         after (checked t) (record { number = refusalNumber NoRoom; output = out; numbers = xs })
-        (numbered (record { answer = b; output = l }) xs)
+        (asNumbers (record { answer = b; output = l }) xs)
 
     by-room : (t : Bool) → t ≡ false → (b : Answered) (l : List ℕ) →
         (whole t b l .numbers ≡ xs) × (whole t b l .output ≡ out)

@@ -11,7 +11,7 @@ use borrow.Author.Tests.{eq-eqb}
 use Rattle.wire.proofs.Bools.{and-left, and-right}
 use Rattle.line_words.specs.Digits.{hex}
 use Rattle.line_words.specs.Name.{plain, escape, unitText}
-use Rattle.line_dns_name.specs.DnsNameText.{byteText, labelText, partText, joined, nameText}
+use Rattle.line_dns_name.specs.DnsNameText.{byteText, labelText, partText, joined, dnsNameText}
 use Rattle.demands.specs.HeaderLine.{Bytes}
 use Rattle.demands.proofs.Bools.{true-not-false}
 use Rattle.demands.specs.LineShows.{Labels, LabelsShow, LabelsVisible}
@@ -99,7 +99,7 @@ some-first [] r l e = omega arith
 some-first (d ∷ m) r l e = no-byte d (labelText m ++ r) [] (inl refl) (sym (append-assoc (byteText d) (labelText m) r) ∙ e)
 
 pub labels-show : LabelsShow
-unfolding nameText joined partText
+unfolding dnsNameText joined partText
 labels-show [] [] p q e = refl
 labels-show [] (m ∷ ms) p q e = absurd (some-first m (joined false ms) (q .0) (sym e))
 labels-show (l ∷ ls) [] p q e = absurd (some-first l (joined false ls) (p .0) e)
@@ -122,9 +122,9 @@ joined-visible first [] = refl
 joined-visible true (l ∷ ls) = within-both 0x21 (labelText l) (joined false ls) (label-visible l) (joined-visible false ls)
 joined-visible false (l ∷ ls) = within-both 0x21 (labelText l) (joined false ls) (label-visible l) (joined-visible false ls)
 
-pub dns-visible : (ls : List (List ℕ)) → visible (nameText ls) ≡ true
-unfolding nameText
+pub dns-visible : (ls : List (List ℕ)) → visible (dnsNameText ls) ≡ true
+unfolding dnsNameText
 dns-visible ls = joined-visible true ls
 
 pub labels-visible : LabelsVisible
-labels-visible ls = within-at 0x21 (nameText ls) (dns-visible ls)
+labels-visible ls = within-at 0x21 (dnsNameText ls) (dns-visible ls)

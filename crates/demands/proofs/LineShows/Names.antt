@@ -12,7 +12,7 @@ use borrow.Author.Tests.{leb-true, eq-eqb}
 use Rattle.wire.proofs.Bools.{and-left, and-right}
 use Rattle.line_words.specs.Digits.{hex, decimal}
 use Rattle.line_words.specs.Name.{plain, escape, unitText, textOf, numbers16, units, nameText}
-use Rattle.demands.specs.Digits.{IsHexDigit, valueOf}
+use Rattle.demands.specs.Digits.{IsHexDigit, digitsValue}
 use Rattle.demands.specs.HeaderLine.{Bytes}
 use Rattle.demands.proofs.Bools.{true-not-false}
 use Rattle.demands.proofs.Digits.{decimal-has-value, hex-has-value}
@@ -22,10 +22,10 @@ use Rattle.demands.proofs.LineShows.Words.{visible, within-both, within
 -- ---- numbers
 
 pub hex-shows : (k m n : ℕ) → m < 16 ^ k → n < 16 ^ k → hex k m ≡ hex k n → m ≡ n
-hex-shows k m n l r e = sym (hex-has-value k m .value l) ∙ ap (λ (t : List ℕ). valueOf 16 t) e ∙ hex-has-value k n .value r
+hex-shows k m n l r e = sym (hex-has-value k m .value l) ∙ ap (λ (t : List ℕ). digitsValue 16 t) e ∙ hex-has-value k n .value r
 
 pub decimal-shows : (m n : ℕ) → decimal m ≡ decimal n → m ≡ n
-decimal-shows m n e = sym (decimal-has-value m .value) ∙ ap (λ (t : List ℕ). valueOf 10 t) e ∙ decimal-has-value n .value
+decimal-shows m n e = sym (decimal-has-value m .value) ∙ ap (λ (t : List ℕ). digitsValue 10 t) e ∙ decimal-has-value n .value
 
 hex-digit-visible : (c : ℕ) → IsHexDigit c → (0x21 ≤ c) × (c ≤ 0x7E)
 hex-digit-visible c (inl h) = (omega (arith, h .0), omega (arith, h .1))

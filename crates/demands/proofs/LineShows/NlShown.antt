@@ -13,7 +13,7 @@ use Rattle.wire.proofs.Bools.{and-both}
 use Rattle.wire.specs.Number.{has, u32At}
 use Rattle.line_words.specs.Digits.{hex, decimal}
 use Rattle.line_words.specs.Name.{nameText}
-use Rattle.line_dns_name.specs.DnsNameText.{nameText as dnsText}
+use Rattle.line_dns_name.specs.DnsNameText.{dnsNameText as dnsText}
 use Rattle.line_words.specs.Words.{numberWord, stringWord, flagsWord, lineEnd}
 use Rattle.read_dns_name.specs.Rfc1035.{NameFrom, end, label, jump}
 use Rattle.nl_auth_flags.specs.Flags.{nbDomain, nbComputer, dnsDomain, dnsHost, utf8Computer}

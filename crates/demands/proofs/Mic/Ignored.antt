@@ -7,8 +7,8 @@ use Rattle.head.specs.declared.Kind.the-variants.{Negotiate, Challenge}
 use Rattle.read_authenticate.specs.declared.Reading.{Reading}
 use Rattle.read_authenticate.specs.declared.Reading.the-variants.{Taken, Refused}
 use Rattle.read_authenticate.specs.Authenticate.{readAuthenticate}
-use Rattle.mic.specs.Mic.{authenticateVerdict, checkMessages}
-use Rattle.demands.specs.MaxLen.{bareAuthenticate}
+use Rattle.mic.specs.Mic.{authenticateVerdict, checkInputs}
+use Rattle.demands.specs.MaxLen.{authenticateWithoutMaxLen}
 use Rattle.demands.specs.Message.{negotiate, challenge, authenticate, DifferInIgnored}
 use Rattle.demands.specs.Mic.{MicIgnored}
 use Rattle.demands.proofs.Explained.Same.{ignored-read}
@@ -16,7 +16,7 @@ use Rattle.demands.proofs.Ignored.{authenticate-ignored}
 use Rattle.demands.proofs.Mic.{same-refusals}
 
 -- the AUTHENTICATE's verdict doesn't go by MaxLen
-bare-verdict : (r : Reading) → authenticateVerdict r ≡ authenticateVerdict (bareAuthenticate r)
+bare-verdict : (r : Reading) → authenticateVerdict r ≡ authenticateVerdict (authenticateWithoutMaxLen r)
 bare-verdict (Taken a) = refl
 bare-verdict (Refused e) = refl
 
@@ -28,8 +28,8 @@ auth-same s t d =
 
 checks-same : (n : ℕ) (nego chal auth nego′ chal′ auth′ : List ℕ) →
     DifferInIgnored negotiate nego nego′ → DifferInIgnored challenge chal chal′ → DifferInIgnored authenticate auth auth′ →
-    checkMessages n nego chal auth ≡ checkMessages n nego′ chal′ auth′
-unfolding checkMessages
+    checkInputs n nego chal auth ≡ checkInputs n nego′ chal′ auth′
+unfolding checkInputs
 checks-same n nego chal auth nego′ chal′ auth′ d e f =
     simp (ignored-read Negotiate nego nego′ d, ignored-read Challenge chal chal′ e, auth-same auth auth′ f)
 

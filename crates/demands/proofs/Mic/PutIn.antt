@@ -12,8 +12,8 @@ use lib.Seq.{sets, sets-eq, length-sets, getD-set-other, take-at, drop-at}
 use Rattle.wire.specs.declared.check.Verdict.the-variants.{Clear, Refused as Not}
 use Rattle.mic.specs.declared.Checking.{Checking}
 use Rattle.mic.specs.declared.Checking.the-variants.{Compared, Refused}
-use Rattle.mic.specs.declared.Worked.{Worked}
-use Rattle.mic.specs.Mic.{workOut, checkMic}
+use Rattle.mic.specs.declared.Computed.{Computed}
+use Rattle.mic.specs.Mic.{computedMic, checkMic}
 use Rattle.mic.proofs.Laws.{passed}
 use Rattle.demands.specs.Mic.{Agree, DifferInMic, PutIn, MicPutIn}
 use Rattle.demands.proofs.Mic.{mic-agree, mic-blind}
@@ -32,7 +32,7 @@ put vs l i n e h =
     let at : length (take i l) ≡ i = simp length-take (omega arith) in
     ap (λ (x : List ℕ). take n (drop i x)) there ∙ ap (take n) (drop-at (take i l) (vs ++ drop (i + length vs) l) i at) ∙ take-at vs (drop (i + length vs) l) n e
 
-module _ (key nego chal auth bytes : List ℕ) (clear : workOut key nego chal auth .verdict ≡ Clear) (l : length bytes ≡ 16) where
+module _ (key nego chal auth bytes : List ℕ) (clear : computedMic key nego chal auth .verdict ≡ Clear) (l : length bytes ≡ 16) where
   t : List ℕ
   t = sets auth 72 bytes
 
@@ -44,24 +44,24 @@ module _ (key nego chal auth bytes : List ℕ) (clear : workOut key nego chal au
     go p false true x y = inl (outside bytes auth 72 p (inr (omega (arith, l, leb-true 88 p y))))
     go p false false x y = inr (ltb-false p 72 x, leb-false 88 p y)
 
-  same : workOut key nego chal t ≡ workOut key nego chal auth
+  same : computedMic key nego chal t ≡ computedMic key nego chal auth
   same = mic-blind key nego chal t auth differ
 
   there : take 16 (drop 72 t) ≡ bytes
-  unfolding t workOut
+  unfolding t computedMic
   there = put bytes auth 72 16 l (passed (length key) nego chal auth clear .mic-inside)
 
   agree : Agree key nego chal t
   agree = mic-agree key nego chal t
 
-  clear-too : workOut key nego chal t .verdict ≡ Clear
-  clear-too = ap (λ (w : Worked). w .verdict) same ∙ clear
+  clear-too : computedMic key nego chal t .verdict ≡ Clear
+  clear-too = ap (λ (w : Computed). w .verdict) same ∙ clear
 
-  mic-same : workOut key nego chal t .mic ≡ workOut key nego chal auth .mic
-  mic-same = ap (λ (w : Worked). w .mic) same
+  mic-same : computedMic key nego chal t .mic ≡ computedMic key nego chal auth .mic
+  mic-same = ap (λ (w : Computed). w .mic) same
 
   -- of the check's three answers one is left for other bytes
-  otherwise : (bytes ≡ workOut key nego chal auth .mic → ⊥) → (c : Checking) → checkMic key nego chal t ≡ c → c ≡ Compared false
+  otherwise : (bytes ≡ computedMic key nego chal auth .mic → ⊥) → (c : Checking) → checkMic key nego chal t ≡ c → c ≡ Compared false
   otherwise other (Compared true) e = absurd (other (sym there ∙ agree .yes .0 e .1 ∙ mic-same))
   otherwise other (Compared false) e = refl
   otherwise other (Refused d) e =

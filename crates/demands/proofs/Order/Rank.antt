@@ -15,7 +15,7 @@ use Rattle.wire.specs.declared.check.Verdict.the-variants.{Clear, Refused as No
 use Rattle.wire.specs.declared.refusal.Refusal.{Refusal}
 use Rattle.wire.specs.Check.{overAll, onClear}
 use Rattle.wire.specs.Refusal.{numberOf, fieldOf}
-use Rattle.demands.specs.Order.{BeforeBy, FirstBy, placeIn}
+use Rattle.demands.specs.Order.{BeforeBy, FirstBy, rankIn}
 use Rattle.demands.proofs.Bools.{chained}
 
 pub either-way : (a c : ℕ) → (a < c) ⊎ ((a ≡ c) ⊎ (c < a))
@@ -112,11 +112,11 @@ over-judged-by rank F n next ok e is-next only named (f ∷ fs) i links free res
 -- ---- the order of a list
 
 -- a number of the list is the only one at its place
-pub only-in : (ks : List ℕ) (n : ℕ) → placeIn ks n < length ks → Only (placeIn ks) n
+pub only-in : (ks : List ℕ) (n : ℕ) → rankIn ks n < length ks → Only (rankIn ks) n
 only-in [] n l m e = absurd (omega arith)
 only-in (k ∷ ks) n l m e = go (λ r. only-in ks n r m) (eqb n k) (eqb m k) refl refl l e where
-  go : (placeIn ks n < length ks → placeIn ks m ≡ placeIn ks n → m ≡ n) → (x y : Bool) → eqb n k ≡ x → eqb m k ≡ y → cond x 0 (1 + placeIn ks n) < length (k ∷ ks) →
-      cond y 0 (1 + placeIn ks m) ≡ cond x 0 (1 + placeIn ks n) → m ≡ n
+  go : (rankIn ks n < length ks → rankIn ks m ≡ rankIn ks n → m ≡ n) → (x y : Bool) → eqb n k ≡ x → eqb m k ≡ y → cond x 0 (1 + rankIn ks n) < length (k ∷ ks) →
+      cond y 0 (1 + rankIn ks m) ≡ cond x 0 (1 + rankIn ks n) → m ≡ n
   go rest true true p q r s = eqb-true m k q ∙ sym (eqb-true n k p)
   go rest true false p q r s = absurd (omega (arith, s))
   go rest false true p q r s = absurd (omega (arith, s))
@@ -127,9 +127,9 @@ abbrev pub Outside : List ℕ → ℕ → Type 0
 Outside [] n = Unit
 Outside (k ∷ ks) n = (eqb n k ≡ false) × Outside ks n
 
-pub outside : (ks : List ℕ) (n : ℕ) → length ks ≤ placeIn ks n → Outside ks n
+pub outside : (ks : List ℕ) (n : ℕ) → length ks ≤ rankIn ks n → Outside ks n
 outside [] n l = tt
 outside (k ∷ ks) n l = go (outside ks n) (eqb n k) refl l where
-  go : (length ks ≤ placeIn ks n → Outside ks n) → (x : Bool) → eqb n k ≡ x → length (k ∷ ks) ≤ cond x 0 (1 + placeIn ks n) → Outside (k ∷ ks) n
+  go : (length ks ≤ rankIn ks n → Outside ks n) → (x : Bool) → eqb n k ≡ x → length (k ∷ ks) ≤ cond x 0 (1 + rankIn ks n) → Outside (k ∷ ks) n
   go rest true p r = absurd (omega (arith, r))
   go rest false p r = (p, rest (omega (arith, r)))

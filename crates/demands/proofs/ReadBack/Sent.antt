@@ -10,11 +10,11 @@ use Rattle.field.specs.Field.{headAt}
 use Rattle.wire.specs.Number.{u16At, u32At}
 use Rattle.place.specs.Place.{le16, le32}
 use Rattle.place.proofs.Numbers.{length-le16, back16, back32}
-use Rattle.write_field.specs.Writing.{fieldOf, headBytes}
+use Rattle.write_field.specs.Writing.{writtenField, headBytes}
 use Rattle.write_field.proofs.Laws.{length-head}
 
 -- a head reads back, with MaxLen as it was written
-head-back : (p r : List ℕ) (g : Field) → headAt (p ++ (headBytes g ++ r)) (length p) ≡ fieldOf (g .offset) (g .len)
+head-back : (p r : List ℕ) (g : Field) → headAt (p ++ (headBytes g ++ r)) (length p) ≡ writtenField (g .offset) (g .len)
 unfolding headBytes
 head-back p r g =
     let l = g .len in
@@ -32,8 +32,8 @@ head-back p r g =
     λ i. record { offset = four i; len = one i; «max_len» = max i }
 
 module _ (M : List ℕ) where
-  pub back-at : (p r : List ℕ) (g : Field) (at : ℕ) → M ≡ p ++ (headBytes g ++ r) → length p ≡ at → headAt M at ≡ fieldOf (g .offset) (g .len)
-  back-at p r g at e l = subst (λ (k : ℕ). headAt M k ≡ fieldOf (g .offset) (g .len)) l (ap (λ (x : List ℕ). headAt x (length p)) e ∙ head-back p r g)
+  pub back-at : (p r : List ℕ) (g : Field) (at : ℕ) → M ≡ p ++ (headBytes g ++ r) → length p ≡ at → headAt M at ≡ writtenField (g .offset) (g .len)
+  back-at p r g at e l = subst (λ (k : ℕ). headAt M k ≡ writtenField (g .offset) (g .len)) l (ap (λ (x : List ℕ). headAt x (length p)) e ∙ head-back p r g)
 
   pub in-payload : (p x r : List ℕ) (o n : ℕ) → M ≡ p ++ (x ++ r) → length p ≡ o → length x ≡ n → take n (drop o M) ≡ x
   in-payload p x r o n e lp lx =
@@ -57,7 +57,7 @@ joined (x ∷ xs) = x ++ joined xs
 module _ (M : List ℕ) where
   abbrev pub HeadsBack : List Field → List ℕ → ℕ → Type 0
   HeadsBack [] r n = Before M r n
-  HeadsBack (g ∷ gs) r n = (headAt M n ≡ fieldOf (g .offset) (g .len)) × HeadsBack gs r (n + 8)
+  HeadsBack (g ∷ gs) r n = (headAt M n ≡ writtenField (g .offset) (g .len)) × HeadsBack gs r (n + 8)
 
   abbrev pub PartsStand : List (List ℕ) → ℕ → Type 0
   PartsStand [] n = length M ≡ n

@@ -20,7 +20,7 @@ use Rattle.av_pairs.proofs.Walks as walks
 use Rattle.av_pairs.proofs.Walks.{pairsAt, valuesAt, pairs-pair}
 use Rattle.place.specs.Place.{le32}
 use Rattle.place.proofs.Numbers.{length-le32, back32}
-use Rattle.write_response_pairs.specs.ResponsePairs.{pairWith, hasPair, isNone, leftOut, kept, dueBits, bitsDue, flagsSet, withBits, addsFlags, addedPairs, pairBytes, bytesOf, listBytes}
+use Rattle.write_response_pairs.specs.ResponsePairs.{pairWith, hasPair, isNone, leftOut, kept, dueBits, bitsDue, flagsSet, withBits, addsFlags, addedPairs, pairBytes, pairsBytes, listBytes}
 use Rattle.write_response_pairs.proofs.Fits.{fitPair, length-pair}
 use Rattle.write_response_pairs.proofs.Standing.{id-there, size-there, value-there, long}
 use Rattle.target_info.specs.TargetInfo.{firstBy}
@@ -29,7 +29,7 @@ use Rattle.wire.specs.Refusal.{numberOf}
 use Rattle.wire.proofs.Bools.{and-left, and-right, and-both}
 use Rattle.demands.specs.Message.{FlagSet}
 use Rattle.demands.specs.PairList.{idOf, sizeOf, nextOf, SizeAllowed, PairAt, EndAt, WellFormed, end, pair, FirstWith, this, next, PairThere}
-use Rattle.demands.specs.ResponsePairs.{valueOf, bitsOf, TakenOut, Unverified, BitsBack, FlagsAdded, ValueAt, LastTwo, Added, with-flags, without-flags, GoesBack, taken-out, first-flags, same, at-end}
+use Rattle.demands.specs.ResponsePairs.{pairValue, bitsOf, TakenOut, Unverified, BitsBack, FlagsAdded, ValueAt, LastTwo, Added, with-flags, without-flags, GoesBack, taken-out, first-flags, same, at-end}
 use Rattle.demands.proofs.Bools.{true-not-false, both-ways, or-left, or-right, or-either}
 use Rattle.demands.proofs.OwnBytes.ChallengeOwn.{asks, there-is}
 use Rattle.demands.proofs.OwnBytes.Found.{id-of}
@@ -147,7 +147,7 @@ module _ (b name : List ℕ) (mark : Bool) where
 
 module _ (b : List ℕ) (some : 0 < length b) (at : ℕ) where
   abbrev pub came : Valued
-  came = (idAt b at, valueOf b at)
+  came = (idAt b at, pairValue b at)
 
   pub values-pair : PairAt b at → valuesAt b at ≡ came ∷ valuesAt b (nextOf b at)
   unfolding valuesAt
@@ -167,12 +167,12 @@ module _ (b : List ℕ) (some : 0 < length b) (at : ℕ) where
     go End e j = ap (λ (ps : List AvPair). withValues b ps) (walks.at-end b at End (sym e) refl .0)
     go (Refused f) e j = absurd (end-or-fault b at (numberOf f) w (j .0))
 
-  pub value-long : PairAt b at → length (valueOf b at) ≡ sizeOf b at
+  pub value-long : PairAt b at → length (pairValue b at) ≡ sizeOf b at
   value-long w = simp (length-take, length-drop) (omega (arith, w .whole))
 
   came-fits : PairAt b at → fitPair came ≡ true
   came-fits w =
-      and-both (not (isEnd (idAt b at))) (sizeAllowed (idAt b at) (length (valueOf b at)))
+      and-both (not (isEnd (idAt b at))) (sizeAllowed (idAt b at) (length (pairValue b at)))
       (go (isEnd (idAt b at)) refl) (rw (value-long w) (is-size (idAt b at) (sizeOf b at) (w .size)))
     where
       go : (t : Bool) → isEnd (idAt b at) ≡ t → not t ≡ true
@@ -256,7 +256,7 @@ module _ (b l name bind : List ℕ) (mark : Bool) (some : 0 < length b) (even : 
   unfolding listBytes addedPairs
   added pre e = go (addsFlags bits (valuesOf b)) refl e where
     go : (t : Bool) → addsFlags bits (valuesOf b) ≡ t →
-        l ≡ pre ++ (bytesOf (cond t (pairWith 6 (le32 bits) ∷ []) [] ++ (pairWith 10 bind ∷ pairWith 9 name ∷ [])) ++ pairBytes (pairWith 0 [])) →
+        l ≡ pre ++ (pairsBytes (cond t (pairWith 6 (le32 bits) ∷ []) [] ++ (pairWith 10 bind ∷ pairWith 9 name ∷ [])) ++ pairBytes (pairWith 0 [])) →
         Added b l name mark bind (length pre)
     go true y f =
         let g : l ≡ pre ++ (pairBytes (pairWith 6 (le32 bits)) ++ (pairBytes (pairWith 10 bind) ++ (pairBytes (pairWith 9 name) ++ pairBytes (pairWith 0 [])))) = f ∙ simp (append-assoc, append-nil) in
@@ -280,28 +280,28 @@ module _ (b l name bind : List ℕ) (mark : Bool) (some : 0 < length b) (even : 
     abbrev v : Valued
     v = came b some at
 
-    past : (q : Valued) (more : List Valued) → l ≡ pre ++ (bytesOf (q ∷ more) ++ tail) → l ≡ (pre ++ pairBytes q) ++ (bytesOf more ++ tail)
+    past : (q : Valued) (more : List Valued) → l ≡ pre ++ (pairsBytes (q ∷ more) ++ tail) → l ≡ (pre ++ pairBytes q) ++ (pairsBytes more ++ tail)
     past q more h = h ∙ simp append-assoc
 
-    here : (q : Valued) (more : List Valued) → l ≡ pre ++ (bytesOf (q ∷ more) ++ tail) → l ≡ pre ++ (pairBytes q ++ (bytesOf more ++ tail))
+    here : (q : Valued) (more : List Valued) → l ≡ pre ++ (pairsBytes (q ∷ more) ++ tail) → l ≡ pre ++ (pairBytes q ++ (pairsBytes more ++ tail))
     here q more h = h ∙ simp append-assoc
 
-    as-it-came : (more : List Valued) → (TakenOut b at → ⊥) → (FirstWith b 6 at 0 → ⊥) → l ≡ pre ++ (bytesOf (v ∷ more) ++ tail) →
-        (l ≡ (pre ++ pairBytes v) ++ (bytesOf more ++ tail) → Back (nextOf b at) (length (pre ++ pairBytes v))) → Back at (length pre)
+    as-it-came : (more : List Valued) → (TakenOut b at → ⊥) → (FirstWith b 6 at 0 → ⊥) → l ≡ pre ++ (pairsBytes (v ∷ more) ++ tail) →
+        (l ≡ (pre ++ pairBytes v) ++ (pairsBytes more ++ tail) → Back (nextOf b at) (length (pre ++ pairBytes v))) → Back at (length pre)
     as-it-came more kept-in not-first h later =
         same w kept-in not-first (stands l pre _ v (here v more h) (came-fits b some at w))
         (rw (next-place l pre _ v (here v more h)) (later (past v more h)))
 
   -- behind the first flags pair
   after : (at n : ℕ) → WellFormed b at n → (pre : List ℕ) (f : ℕ) → FirstWith b 6 f 0 → f < at →
-      l ≡ pre ++ (bytesOf (kept (valuesAt b at)) ++ tail) → Back at (length pre)
+      l ≡ pre ++ (pairsBytes (kept (valuesAt b at)) ++ tail) → Back at (length pre)
   after at n (end e q) pre f first less h =
-      at-end e (added pre (h ∙ ap (λ (ps : List Valued). pre ++ (bytesOf (kept ps) ++ tail)) (values-end b some at e)))
+      at-end e (added pre (h ∙ ap (λ (ps : List Valued). pre ++ (pairsBytes (kept ps) ++ tail)) (values-end b some at e)))
   after at n (pair w q rest) pre f first less h = go (leftOut (idAt b at)) refl (λ p g. after (nextOf b at) _ rest p f first (omega (arith, less)) g) where
-    all : l ≡ pre ++ (bytesOf (kept (v at w pre ∷ vs at w pre)) ++ tail)
-    all = h ∙ ap (λ (ps : List Valued). pre ++ (bytesOf (kept ps) ++ tail)) (values-pair b some at w)
+    all : l ≡ pre ++ (pairsBytes (kept (v at w pre ∷ vs at w pre)) ++ tail)
+    all = h ∙ ap (λ (ps : List Valued). pre ++ (pairsBytes (kept ps) ++ tail)) (values-pair b some at w)
 
-    go : (t : Bool) → leftOut (idAt b at) ≡ t → ((p : List ℕ) → l ≡ p ++ (bytesOf (kept (vs at w pre)) ++ tail) → Back (nextOf b at) (length p)) → Back at (length pre)
+    go : (t : Bool) → leftOut (idAt b at) ≡ t → ((p : List ℕ) → l ≡ p ++ (pairsBytes (kept (vs at w pre)) ++ tail) → Back (nextOf b at) (length p)) → Back at (length pre)
     go true y later = taken-out w (out-is b some at y) (later pre (all ∙ simp y))
     go false y later =
         as-it-came at w pre (kept (vs at w pre)) (in-is b some at y) (λ g. absurd (omega (arith, less, one-place b 6 f at 0 first g)))
@@ -315,11 +315,11 @@ module _ (b l name bind : List ℕ) (mark : Bool) (some : 0 < length b) (even : 
 
   -- up to it
   before : (at n : ℕ) → WellFormed b at n → (pre : List ℕ) → ((f : ℕ) → FirstWith b 6 f 0 ↔ FirstWith b 6 f at) →
-      l ≡ pre ++ (bytesOf (withBits bits (kept (valuesAt b at))) ++ tail) → Back at (length pre)
+      l ≡ pre ++ (pairsBytes (withBits bits (kept (valuesAt b at))) ++ tail) → Back at (length pre)
   before at n (end e q) pre none h =
       at-end e (added pre
-      (h ∙ ap (λ (ps : List Valued). pre ++ (bytesOf (withBits bits (kept ps)) ++ tail)) (values-end b some at e)
-      ∙ ap (λ (ps : List Valued). pre ++ (bytesOf ps ++ tail)) (none-set bits)))
+      (h ∙ ap (λ (ps : List Valued). pre ++ (pairsBytes (withBits bits (kept ps)) ++ tail)) (values-end b some at e)
+      ∙ ap (λ (ps : List Valued). pre ++ (pairsBytes ps ++ tail)) (none-set bits)))
   before at n (pair w q rest) pre none h =
       go (leftOut (idAt b at)) (isFlags (idAt b at)) refl refl
       (λ p other g. before (nextOf b at) _ rest p (λ f. (λ x. onward other f (none f .0 x), λ x. none f .1 (next w other x))) g)
@@ -329,11 +329,11 @@ module _ (b l name bind : List ℕ) (mark : Bool) (some : 0 < length b) (even : 
       onward other f (this e p i) = absurd (other i)
       onward other f (next p i g) = g
 
-      all : l ≡ pre ++ (bytesOf (withBits bits (kept (v at w pre ∷ vs at w pre))) ++ tail)
-      all = h ∙ ap (λ (ps : List Valued). pre ++ (bytesOf (withBits bits (kept ps)) ++ tail)) (values-pair b some at w)
+      all : l ≡ pre ++ (pairsBytes (withBits bits (kept (v at w pre ∷ vs at w pre))) ++ tail)
+      all = h ∙ ap (λ (ps : List Valued). pre ++ (pairsBytes (withBits bits (kept ps)) ++ tail)) (values-pair b some at w)
 
-      parts : (ps : List Valued) → withBits bits (kept (v at w pre ∷ vs at w pre)) ≡ ps → l ≡ pre ++ (bytesOf ps ++ tail)
-      parts ps e = all ∙ ap (λ (x : List Valued). pre ++ (bytesOf x ++ tail)) e
+      parts : (ps : List Valued) → withBits bits (kept (v at w pre ∷ vs at w pre)) ≡ ps → l ≡ pre ++ (pairsBytes ps ++ tail)
+      parts ps e = all ∙ ap (λ (x : List Valued). pre ++ (pairsBytes x ++ tail)) e
 
       same-part : leftOut (idAt b at) ≡ false → isFlags (idAt b at) ≡ false → withBits bits (kept (v at w pre ∷ vs at w pre)) ≡ v at w pre ∷ withBits bits (kept (vs at w pre))
       same-part y z = pick (eqb bits 0) where
@@ -365,8 +365,8 @@ module _ (b l name bind : List ℕ) (mark : Bool) (some : 0 < length b) (even : 
         )
 
       go : (t f : Bool) → leftOut (idAt b at) ≡ t → isFlags (idAt b at) ≡ f →
-          ((p : List ℕ) → (idOf b at ≡ 6 → ⊥) → l ≡ p ++ (bytesOf (withBits bits (kept (vs at w pre))) ++ tail) → Back (nextOf b at) (length p)) →
-          ((p : List ℕ) → FirstWith b 6 at 0 → l ≡ p ++ (bytesOf (kept (vs at w pre)) ++ tail) → Back (nextOf b at) (length p)) → Back at (length pre)
+          ((p : List ℕ) → (idOf b at ≡ 6 → ⊥) → l ≡ p ++ (pairsBytes (withBits bits (kept (vs at w pre))) ++ tail) → Back (nextOf b at) (length p)) →
+          ((p : List ℕ) → FirstWith b 6 at 0 → l ≡ p ++ (pairsBytes (kept (vs at w pre)) ++ tail) → Back (nextOf b at) (length p)) → Back at (length pre)
       go true f y z later behind =
           let o = out-is b some at y in
           taken-out w o (later pre (λ i. ⊎-elim (λ e. omega (arith, i, e)) (λ e. omega (arith, i, e)) o) (all ∙ simp y))
@@ -387,6 +387,6 @@ module _ (b l name bind : List ℕ) (mark : Bool) (some : 0 < length b) (even : 
           as-it-came at w pre (withBits bits (kept (vs at w pre))) (in-is b some at y) (λ g. other (id-of b 6 at at (none at .0 g)))
           (parts (v at w pre ∷ withBits bits (kept (vs at w pre))) (same-part y z)) (later (pre ++ pairBytes (v at w pre)) other)
 
-  pub goes-back : (n : ℕ) → WellFormed b 0 n → l ≡ bytesOf (withBits bits (kept (valuesOf b))) ++ tail → Back 0 0
+  pub goes-back : (n : ℕ) → WellFormed b 0 n → l ≡ pairsBytes (withBits bits (kept (valuesOf b))) ++ tail → Back 0 0
   goes-back n w h =
-      before 0 n w [] (λ f. (λ x. x, λ x. x)) (h ∙ ap (λ (ps : List Valued). bytesOf (withBits bits (kept ps)) ++ tail) (sym (walks.values-start b)))
+      before 0 n w [] (λ f. (λ x. x, λ x. x)) (h ∙ ap (λ (ps : List Valued). pairsBytes (withBits bits (kept ps)) ++ tail) (sym (walks.values-start b)))

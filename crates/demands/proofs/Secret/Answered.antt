@@ -24,7 +24,7 @@ use Rattle.respond.specs.Answer.{micDue, timeToSend, lmToSend, micToSend, keyTo
 use Rattle.respond.specs.Decision.{decisionOn, onDecided}
 use Rattle.respond.specs.Domain.{domainToSend}
 use Rattle.demands.specs.Secret.{AsLong, AlikeOutside, withSecrets, AnsweredAlike, SecretAnswered, ThinCallsSecret}
-use Rattle.demands.specs.ThinCalls.{goesBy}
+use Rattle.demands.specs.ThinCalls.{settingsFor}
 use Rattle.demands.proofs.ReadBack.{written-is}
 use Rattle.demands.proofs.ReadBack.WriteBack.{messages-alike, key-held}
 
@@ -122,4 +122,4 @@ secret-answered settings s x out mic lm nt key rooms v8 same = go (decisionOn se
     not-sent a h = let z : _≡_ {A = ℕ} 0 1 = cc in omega arith
 
 pub thin-calls-secret : ThinCallsSecret
-thin-calls-secret call = secret-answered (goesBy call)
+thin-calls-secret call = secret-answered (settingsFor call)

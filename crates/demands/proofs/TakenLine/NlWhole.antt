@@ -13,7 +13,7 @@ use Rattle.wire.specs.Number.{has, u32At}
 use Rattle.line_words.specs.Digits.{hex, decimal}
 use Rattle.line_words.specs.Name.{plain, escape, nameText}
 use Rattle.line_words.specs.Words.{numberWord, stringWord, flagsWord}
-use Rattle.line_dns_name.specs.DnsNameText.{byteText, labelText, partText, joined, nameText as dnsText}
+use Rattle.line_dns_name.specs.DnsNameText.{byteText, labelText, partText, joined, dnsNameText as dnsText}
 use Rattle.nl_auth_flags.specs.Flags.{nbDomain, nbComputer, dnsDomain, dnsHost, utf8Computer}
 use Rattle.read_nl_auth.specs.declared.NlAuth.{NlAuth}
 use Rattle.read_nl_auth.specs.declared.Reading.{Reading as NlReading}

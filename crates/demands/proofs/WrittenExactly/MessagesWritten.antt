@@ -17,7 +17,7 @@ use Rattle.write_authenticate.specs.Writing.{evenToWrite, checkNamesToWrite, ke
 use Rattle.write_authenticate.proofs.Sent.{length-payload, length-message}
 use Rattle.write_negotiate.specs.Writing.{negotiateBytes, sizeToWrite as negotiateToWrite, checkToWrite as checkNegotiate, writeAnswer as negotiateAnswer}
 use Rattle.write_negotiate.proofs.Sent.{length-message as length-negotiate}
-use Rattle.demands.specs.Order.{placeIn}
+use Rattle.demands.specs.Order.{rankIn}
 use Rattle.demands.specs.Message.{FlagSet}
 use Rattle.demands.specs.WrittenExactly.{Fails5, authenticateSize, AuthenticateWritingFails, authenticateOrder, AuthenticateIsWritten, negotiateSize, NegotiateWritingFails, NegotiateIsWritten}
 use Rattle.demands.proofs.Bools.{true-not-false, failed-false, chained}
@@ -82,7 +82,7 @@ module _ (room : ℕ) (w : NegotiateFlags) (lm nt dom usr wks key : List ℕ) wh
   F = AuthenticateWritingFails room (w .bits) lm nt dom usr wks key
 
   abbrev rank : ℕ → ℕ
-  rank = placeIn authenticateOrder
+  rank = rankIn authenticateOrder
 
   authenticate-rows : Rows authenticateOrder F
   authenticate-rows = rows authenticateOrder F (λ n i z h. simp (z .0, z .1 .0, z .1 .1 .0, z .1 .1 .1 .0, z .1 .1 .1 .1 .0) at h)
@@ -148,12 +148,12 @@ module _ (room : ℕ) (w : NegotiateFlags) (dom wks : List ℕ) where
   negotiate-size : negotiateToWrite dom wks ≡ negotiateSize dom wks
   negotiate-size = simp length-append
 
-  negotiate-judged : JudgedBy (placeIn order) G 0 (checkNegotiate room w dom wks)
+  negotiate-judged : JudgedBy (rankIn order) G 0 (checkNegotiate room w dom wks)
   unfolding checkNegotiate
   negotiate-judged =
       let none = free-at-first order G 5 refl in
-      chained (JudgedBy (placeIn order) G 0) _ _ _
-      (λ f. first-by (placeIn order) G 5 0 none (charset-failed w f))
+      chained (JudgedBy (rankIn order) G 0) _ _ _
+      (λ f. first-by (rankIn order) G 5 0 none (charset-failed w f))
       (λ h5. size-judged order G (negotiateSize dom wks) (negotiateToWrite dom wks) _ negotiate-size
       (λ l. (refl, l)) (λ j x. x .1) refl (omega arith)
       (next order G 5 30 refl (omega arith) none (λ j. charset-held w j h5))

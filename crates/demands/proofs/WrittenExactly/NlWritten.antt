@@ -19,15 +19,15 @@ use Rattle.place.specs.declared.written.Written.the-variants.{Length, Refused}
 use Rattle.place.specs.Written.{answered}
 use Rattle.nl_auth_flags.specs.declared.NlAuthFlags.{NlAuthFlags}
 use Rattle.nl_auth_flags.specs.Flags.{nbDomain, nbComputer, dnsDomain, dnsHost, utf8Computer, known, stringsHold}
-use Rattle.read_nl_auth.specs.NlAuth.{beforeZero, holdsZero}
-use Rattle.write_nl_auth.specs.Writing.{stringBytes, bytesUnder, nameUnder, requestBytes, responseBytes, noZero, checkZeros, names, checkLabels, checkCoded, checkStrings, under, checkUnder, checkRequest, requestAnswer, responseAnswer}
+use Rattle.read_nl_auth.specs.NlAuth.{stringLength, holdsZero}
+use Rattle.write_nl_auth.specs.Writing.{zeroTerminated, bytesUnder, nameBytesUnder, requestBytes, responseBytes, noZero, checkZeros, names, checkLabels, checkCoded, checkStrings, under, checkUnder, checkRequest, requestAnswer, responseAnswer}
 use Rattle.write_nl_auth.proofs.Sent.{length-request, length-response}
 use Rattle.read_dns_name.specs.Rfc1035.{codedLength}
-use Rattle.write_dns_name.specs.Writing.{labelsOf, coded, nameBytes, labelsHold, textHolds, codedHolds}
+use Rattle.write_dns_name.specs.Writing.{splitLabels, coded, nameBytes, labelsHold, textHolds, codedHolds}
 use Rattle.write_dns_name.proofs.Holding.{coded-size}
 use Rattle.demands.specs.DnsName.{LabelsFail, codedSize}
 use Rattle.demands.proofs.DnsText.{text-failed, text-held, coded-is}
-use Rattle.demands.specs.Order.{placeIn}
+use Rattle.demands.specs.Order.{rankIn}
 use Rattle.demands.specs.NlAuth.{maskOf}
 use Rattle.demands.specs.Message.{FlagSet}
 use Rattle.demands.specs.WrittenExactly.{WrittenExactly, HoldsZero, sizeUnder, nameSizeUnder, requestSize, stringOf, RequestWritingFails, requestOrder, NlRequestIsWritten, RoomFails, NlResponseIsWritten}
@@ -41,7 +41,7 @@ zero-failed : (set : Bool) (x : List ℕ) → noZero (under set x) ≡ Failed �
 unfolding under
 zero-failed true x f = go (holdsZero x) refl (failed-false _ f) where
   go : (b : Bool) → holdsZero x ≡ b → not b ≡ false → (true ≡ true) × HoldsZero x
-  go true q e = let l = ltb-true (beforeZero x) (length x) q in (refl, (beforeZero x, l, at-zero x l))
+  go true q e = let l = ltb-true (stringLength x) (length x) q in (refl, (stringLength x, l, at-zero x l))
   go false q e = absurd (true-not-false e)
 zero-failed false x f = absurd (true-not-false (failed-false _ f))
 
@@ -50,44 +50,44 @@ unfolding under
 zero-held true x h on z = go (holdsZero x) refl (held-true _ h) where
   go : (b : Bool) → holdsZero x ≡ b → not b ≡ true → ⊥
   go true q e = true-not-false (sym e)
-  go false q e = before-nonzero x (z .0) (omega (arith, ltb-false (beforeZero x) (length x) q, z .1)) (z .2)
+  go false q e = before-nonzero x (z .0) (omega (arith, ltb-false (stringLength x) (length x) q, z .1)) (z .2)
 zero-held false x h on z = true-not-false (sym on)
 
 string-under : (t : Bool) (x : List ℕ) → length (bytesUnder t x) ≡ cond t (length x + 1) 0
-unfolding bytesUnder stringBytes
+unfolding bytesUnder zeroTerminated
 string-under true x = simp length-append
 string-under false x = refl
 
 -- check 50 at one name, and its length
 labels-failed : (set : Bool) (x : List ℕ) → textHolds (under set x) ≡ Failed → (set ≡ true) × LabelsFail x
-unfolding under textHolds labelsOf labelsHold
+unfolding under textHolds splitLabels labelsHold
 labels-failed true x f = (refl, text-failed x f)
 labels-failed false x f = absurd (let z : _≡_ {A = ℕ} 0 1 = cc in omega arith)
 
 labels-held : (set : Bool) (x : List ℕ) → textHolds (under set x) ≡ Held → set ≡ true → LabelsFail x → ⊥
-unfolding under textHolds labelsOf labelsHold
+unfolding under textHolds splitLabels labelsHold
 labels-held true x h on w = text-held x h w
 labels-held false x h on w = true-not-false (sym on)
 
 -- check 53
-bytes-are : (x : List ℕ) → length (nameBytes x) ≡ length (coded (labelsOf x))
+bytes-are : (x : List ℕ) → length (nameBytes x) ≡ length (coded (splitLabels x))
 unfolding nameBytes
 bytes-are x = refl
 
 coded-failed : (set : Bool) (x : List ℕ) → codedHolds (under set x) ≡ Failed → (set ≡ true) × (255 < codedSize x)
-unfolding under codedHolds labelsOf
+unfolding under codedHolds splitLabels
 coded-failed true x f =
-    (refl, let l = leb-false (codedLength (labelsOf x)) 255 (failed-false _ f) in omega (arith, l, coded-is x, coded-size (labelsOf x), bytes-are x))
+    (refl, let l = leb-false (codedLength (splitLabels x)) 255 (failed-false _ f) in omega (arith, l, coded-is x, coded-size (splitLabels x), bytes-are x))
 coded-failed false x f = absurd (let z : _≡_ {A = ℕ} 0 1 = cc in omega arith)
 
 coded-held : (set : Bool) (x : List ℕ) → codedHolds (under set x) ≡ Held → set ≡ true → 255 < codedSize x → ⊥
-unfolding under codedHolds labelsOf
+unfolding under codedHolds splitLabels
 coded-held true x h on w =
-    let l = leb-true (codedLength (labelsOf x)) 255 (held-true _ h) in omega (arith, l, coded-is x, coded-size (labelsOf x), bytes-are x)
+    let l = leb-true (codedLength (splitLabels x)) 255 (held-true _ h) in omega (arith, l, coded-is x, coded-size (splitLabels x), bytes-are x)
 coded-held false x h on w = true-not-false (sym on)
 
-name-under : (t : Bool) (x : List ℕ) → length (nameUnder t x) ≡ cond t (codedSize x) 0
-unfolding nameUnder
+name-under : (t : Bool) (x : List ℕ) → length (nameBytesUnder t x) ≡ cond t (codedSize x) 0
+unfolding nameBytesUnder
 name-under true x = coded-is x
 name-under false x = refl
 
@@ -108,7 +108,7 @@ module _ (room : ℕ) (flags : NlAuthFlags) (a b c d e : List ℕ) where
   size-under : (m : ℕ) (x : List ℕ) → bits % 32 / m % 2 ≡ bits / m % 2 → length (bytesUnder (has (w .bits) m) x) ≡ sizeUnder bits m x
   size-under m x q = string-under (has (w .bits) m) x ∙ ap (λ (k : ℕ). cond (eqb k 1) (length x + 1) 0) q
 
-  name-size-under : (m : ℕ) (x : List ℕ) → bits % 32 / m % 2 ≡ bits / m % 2 → length (nameUnder (has (w .bits) m) x) ≡ nameSizeUnder bits m x
+  name-size-under : (m : ℕ) (x : List ℕ) → bits % 32 / m % 2 ≡ bits / m % 2 → length (nameBytesUnder (has (w .bits) m) x) ≡ nameSizeUnder bits m x
   name-size-under m x q = name-under (has (w .bits) m) x ∙ ap (λ (k : ℕ). cond (eqb k 1) (codedSize x) 0) q
 
   size-is : length (requestBytes w a b c d e) ≡ requestSize bits a b c d e
@@ -179,10 +179,10 @@ module _ (room : ℕ) (flags : NlAuthFlags) (a b c d e : List ℕ) where
       ),
     )
 
-  zeros-judged : FreeBy (placeIn order) F 34 0 → JudgedBy (placeIn order) F 50 (checkZeros (under (nbDomain w) a) (under (nbComputer w) b) c′ d′ e′)
+  zeros-judged : FreeBy (rankIn order) F 34 0 → JudgedBy (rankIn order) F 50 (checkZeros (under (nbDomain w) a) (under (nbComputer w) b) c′ d′ e′)
   unfolding checkZeros
   zeros-judged free =
-      over-judged-by (placeIn order) F 34 50 noZero ZeroInString refl (only-in order 34 (omega arith)) (λ j. (refl, refl))
+      over-judged-by (rankIn order) F 34 50 noZero ZeroInString refl (only-in order 34 (omega arith)) (λ j. (refl, refl))
       ((1, under (nbDomain w) a) ∷ (2, under (nbComputer w) b) ∷ names c′ d′ e′) 1 (
         refl,
         failed noZero HoldsZero 1 (omega arith) zero-failed zero-held 1 0x1 a (omega arith) (omega arith) (bit1 bits),
@@ -194,38 +194,38 @@ module _ (room : ℕ) (flags : NlAuthFlags) (a b c d e : List ℕ) where
           names-linked noZero HoldsZero 1 (omega arith) zero-failed zero-held,
         ),
       )
-      (skip-by (placeIn order) F 34 1 free (λ j l h. omega (arith, l, h .0)))
+      (skip-by (rankIn order) F 34 1 free (λ j l h. omega (arith, l, h .0)))
       (λ j l h. omega (arith, l, h .1))
 
-  labels-judged : FreeBy (placeIn order) F 50 0 → JudgedBy (placeIn order) F 53 (checkLabels c′ d′ e′)
+  labels-judged : FreeBy (rankIn order) F 50 0 → JudgedBy (rankIn order) F 53 (checkLabels c′ d′ e′)
   unfolding checkLabels
   labels-judged free =
-      over-judged-by (placeIn order) F 50 53 textHolds WrongLabel refl (only-in order 50 (omega arith)) (λ j. (refl, refl))
+      over-judged-by (rankIn order) F 50 53 textHolds WrongLabel refl (only-in order 50 (omega arith)) (λ j. (refl, refl))
       (names c′ d′ e′) 3 (names-linked textHolds LabelsFail 3 (omega arith) labels-failed labels-held)
-      (skip-by (placeIn order) F 50 3 free (λ j l h. omega (arith, l, h .0)))
+      (skip-by (rankIn order) F 50 3 free (λ j l h. omega (arith, l, h .0)))
       (λ j l h. omega (arith, l, h .1))
 
-  coded-judged : FreeBy (placeIn order) F 53 0 → JudgedBy (placeIn order) F 30 (checkCoded c′ d′ e′)
+  coded-judged : FreeBy (rankIn order) F 53 0 → JudgedBy (rankIn order) F 30 (checkCoded c′ d′ e′)
   unfolding checkCoded
   coded-judged free =
-      over-judged-by (placeIn order) F 53 30 codedHolds NameTooLong refl (only-in order 53 (omega arith)) (λ j. (refl, refl))
+      over-judged-by (rankIn order) F 53 30 codedHolds NameTooLong refl (only-in order 53 (omega arith)) (λ j. (refl, refl))
       (names c′ d′ e′) 3 (names-linked codedHolds (λ x. 255 < codedSize x) 3 (omega arith) coded-failed coded-held)
-      (skip-by (placeIn order) F 53 3 free (λ j l h. omega (arith, l, h .0)))
+      (skip-by (rankIn order) F 53 3 free (λ j l h. omega (arith, l, h .0)))
       (λ j l h. omega (arith, l, h .1))
 
-  under-judged : FreeBy (placeIn order) F 34 0 → JudgedBy (placeIn order) F 30 (checkUnder w a b c d e)
+  under-judged : FreeBy (rankIn order) F 34 0 → JudgedBy (rankIn order) F 30 (checkUnder w a b c d e)
   unfolding checkUnder checkStrings
   under-judged free =
-      then-by (placeIn order) F 50 30 (checkZeros (under (nbDomain w) a) (under (nbComputer w) b) c′ d′ e′) _ (zeros-judged free)
-      (λ c50. then-by (placeIn order) F 53 30 (checkLabels c′ d′ e′) _ (labels-judged c50) coded-judged)
+      then-by (rankIn order) F 50 30 (checkZeros (under (nbDomain w) a) (under (nbComputer w) b) c′ d′ e′) _ (zeros-judged free)
+      (λ c50. then-by (rankIn order) F 53 30 (checkLabels c′ d′ e′) _ (labels-judged c50) coded-judged)
 
-  request-judged : JudgedBy (placeIn order) F 0 (checkRequest room w a b c d e)
+  request-judged : JudgedBy (rankIn order) F 0 (checkRequest room w a b c d e)
   unfolding checkRequest
   request-judged =
       let none = free-at-first order F 14 refl in
-      chained (JudgedBy (placeIn order) F 0) _ _ _
-      (λ f. first-by (placeIn order) F 14 0 none (refl, strings-failed f))
-      (λ h14. then-by (placeIn order) F 30 0 (checkUnder w a b c d e) _
+      chained (JudgedBy (rankIn order) F 0) _ _ _
+      (λ f. first-by (rankIn order) F 14 0 none (refl, strings-failed f))
+      (λ h14. then-by (rankIn order) F 30 0 (checkUnder w a b c d e) _
       (under-judged (next order F 14 34 refl (omega arith) none (λ j x. strings-held h14 (x .1))))
       (λ c30. size-judged order F (requestSize bits a b c d e) (length (requestBytes w a b c d e)) _ size-is
       (λ l. (refl, l)) (λ j x. x .1) refl (omega arith) c30

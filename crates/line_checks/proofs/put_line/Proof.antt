@@ -3,12 +3,12 @@ use borrow.Author.Needs.{needs}
 use native.Mathlib.Omega.{arith}
 use Rattle.line_words.proofs.Rooms.{parts}
 use Rattle.place.proofs.Laws.{and-then}
-use Rattle.line_checks.specs.Checks.{lineOf}
+use Rattle.line_checks.specs.Checks.{checkLine}
 use Rattle.line_checks.proofs.put_line.Statement.{statement}
 use Rattle.line_checks.proofs.put_line.Tie as tie
 
 pub put-line-spec : {M : Type 1} → statement M
-unfolding lineOf
+unfolding checkLine
 put-line-spec =
     tie.close
     (tie.spec

@@ -2,11 +2,11 @@
 use borrow.Author.Needs.{needs}
 use Rattle.write_nl_auth.proofs.put_head.Statement.{statement}
 use Rattle.write_nl_auth.proofs.put_head.Tie as tie
-use Rattle.write_nl_auth.specs.Writing.{headBytes}
+use Rattle.write_nl_auth.specs.Writing.{typeAndFlags}
 use Rattle.place.proofs.Laws.{and-then}
 
 pub put-head-spec : {M : Type 1} → statement M
-unfolding headBytes
+unfolding typeAndFlags
 put-head-spec =
     tie.close
     (tie.spec

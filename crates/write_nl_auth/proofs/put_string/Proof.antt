@@ -2,11 +2,11 @@
 use borrow.Author.Needs.{needs}
 use Rattle.write_nl_auth.proofs.put_string.Statement.{statement}
 use Rattle.write_nl_auth.proofs.put_string.Tie as tie
-use Rattle.write_nl_auth.specs.Writing.{stringBytes}
+use Rattle.write_nl_auth.specs.Writing.{zeroTerminated}
 use Rattle.place.proofs.Laws.{and-then}
 
 pub put-string-spec : {M : Type 1} → statement M
-unfolding stringBytes
+unfolding zeroTerminated
 put-string-spec =
     tie.close
     (tie.spec

@@ -1,11 +1,11 @@
 use borrow.Author.Needs.{needs, length-unmapped}
 use Rattle.c_number.proofs.Calls.{fits, short, given, told}
 use Rattle.c_mic.proofs.Laws.{mic-given, mic-refused}
-use Rattle.c_mic.proofs.work_out.Statement.{statement}
-use Rattle.c_mic.proofs.work_out.Tie as tie
+use Rattle.c_mic.proofs.compute.Statement.{statement}
+use Rattle.c_mic.proofs.compute.Tie as tie
 
-pub work-out-spec : {M : Type 1} → statement M
-work-out-spec =
+pub compute-spec : {M : Type 1} → statement M
+compute-spec =
     tie.close
     (tie.spec
     (λ c κs. search needs) (λ c. search needs) (λ c. search needs) (λ c κs. search needs) (λ c. search short) (λ c κs. search needs)

@@ -6,7 +6,7 @@ use Rattle.wire.specs.declared.refusal.Refusal.{Refusal}
 use Rattle.wire.specs.declared.refusal.Refusal.the-variants.{TooLong, TooShort, WrongSignature, WrongType, NoCharset, PastEnd, InFixedPart, OddName, NameOverSecret, PairPastEnd, PairMissing, WrongEndPair, WrongPairSize, NoStrings, Unterminated, BytesLeft, WrongResponse, No128Bit, NoServerNames, TooLongToWrite, OddNameToWrite, WrongKey, NoRoom, ZeroInString, WrongLabel, PlaceNotBefore, TooManyJumps, NameTooLong, PlaceOutside, WrongSessionKey, NoMic, WrongScheme, WrongBase64}
 use Rattle.wire.specs.Refusal.{numberOf, fieldOf}
 use Rattle.c_number.specs.Number.{refusalNumber}
-use Rattle.demands.specs.Answers.{TellsLength, TellsRefusal}
+use Rattle.demands.specs.Answers.{DecodesLength, DecodesRefusal}
 
 pub number-small : (e : Refusal) → numberOf e ≤ 58
 number-small TooLong = omega arith
@@ -47,8 +47,8 @@ number-small WrongBase64 = omega arith
 abbrev pub Small : Refusal → Type 0
 Small e = fieldOf e ≤ 6
 
-pub tells-refusal : (e : Refusal) → Small e → TellsRefusal (refusalNumber e) e
-tells-refusal e small =
+pub decodes-refusal : (e : Refusal) → Small e → DecodesRefusal (refusalNumber e) e
+decodes-refusal e small =
     record {
       top-bit = omega (arith, number-small e);
       number = omega (arith, number-small e);
@@ -57,5 +57,5 @@ tells-refusal e small =
       far-place = λ h. omega (arith, number-small e);
     }
 
-pub tells-length : (n : ℕ) → n < 0x8000000000000000 → TellsLength n n
-tells-length n l = record { top-bit = omega arith; is-length = refl }
+pub decodes-length : (n : ℕ) → n < 0x8000000000000000 → DecodesLength n n
+decodes-length n l = record { top-bit = omega arith; is-length = refl }
