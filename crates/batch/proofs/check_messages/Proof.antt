@@ -1,5 +1,5 @@
 -- `batch::check_messages` meets its contract: a walk of its MIR, by hand. No branch stands in it, and no literal but 0, 1 and the size of an entry: what is decided, and what is answered, is the callees'.
--- The borrow of the entries is opened once, before the loop, and closed once, after it. All that the proof knows of `to_fill`, `withAnswer` and `check_buffer` is that each meets its contract.
+-- The borrow of the entries is opened once, before the loop, and closed once, after it. All that the proof knows of `to_fill`, `answer_to` and `check_buffer` is that each meets its contract.
 -- Assumes nothing.
 use mathlib.Core.Path.{_≡_, refl, sym, _∙_, ap, subst}
 use Prim.Native.Nat.{ℕ, _+_, _-_, _*_, _≤_, _<_, _^_, zero-le}
