@@ -20,11 +20,11 @@ use Rattle.wire.proofs.Laws.{held_true}
 use Rattle.wire.proofs.Bools.{and_left}
 use Rattle.place.specs.declared.written.Written.TheVariants.{Length}
 use Rattle.place.specs.Written.{answered, out_after, room_holds}
-use Rattle.base64.specs.Base64.{alphabet, letter, three, two, one, encode, is_letter, value_of, group_holds, group_bytes, is_base64, decode}
-use Rattle.base64.proofs.Alphabet.{is_letter_lem}
-use Rattle.base64.proofs.Back.{back, encoded_base64, there, one_text}
-use Rattle.http_header.specs.HttpHeader.{message_holds, header_line, check_export, export_answer, export_out, scheme_holds, after_spaces, text_after_scheme, base64_holds, check_text, check_import, import_answer, import_out}
-use Rattle.http_header.proofs.Laws.{line_length, line_fits}
+use Rattle.base64_text.specs.Base64.{alphabet, letter, three, two, one, encode, is_letter, value_of, group_holds, group_bytes, is_base64, decode}
+use Rattle.base64_text.proofs.Alphabet.{is_letter_lem}
+use Rattle.base64_text.proofs.Back.{back, encoded_base64, there, one_text}
+use Rattle.http_header_line.specs.HttpHeader.{message_holds, header_line, check_export, export_answer, export_out, scheme_holds, after_spaces, text_after_scheme, base64_holds, check_text, check_import, import_answer, import_out}
+use Rattle.http_header_line.proofs.Laws.{line_length, line_fits}
 use Rattle.c_number.specs.Number.{written_number}
 use Rattle.demands.specs.Answers.{DecodesWritten}
 use Rattle.demands.specs.Order.{rank_in}

@@ -15,9 +15,9 @@ use Rattle.read_negotiate.specs.Negotiate.{fields_at as negotiate_fields_at, che
 use Rattle.av_pairs.specs.AvPairs.{check_pairs, step_at, pair_of, left}
 use Rattle.read_challenge.specs.Challenge.{fields_at as challenge_fields_at, check_ends as challenge_ends, check_begins as challenge_begins, check_names as challenge_names, check_fields as challenge_checks, fields_of, check_info, reading_of as challenge_reading_of, read_challenge}
 use Rattle.read_authenticate.specs.Authenticate.{fields_at, check_ends, check_begins, check_names, check_shared, check_fields, mic_present, reading_of, read_authenticate}
-use Rattle.md5.specs.Words.{sines}
-use Rattle.md5.specs.Block.{step, stepped_by, turns, round, added, block_taken}
-use Rattle.md5.specs.Digest.{padding, start, word_bytes, md5}
+use Rattle.md5_digest.specs.Words.{sines}
+use Rattle.md5_digest.specs.Block.{step, stepped_by, turns, round, added, block_taken}
+use Rattle.md5_digest.specs.Digest.{padding, start, word_bytes, md5}
 use Rattle.hmac_md5.specs.Hmac.{filled_out, key_block, hmac}
 use Rattle.mic.specs.declared.Checking.TheVariants.{Compared}
 use Rattle.mic.specs.Mic.{zeroed, mic_of, check_inputs, computed_mic, check_mic}

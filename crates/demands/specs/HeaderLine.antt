@@ -5,8 +5,8 @@
 use Rattle.std.specs.Prelude.{ℕ, ◌+◌, ◌-◌, ◌*◌, ◌/◌, ◌%◌, ◌≤◌, ◌<◌, ◌≡◌, cond, ◌⊎◌, List, [], ◌∷◌, ◌++◌, eqb, length, take, drop, get_or, replicate}
 use Rattle.wire.specs.Text.{ascii}
 use Rattle.place.specs.declared.written.Written.TheVariants.{Length}
-use Rattle.base64.specs.Base64.{alphabet, encode}
-use Rattle.http_header.specs.HttpHeader.{export_answer, export_out, import_answer, import_out}
+use Rattle.base64_text.specs.Base64.{alphabet, encode}
+use Rattle.http_header_line.specs.HttpHeader.{export_answer, export_out, import_answer, import_out}
 use Rattle.c_number.specs.Number.{written_number}
 use Rattle.demands.specs.Answers.{DecodesWritten}
 use Rattle.demands.specs.Order.{check}

@@ -14,7 +14,7 @@ ghost use Rattle.read_nl_auth.specs.NlAuth.{read_nl_auth};
 ghost use Rattle.nl_auth_flags.specs.Flags.{known};
 ghost use Rattle.line_nl_string.specs.StringText.{text_answer, text_after};
 ghost use Rattle.write_nl_auth.specs.Writing.{request_answer, request_out, response_answer, response_out};
-ghost use Rattle.http_header.specs.HttpHeader.{export_answer, export_out, import_answer, import_out};
+ghost use Rattle.http_header_line.specs.HttpHeader.{export_answer, export_out, import_answer, import_out};
 ghost use Rattle.explain.specs.Explain.{explanation};
 ghost use Rattle.line.specs.Line.{negotiate_line, authenticate_line, challenge_line, nl_auth_line, ntlm_line, shown_line};
 ghost use Rattle.respond.specs.Answer.{supplied};
@@ -511,7 +511,7 @@ pub extern "C" fn dialtable_export_header(out: &mut [u8], msg: &[u8]) -> u64
     ensures answer { result ≡ written_number (export_answer (length out.old) msg.now) }
     ensures content { out.new ≡ export_out out.old msg.now }
 {
-    written_number(http_header::export(out, msg))
+    written_number(http_header_line::export(out, msg))
 }
 
 #[unsafe(no_mangle)]
@@ -519,5 +519,5 @@ pub extern "C" fn dialtable_import_header(out: &mut [u8], text: &[u8]) -> u64
     ensures answer { result ≡ written_number (import_answer (length out.old) text.now) }
     ensures content { out.new ≡ import_out out.old text.now }
 {
-    written_number(http_header::import(out, text))
+    written_number(http_header_line::import(out, text))
 }

@@ -8,11 +8,11 @@ use borrow.Author.Tests.{lt-ltb, le-ltb}
 use lib.Bits.{bit_xor}
 use lib.ListN.{length, get_or, set, replicate, length-set, length-append, length-replicate}
 use lib.Seq.{ext_get_or, get_or-set_same, get_or-set_other}
-use Rattle.md5.specs.Digest.{word_bytes, md5}
-use Rattle.md5.specs.State.{fresh, taken, finished}
-use Rattle.md5.specs.declared.state.State.{State}
-use Rattle.md5.proofs.States.{taken_append}
-use Rattle.md5.proofs.Whole.{is_md5}
+use Rattle.md5_digest.specs.Digest.{word_bytes, md5}
+use Rattle.md5_digest.specs.State.{fresh, taken, finished}
+use Rattle.md5_digest.specs.declared.state.State.{State}
+use Rattle.md5_digest.proofs.States.{taken_append}
+use Rattle.md5_digest.proofs.Whole.{is_md5}
 use Rattle.hmac_md5.specs.Hmac.{filled_out, key_block, xored, hmac, begun, hmac_finished}
 
 abbrev zeros : ℕ → List ℕ

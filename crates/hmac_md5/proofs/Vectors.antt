@@ -3,9 +3,9 @@ use mathlib.Core.Path.{◌≡◌, refl}
 use mathlib.Core.List.{[], ◌∷◌}
 use lib.ListN.{replicate}
 use Rattle.wire.specs.Text.{ascii}
-use Rattle.md5.specs.Words.{sines}
-use Rattle.md5.specs.Block.{step, stepped_by, turns, round, added, block_taken}
-use Rattle.md5.specs.Digest.{padding, start, word_bytes, md5}
+use Rattle.md5_digest.specs.Words.{sines}
+use Rattle.md5_digest.specs.Block.{step, stepped_by, turns, round, added, block_taken}
+use Rattle.md5_digest.specs.Digest.{padding, start, word_bytes, md5}
 use Rattle.hmac_md5.specs.Hmac.{filled_out, key_block, hmac}
 
 one : hmac (replicate 16 0x0B) (ascii "Hi There") ≡ 0x92 ∷ 0x94 ∷ 0x72 ∷ 0x7A ∷ 0x36 ∷ 0x38 ∷ 0xBB ∷ 0x1C ∷ 0x13 ∷ 0xF4 ∷ 0x8E ∷ 0xF8 ∷ 0x15 ∷ 0x8B ∷ 0xFC ∷ 0x9D ∷ []

@@ -1,9 +1,9 @@
 // HMAC-MD5 (RFC 2104) of a text that comes in pieces: `begin` gives the state of the inner digest, its `update` takes a piece, `end` gives the HMAC.
 ghost use Rattle.std.specs.Prelude.{◌≡◌, ◌+◌, ◌≤◌, length, get_or};
-ghost use Rattle.md5.specs.State.{fresh, taken};
+ghost use Rattle.md5_digest.specs.State.{fresh, taken};
 ghost use Rattle.hmac_md5.specs.Hmac.{key_block, xored, begun, hmac_finished, hmac};
 
-use md5::state::State;
+use md5_digest::state::State;
 
 // Byte i of a key with zero bytes after it.
 fn key_byte(key: &[u8], i: usize) -> u8
@@ -63,7 +63,7 @@ pub fn mac(key: &[u8], text: &[u8]) -> [u8; 16]
     ensures { result ≡ hmac key.now text.now }
 {
     if 64 < key.len() {
-        let short = md5::state::digest(key);
+        let short = md5_digest::state::digest(key);
         return short_mac(&short, text);
     }
     short_mac(key, text)

@@ -1,7 +1,7 @@
 // MD5 and HMAC-MD5 by the C calling convention, so that the published vectors run against the compiled code: the library's own calls take keys
 // of 16 bytes and whole messages. No part of the library.
 ghost use Rattle.std.specs.Prelude.{◌≡◌, length};
-ghost use Rattle.md5.specs.Digest.{md5};
+ghost use Rattle.md5_digest.specs.Digest.{md5};
 ghost use Rattle.hmac_md5.specs.Hmac.{hmac};
 ghost use Rattle.md5_calls.specs.Calls.{buffer_fits, call_answer, call_after};
 
@@ -19,7 +19,7 @@ pub extern "C" fn md5_of(m: &[u8], out: &mut [u8]) -> u64
     ensures content { out.new ≡ call_after (buffer_fits (length m.now) 0 (length out.old)) (md5 m.now) out.old }
 {
     if bufferFits(m.len(), 0, out.len()) {
-        let digest = md5::state::digest(m);
+        let digest = md5_digest::state::digest(m);
         give_bytes(out, &digest);
         return 0;
     }

@@ -35,9 +35,9 @@ use Rattle.read_authenticate.specs.declared.Reading.TheVariants.{Taken as Authen
 use Rattle.read_authenticate.specs.Authenticate.{layout as authenticate_layout, reading_of as authenticate_reading_of, read_authenticate}
 use Rattle.read_authenticate.proofs.Laws.{taken_by}
 use Rattle.read_authenticate.proofs.Mic.{mic_room}
-use Rattle.md5.specs.State.{taken}
-use Rattle.md5.specs.declared.state.State.{State}
-use Rattle.md5.proofs.States.{taken_append}
+use Rattle.md5_digest.specs.State.{taken}
+use Rattle.md5_digest.specs.declared.state.State.{State}
+use Rattle.md5_digest.proofs.States.{taken_append}
 use Rattle.hmac_md5.specs.Hmac.{begun, hmac_finished}
 use Rattle.hmac_md5.proofs.Laws.{of_pieces}
 use Rattle.mic.specs.declared.Computed.{Computed}

@@ -5,12 +5,12 @@ ghost use Rattle.wire.specs.declared.refusal.Refusal.TheVariants.{NoMic};
 ghost use Rattle.wire.specs.Check.{checked, after};
 ghost use Rattle.wire.specs.Number.{stands_at};
 ghost use Rattle.read_authenticate.specs.Authenticate.{read_authenticate};
-ghost use Rattle.md5.specs.State.{taken};
+ghost use Rattle.md5_digest.specs.State.{taken};
 ghost use Rattle.hmac_md5.specs.Hmac.{begun};
 ghost use Rattle.mic.specs.Mic.{zeroed, mic_of, authenticate_verdict, check_inputs, computed_mic, check_mic};
 
 use head::Kind;
-use md5::state::State;
+use md5_digest::state::State;
 use verdict::read_as;
 use wire::check::{Checked, Verdict, check};
 use wire::refusal::Refusal;

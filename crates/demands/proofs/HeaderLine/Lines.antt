@@ -12,7 +12,7 @@ use Rattle.wire.specs.Text.{ascii}
 use Rattle.wire.specs.declared.check.Checked.TheVariants.{Held}
 use Rattle.wire.proofs.Laws.{held_true}
 use Rattle.wire.proofs.Bools.{and_left, and_right}
-use Rattle.http_header.specs.HttpHeader.{upper, scheme_holds, after_spaces, text_after_scheme}
+use Rattle.http_header_line.specs.HttpHeader.{upper, scheme_holds, after_spaces, text_after_scheme}
 use Rattle.demands.specs.HeaderLine.{InCase, SchemeAt, TextAfter, TextIsThere, EqualIgnoringCase, LineOf}
 
 -- ---- letters

@@ -9,9 +9,9 @@ use lib.Dec.{eqb}
 use lib.ListN.{length, get_or}
 use borrow.Author.Tests.{eqb-true, eqb-false}
 use Rattle.wire.proofs.Bools.{and_left, and_right}
-use Rattle.base64.specs.Base64.{alphabet, letter, is_letter, value_of, group_holds, is_empty_text, is_base64, decode}
-use Rattle.base64.proofs.Alphabet.{value_letter, is_letter_lem, letter_value, value_small, pad_no_letter}
-use Rattle.base64.proofs.Size.{decoded_length}
+use Rattle.base64_text.specs.Base64.{alphabet, letter, is_letter, value_of, group_holds, is_empty_text, is_base64, decode}
+use Rattle.base64_text.proofs.Alphabet.{value_letter, is_letter_lem, letter_value, value_small, pad_no_letter}
+use Rattle.base64_text.proofs.Size.{decoded_length}
 use Rattle.demands.specs.HeaderLine.{characters, OneTable, HasValue, NotBase64, decoded_size}
 use Rattle.demands.proofs.Bools.{true_not_false, both_ways, or-either}
 

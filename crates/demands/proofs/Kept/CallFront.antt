@@ -50,7 +50,7 @@ use Rattle.c_pairs.specs.Pairs.{found_numbers, pair_numbers, count_outcome, sear
 use Rattle.c_respond.specs.Settings.{settings_of}
 use Rattle.c_respond.specs.Respond.{decision_numbers, decided_outcome}
 use Rattle.target_info.specs.TargetInfo.{find_pair}
-use Rattle.md5.specs.Digest.{word_bytes, md5}
+use Rattle.md5_digest.specs.Digest.{word_bytes, md5}
 use Rattle.hmac_md5.specs.Hmac.{hmac}
 use Rattle.mic.specs.Mic.{mic_of, check_inputs, when_clear, computed_mic}
 use Rattle.c_mic.specs.Numbers.{handed_out}

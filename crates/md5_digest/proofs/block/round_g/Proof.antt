@@ -1,0 +1,25 @@
+use borrow.Author.Rules.{rules}
+use Prim.Native.Nat.{◌≤◌, ◌-◌}
+use mathlib.Core.Path.{refl}
+use Rattle.md5_digest.specs.Block.{round}
+use Rattle.md5_digest.proofs.Rounds.{Left, round_begun, four_g, round_over}
+use Rattle.md5_digest.proofs.block.round_g.Statement.{statement}
+use Rattle.md5_digest.proofs.block.round_g.Tie as tie
+
+abbrev invariant-loop : tie.invariant-loop
+invariant-loop x q₀ n₀ q n = (16 ≤ n) × Left x 32 (round x q₀ 16) q n
+
+abbrev decreases-loop : tie.decreases-loop
+decreases-loop x q₀ n₀ q n = 32 - n
+
+pub round_g_spec : {M : Type 1} → statement M
+round_g_spec =
+    tie.close
+    (tie.spec
+    invariant-loop decreases-loop (λ c. (search rules, round_begun _ _ 16 32 refl refl)) (λ c κs. search rules) (λ c. search rules)
+    (λ c κs. search rules) (λ c. search rules) (λ c κs. search rules) (λ c. search rules) (λ c κs. search rules) (λ c. search rules)
+    (λ c. search rules) (λ c. (
+      search rules,
+      four_g _ _ _ _ _ _ _ _ c.step-g4.ensures c.before.step-g3.ensures c.before.before.step-g2.ensures
+          c.before.before.before.step_g.ensures c.before.before.before.before.before.loop.invariant.1 (search rules) (search rules),
+    )) (λ c. search round_over))
