@@ -1,4 +1,6 @@
 // TargetInfo (MS-NLMP 2.2.2.1): a list of AvPairs, each an id, a length and a value, up to the end pair.
+#![tactic(auto)]
+
 ghost use Rattle.std.specs.Prelude.{◌≡◌, ◌+◌, ◌<◌, ◌^◌};
 ghost use Rattle.av_pairs.specs.AvPairs.{left, pair_there, end_pair_holds, value_inside, value_size_holds, pair_of, step_at, ask_at, count_pairs, check_pairs, is_there};
 

@@ -1,4 +1,6 @@
 // Base64 with padding (RFC 4648, section 4).
+#![tactic(auto)]
+
 ghost use Rattle.std.specs.Prelude.{◌≡◌, true, false, cond, [], ◌∷◌, ◌+◌, ◌*◌, ◌≤◌, ◌<◌, length};
 ghost use Rattle.place.specs.Place.{Wrote};
 ghost use Rattle.base64_text.specs.Base64.{letter, three, two, one, encode, is_letter, value_of, group_holds, first_byte, second_byte, third_byte, group_bytes, is_base64, decode};

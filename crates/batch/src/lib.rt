@@ -1,5 +1,7 @@
 // A night's messages in one buffer: each place of a lent list is read as the kind that it is marked as, and has its answer filled
 // in.
+#![tactic(auto)]
+
 ghost use Rattle.std.specs.Prelude.{◌≡◌, ◌<◌, ◌^◌};
 ghost use Rattle.verdict.specs.Verdict.{refused_place};
 ghost use Rattle.batch.specs.Batch.{answer_of, place_inside, read_marked, verdict_of, answer_to, buffer_verdict, to_fill, filled};

@@ -1,4 +1,6 @@
 // The MIC of the C interface: a number for the answer, and its sixteen bytes in a lent array.
+#![tactic(auto)]
+
 ghost use Rattle.std.specs.Prelude.{◌≡◌, length};
 ghost use Rattle.c_number.specs.Outcome.{call_number, call_out};
 ghost use Rattle.mic.specs.Mic.{computed_mic, check_mic};

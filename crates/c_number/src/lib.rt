@@ -1,4 +1,6 @@
 // Answers as numbers, and numbers handed out in a lent array: what every call of the C interface is made of.
+#![tactic(auto)]
+
 ghost use Rattle.std.specs.Prelude.{◌≡◌, ◌≤◌, ◌<◌, length, take};
 ghost use Rattle.wire.specs.declared.refusal.Refusal.{Refusal};
 ghost use Rattle.wire.specs.declared.refusal.Refusal.TheVariants.{NoRoom};

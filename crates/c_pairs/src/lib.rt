@@ -1,4 +1,6 @@
 // The calls of the C interface over a pair list that is lent by itself.
+#![tactic(auto)]
+
 ghost use Rattle.std.specs.Prelude.{◌≡◌, length};
 ghost use Rattle.av_pairs.specs.AvPairs.{count_pairs, ask_at};
 ghost use Rattle.target_info.specs.TargetInfo.{find_pair};

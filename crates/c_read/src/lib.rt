@@ -1,4 +1,6 @@
 // The readings of the C interface: a number for the answer, and what was found in lent arrays.
+#![tactic(auto)]
+
 ghost use Rattle.std.specs.Prelude.{◌≡◌, ◌≤◌, length};
 ghost use Rattle.place.specs.Written.{at_front};
 ghost use Rattle.c_read.specs.Numbers.{negotiate_numbers, authenticate_numbers, challenge_numbers, timestamp_numbers, server_names_numbers, nl_auth_numbers};

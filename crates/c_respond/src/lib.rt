@@ -1,4 +1,6 @@
 // Answering a challenge by the C interface.
+#![tactic(auto)]
+
 ghost use Rattle.std.specs.Prelude.{◌≡◌, ◌≤◌, length};
 ghost use Rattle.respond.specs.Answer.{supplied};
 ghost use Rattle.respond.specs.Decision.{decision_on};

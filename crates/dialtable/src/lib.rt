@@ -1,5 +1,7 @@
 // The C interface: include/dialtable.h says what each call does. Each is a call of the crates below, with its answer as one
 // number.
+#![tactic(auto)]
+
 ghost use Rattle.std.specs.Prelude.{◌≡◌, not, eqb, length};
 ghost use Rattle.place.specs.Written.{bytes_answer, bytes_after};
 ghost use Rattle.av_pairs.specs.AvPairs.{check_pairs, count_pairs, ask_at};

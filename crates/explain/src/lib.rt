@@ -1,4 +1,6 @@
 // Why a message is refused: the checks of its kind, one to a line, with the figures of the one that failed.
+#![tactic(auto)]
+
 ghost use Rattle.std.specs.Prelude.{◌≡◌, min, length};
 ghost use Rattle.wire.specs.Number.{u16_at};
 ghost use Rattle.field.specs.Field.{no_field};

@@ -1,4 +1,6 @@
 // HMAC-MD5 (RFC 2104) of a text that comes in pieces: `begin` gives the state of the inner digest, its `update` takes a piece, `end` gives the HMAC.
+#![tactic(auto)]
+
 ghost use Rattle.std.specs.Prelude.{◌≡◌, ◌+◌, ◌≤◌, length, get_or};
 ghost use Rattle.md5_digest.specs.State.{fresh, taken};
 ghost use Rattle.hmac_md5.specs.Hmac.{key_block, xored, begun, hmac_finished, hmac};

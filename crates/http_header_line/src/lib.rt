@@ -1,4 +1,6 @@
 // Messages in HTTP header lines (request 12/12): the scheme word, a space, and the message in base64.
+#![tactic(auto)]
+
 ghost use Rattle.std.specs.Prelude.{◌≡◌, ◌+◌, ◌≤◌, length, drop};
 ghost use Rattle.place.specs.Place.{Wrote};
 ghost use Rattle.place.specs.Written.{answered, out_after};

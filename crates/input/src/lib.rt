@@ -1,4 +1,6 @@
 // Standard input, read to its end. A read that fails, be it not ready or interrupted, is never taken for the end.
+#![tactic(auto)]
+
 ghost use Rattle.std.specs.Prelude.{◌≡◌, ◌-◌, ◌≤◌, length};
 ghost use Rattle.libc.specs.Io.{Moved};
 ghost use Rattle.input.specs.Input.{after_read, InBuffer, Further};

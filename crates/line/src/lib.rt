@@ -1,4 +1,6 @@
 // Log lines: one for each message read.
+#![tactic(auto)]
+
 ghost use Rattle.std.specs.Prelude.{◌≡◌};
 ghost use Rattle.line.specs.Line.{negotiate_line, authenticate_line, nl_auth_line, challenge_line, ntlm_line, shown_line};
 ghost use Rattle.place.specs.Written.{bytes_answer, bytes_after};

@@ -1,4 +1,6 @@
 // The line of an AUTHENTICATE message that was taken.
+#![tactic(auto)]
+
 ghost use Rattle.std.specs.Prelude.{◌≡◌, ◌+◌, ◌-◌, ◌≤◌, length};
 ghost use Rattle.negotiate_flags.specs.Flags.{unicode};
 ghost use Rattle.read_authenticate.specs.declared.Reading.TheVariants.{Taken};

@@ -1,4 +1,6 @@
 // The line of a CHALLENGE message that was taken.
+#![tactic(auto)]
+
 ghost use Rattle.std.specs.Prelude.{◌≡◌, ◌+◌, ◌≤◌, length};
 ghost use Rattle.place.specs.Place.{Wrote};
 ghost use Rattle.place.specs.Written.{room_holds, bytes_answer, bytes_after};

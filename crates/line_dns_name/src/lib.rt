@@ -1,4 +1,6 @@
 // The text of a name in a line. The name is walked over a second time; at a fault it ends.
+#![tactic(auto)]
+
 ghost use Rattle.std.specs.Prelude.{◌≡◌, ◌+◌, ◌*◌, ◌≤◌, length};
 ghost use Rattle.place.specs.Place.{Wrote};
 ghost use Rattle.read_dns_name.specs.DnsName.{labels_at};

@@ -1,4 +1,6 @@
 // The last word of the lines of NTLM messages, which marks the fields whose MaxLen is unlike Len, and the line's end.
+#![tactic(auto)]
+
 ghost use Rattle.std.specs.Prelude.{◌≡◌, [], ◌∷◌, length};
 ghost use Rattle.place.specs.Place.{Wrote};
 ghost use Rattle.line_words.specs.Words.{Room};

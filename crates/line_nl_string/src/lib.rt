@@ -1,4 +1,6 @@
 // The text of an NL_AUTH string, as the message's line has it. `utf8` is set for strings C, D and E, and clear for A and B.
+#![tactic(auto)]
+
 ghost use Rattle.std.specs.Prelude.{◌≡◌, ◌-◌, length};
 ghost use Rattle.place.specs.Place.{Wrote};
 ghost use Rattle.place.specs.Written.{bytes_answer, bytes_after};

@@ -1,4 +1,6 @@
 // The line of a refusal.
+#![tactic(auto)]
+
 ghost use Rattle.std.specs.Prelude.{◌≡◌, ◌<◌, ◌^◌, length};
 ghost use Rattle.wire.specs.Refusal.{place_of};
 ghost use Rattle.place.specs.Place.{Wrote};

@@ -1,5 +1,7 @@
 // MD5 and HMAC-MD5 by the C calling convention, so that the published vectors run against the compiled code: the library's own calls take keys
 // of 16 bytes and whole messages. No part of the library.
+#![tactic(auto)]
+
 ghost use Rattle.std.specs.Prelude.{◌≡◌, length};
 ghost use Rattle.md5_digest.specs.Digest.{md5};
 ghost use Rattle.hmac_md5.specs.Hmac.{hmac};

@@ -1,4 +1,6 @@
 // The MIC of an AUTHENTICATE message: worked out from a session key and the three messages, and checked.
+#![tactic(auto)]
+
 ghost use Rattle.std.specs.Prelude.{◌≡◌, ◌+◌, ◌≤◌, length};
 ghost use Rattle.wire.specs.declared.check.Verdict.TheVariants.{Clear, Refused as Not};
 ghost use Rattle.wire.specs.declared.refusal.Refusal.TheVariants.{NoMic};

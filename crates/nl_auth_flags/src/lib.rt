@@ -1,4 +1,6 @@
 // The flags of NL_AUTH_MESSAGE: bits A to E, each named once by the string that it stands for, with a question for it.
+#![tactic(auto)]
+
 ghost use Rattle.std.specs.Prelude.{◌≡◌};
 ghost use Rattle.nl_auth_flags.specs.Flags.{nb_domain, nb_computer, dns_domain, dns_host, utf8_computer, known, strings_hold};
 

@@ -1,5 +1,7 @@
 // Reads one NTLM message from standard input and prints its checks, held, failed or not reached. Where that fails, standard error
 // says so.
+#![tactic(auto)]
+
 use input::Input;
 use place::written::Written;
 

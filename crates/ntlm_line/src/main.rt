@@ -1,4 +1,6 @@
 // Reads one NTLM message from standard input and prints its line. Where that fails, standard error says so.
+#![tactic(auto)]
+
 use input::Input;
 use place::written::Written;
 

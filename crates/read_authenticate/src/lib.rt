@@ -1,4 +1,5 @@
 // AUTHENTICATE_MESSAGE (MS-NLMP 2.2.1.3): reading.
+#![tactic(auto)]
 
 ghost use Rattle.std.specs.Prelude.{◌≡◌, ◌≤◌, length};
 ghost use Rattle.read_authenticate.specs.Authenticate.{fields_at, check_ends, check_begins, check_names, apart, check_shared, check_fields, mic_present, reading_of, mic_bytes, read_authenticate};

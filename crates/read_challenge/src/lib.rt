@@ -1,4 +1,6 @@
 // CHALLENGE_MESSAGE (MS-NLMP 2.2.1.2): reading.
+#![tactic(auto)]
+
 ghost use Rattle.std.specs.Prelude.{◌≡◌, ◌≤◌, length};
 ghost use Rattle.read_challenge.specs.Challenge.{fields_at, check_ends, check_begins, check_names, check_fields, fields_of, read_info, reading_of, reading_refusal};
 ghost use Rattle.read_challenge.specs.Challenge.{full_reading_of, full_refusal, server_challenge, read_challenge, timestamp_of, server_names_of};

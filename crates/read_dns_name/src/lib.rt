@@ -1,4 +1,6 @@
 // A name in a buffer as RFC 1035 section 4.1.4 codes it: labels after a length byte, ended by a zero byte or by a jump.
+#![tactic(auto)]
+
 ghost use Rattle.std.specs.Prelude.{◌≡◌, ◌+◌, ◌≤◌, ◌<◌, ◌^◌, length};
 ghost use Rattle.read_dns_name.specs.DnsName.{left, begin, past_label, jumped, ended, jump_place, label_of, jump_to, jump_at, step_at, read_name};
 

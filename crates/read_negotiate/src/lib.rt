@@ -1,4 +1,6 @@
 // NEGOTIATE_MESSAGE (MS-NLMP 2.2.1.1): reading.
+#![tactic(auto)]
+
 ghost use Rattle.std.specs.Prelude.{◌≡◌, ◌≤◌, length};
 ghost use Rattle.read_negotiate.specs.Negotiate.{fields_at, check_ends, check_begins, check_fields, read_negotiate};
 

@@ -1,4 +1,6 @@
 // NL_AUTH_MESSAGE (MS-NRPC 2.2.1.3.1): reading.
+#![tactic(auto)]
+
 pub mod name;
 pub mod string;
 

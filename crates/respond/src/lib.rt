@@ -1,4 +1,6 @@
 // Answering a challenge (MS-NLMP 3.1.5.1.2).
+#![tactic(auto)]
+
 pub mod answer;
 pub mod by_default;
 pub mod decision;

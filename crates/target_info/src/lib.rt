@@ -1,6 +1,8 @@
 // What is looked for in TargetInfo's list of pairs. `read_list` and `find_pair` make checks 10 to 13 on the list. `first_pair` and
 // `server_names_in` ask that these held, so that none of them takes a list that runs out as ended; `pair_at` asks that they hold
 // from its place on.
+#![tactic(auto)]
+
 ghost use Rattle.std.specs.Prelude.{◌≡◌, true, ◌+◌, ◌≤◌, length};
 ghost use Rattle.av_id.specs.AvId.{is_timestamp};
 ghost use Rattle.wire.specs.declared.check.Verdict.TheVariants.{Clear};

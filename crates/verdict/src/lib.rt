@@ -1,4 +1,6 @@
 // A message's verdict: read as a kind, whatever its own type says, all its checks held, or the refusal of the first that failed.
+#![tactic(auto)]
+
 ghost use Rattle.std.specs.Prelude.{◌≡◌};
 ghost use Rattle.verdict.specs.Verdict.{read_as};
 

@@ -1,4 +1,6 @@
 // AUTHENTICATE_MESSAGE (MS-NLMP 2.2.1.3): writing.
+#![tactic(auto)]
+
 ghost use Rattle.std.specs.Prelude.{◌≡◌, ◌++◌, ◌+◌, ◌≤◌, min, length};
 ghost use Rattle.place.specs.Place.{Wrote};
 ghost use Rattle.write_field.specs.Writing.{head_bytes};

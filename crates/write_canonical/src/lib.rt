@@ -1,4 +1,6 @@
 // AUTHENTICATE_MESSAGE (MS-NLMP 2.2.1.3), tidied: one writing for one meaning.
+#![tactic(auto)]
+
 ghost use Rattle.std.specs.Prelude.{◌≡◌, length};
 ghost use Rattle.write_canonical.specs.Canonical.{meaning_of, meaning_answer, meaning_out, canonical_answer, canonical_out};
 

@@ -1,4 +1,6 @@
 // Writing a name without jumps, from text split at its full stops.
+#![tactic(auto)]
+
 ghost use Rattle.std.specs.Prelude.{◌≡◌, [], ◌∷◌, ◌++◌, ◌+◌, ◌≤◌, min, length, drop};
 ghost use Rattle.place.specs.Place.{Wrote};
 ghost use Rattle.wire.specs.declared.check.Checked.TheVariants.{Held};

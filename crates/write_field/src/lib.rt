@@ -1,4 +1,6 @@
 // What every NTLM message that is written has: a field's head, Version, and a field's bytes in the payload.
+#![tactic(auto)]
+
 ghost use Rattle.std.specs.Prelude.{◌≡◌, ◌+◌, ◌≤◌, length};
 ghost use Rattle.place.specs.Place.{Wrote};
 ghost use Rattle.write_field.specs.Writing.{written_field, head_bytes, version_bytes};

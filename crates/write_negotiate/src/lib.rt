@@ -1,4 +1,6 @@
 // NEGOTIATE_MESSAGE (MS-NLMP 2.2.1.1): writing.
+#![tactic(auto)]
+
 ghost use Rattle.std.specs.Prelude.{◌≡◌, ◌++◌, ◌+◌, ◌≤◌, min, length};
 ghost use Rattle.place.specs.Place.{Wrote};
 ghost use Rattle.write_negotiate.specs.Writing.{flags_to_write, fields_to, after_type, fixed_bytes, negotiate_bytes, size_to_write, check_to_write, write_answer, write_out};

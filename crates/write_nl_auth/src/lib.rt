@@ -1,5 +1,7 @@
 // NL_AUTH_MESSAGE (MS-NRPC 2.2.1.3.1): writing. The strings of bits A to E are lent as `a` to `e`;
 // C, D and E are texts, written as names by RFC 1035.
+#![tactic(auto)]
+
 ghost use Rattle.std.specs.Prelude.{◌≡◌, ◌+◌, ◌≤◌, min, length};
 ghost use Rattle.wire.specs.declared.check.Checked.TheVariants.{Held};
 ghost use Rattle.wire.specs.declared.check.Verdict.TheVariants.{Clear};

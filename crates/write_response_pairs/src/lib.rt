@@ -1,4 +1,6 @@
 // The pair list that goes back in the answer (source document 004): the challenge's pairs, with pairs 6, 10 and 9 as they are due.
+#![tactic(auto)]
+
 pub mod av_flags;
 
 ghost use Rattle.std.specs.Prelude.{◌≡◌, true, cond, [], ◌∷◌, ◌+◌, ◌≤◌, min, eqb, length};
