@@ -11,7 +11,7 @@ use wire::refusal::Refusal;
 
 pub mod walk;
 
-#[derive(Drop)]
+#[derive(Clone, Copy)]
 pub struct AvPair {
     pub id: AvId,
     // The place of the value, counted from the start of the list.
@@ -20,7 +20,7 @@ pub struct AvPair {
 }
 
 // What stands at a place of a list.
-#[derive(Drop)]
+#[derive(Clone, Copy)]
 pub enum Step {
     Pair(AvPair),
     End,
@@ -28,21 +28,21 @@ pub enum Step {
 }
 
 // What asking at a place of a list gives, and the place to ask at next.
-#[derive(Drop)]
+#[derive(Clone, Copy)]
 pub struct Asked {
     pub step: Step,
     pub next: usize,
 }
 
 // How many pairs a list holds, the end pair left out.
-#[derive(Drop)]
+#[derive(Clone, Copy)]
 pub enum Count {
     Pairs(usize),
     Refused(Refusal),
 }
 
 // A pair that was looked for, or that none is there.
-#[derive(Drop)]
+#[derive(Clone, Copy)]
 pub enum Found {
     At(AvPair),
     Nothing,

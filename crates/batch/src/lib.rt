@@ -13,7 +13,7 @@ use wire::refusal::Refusal;
 
 // A message's answer: the refusal's number, field and pair place, all 0 if it is taken.
 #[repr(C)]
-#[derive(Drop)]
+#[derive(Clone, Copy)]
 pub struct Answer {
     pub number: u32,
     pub field: u32,
@@ -22,7 +22,7 @@ pub struct Answer {
 
 // An entry of a list: where a message stands in the buffer, the mark of the kind that it is read as, and room for its answer.
 #[repr(C)]
-#[derive(Drop)]
+#[derive(Clone, Copy)]
 pub struct Entry {
     pub start: u64,
     pub length: u64,

@@ -5,7 +5,7 @@ ghost use Rattle.c_respond.specs.Settings.{demand128, ntlmv2, integrity, confide
 use respond::decision::Settings;
 use wire::number::has;
 
-#[derive(Drop)]
+#[derive(Clone, Copy)]
 pub struct SettingsBits {
     pub bits: u32,
 }

@@ -6,14 +6,14 @@ ghost use Rattle.libc.specs.Io.{Moved};
 ghost use Rattle.input.specs.Input.{after_read, InBuffer, Further};
 
 // The input, or as much of it as its buffer holds: how many bytes; or that it couldn't be read to its end.
-#[derive(Drop)]
+#[derive(Clone, Copy)]
 pub enum Input {
     Whole(usize),
     Failed,
 }
 
 // After a read: how many bytes are there, with more to come, or that reading is over.
-#[derive(Drop)]
+#[derive(Clone, Copy)]
 pub enum Reading {
     On(usize),
     Over(Input),

@@ -15,7 +15,7 @@ use wire::check::Checked;
 use wire::refusal::Refusal;
 
 // What the print shows of the check that failed; all are 0 where none did.
-#[derive(Drop)]
+#[derive(Clone, Copy)]
 pub struct Figures {
     pub number: u8,
     pub field: u8,

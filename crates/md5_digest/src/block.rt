@@ -7,7 +7,7 @@ use crate::words::{f, g, h, i, plus, rotated, sine};
 use wire::number::u32_at;
 
 // The four-word buffer.
-#[derive(Drop)]
+#[derive(Clone, Copy)]
 pub struct Buffer {
     pub a: u32,
     pub b: u32,

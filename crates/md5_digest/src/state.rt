@@ -7,7 +7,7 @@ use crate::block::{Buffer, block_taken};
 use wire::number::fill;
 
 // The buffer after the whole blocks so far, the block that is being filled, and the count of all bytes taken.
-#[derive(Drop)]
+#[derive(Clone, Copy)]
 pub struct State {
     pub buffer: Buffer,
     pub tail: [u8; 64],

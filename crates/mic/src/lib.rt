@@ -18,14 +18,14 @@ use wire::check::{Checked, Verdict, check};
 use wire::refusal::Refusal;
 
 // What working it out answers; the MIC's bytes are zeros where there is a refusal.
-#[derive(Drop)]
+#[derive(Clone, Copy)]
 pub struct Computed {
     pub verdict: Verdict,
     pub mic: [u8; 16],
 }
 
 // What checking it answers: whether the message has the MIC that was worked out.
-#[derive(Drop)]
+#[derive(Clone, Copy)]
 pub enum Checking {
     Compared(bool),
     Refused(Refusal),

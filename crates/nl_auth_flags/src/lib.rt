@@ -7,7 +7,7 @@ ghost use Rattle.nl_auth_flags.specs.Flags.{nb_domain, nb_computer, dns_domain, 
 use wire::check::{Checked, check};
 use wire::number::has;
 
-#[derive(Drop)]
+#[derive(Clone, Copy)]
 pub struct NlAuthFlags {
     pub bits: u32,
 }

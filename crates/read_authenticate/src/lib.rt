@@ -12,7 +12,7 @@ use wire::number::fill;
 use wire::refusal::Refusal;
 
 // The six fields, in field order: 1 to 6.
-#[derive(Drop)]
+#[derive(Clone, Copy)]
 pub struct Fields {
     pub lm: Field,
     pub nt: Field,
@@ -22,21 +22,21 @@ pub struct Fields {
     pub key: Field,
 }
 
-#[derive(Drop)]
+#[derive(Clone, Copy)]
 pub struct Authenticate {
     pub flags: NegotiateFlags,
     pub fields: Fields,
     pub mic_present: bool,
 }
 
-#[derive(Drop)]
+#[derive(Clone, Copy)]
 pub enum Reading {
     Taken(Authenticate),
     Refused(Refusal),
 }
 
 // What reading answers; the MIC's bytes are zeros where there is none.
-#[derive(Drop)]
+#[derive(Clone, Copy)]
 pub struct Answer {
     pub reading: Reading,
     pub mic: [u8; 16],

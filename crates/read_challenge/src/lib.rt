@@ -14,51 +14,51 @@ use wire::number::fill;
 use wire::refusal::Refusal;
 
 // The two fields, in field order: 1 and 2.
-#[derive(Drop)]
+#[derive(Clone, Copy)]
 pub struct Fields {
     pub target_name: Field,
     pub target_info: Field,
 }
 
-#[derive(Drop)]
+#[derive(Clone, Copy)]
 pub struct Challenge {
     pub flags: NegotiateFlags,
     pub fields: Fields,
 }
 
-#[derive(Drop)]
+#[derive(Clone, Copy)]
 pub enum Reading {
     Taken(Challenge),
     Refused(Refusal),
 }
 
 // What reading answers; ServerChallenge's bytes are zeros where the message is refused.
-#[derive(Drop)]
+#[derive(Clone, Copy)]
 pub struct Answer {
     pub reading: Reading,
     pub server_challenge: [u8; 8],
 }
 
 // A challenge with what its TargetInfo holds.
-#[derive(Drop)]
+#[derive(Clone, Copy)]
 pub struct FullChallenge {
     pub challenge: Challenge,
     pub contents: Contents,
 }
 
-#[derive(Drop)]
+#[derive(Clone, Copy)]
 pub enum FullReading {
     Taken(FullChallenge),
     Refused(Refusal),
 }
 
-#[derive(Drop)]
+#[derive(Clone, Copy)]
 pub enum TimestampReading {
     Taken(Timestamp),
     Refused(Refusal),
 }
 
-#[derive(Drop)]
+#[derive(Clone, Copy)]
 pub enum ServerNamesReading {
     Taken(ServerNames),
     Refused(Refusal),

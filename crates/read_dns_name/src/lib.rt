@@ -7,7 +7,7 @@ ghost use Rattle.read_dns_name.specs.DnsName.{left, begin, past_label, jumped, e
 use wire::check::{Checked, check};
 
 // Where the reading of a name has come to. Places are counted from the first byte of the buffer.
-#[derive(Drop)]
+#[derive(Clone, Copy)]
 pub struct Cursor {
     pub at: usize,
     // The first byte of the run of labels that is being read.
@@ -20,7 +20,7 @@ pub struct Cursor {
 }
 
 // Why a name is refused: 15, 50, 51, 52 and 53.
-#[derive(Drop)]
+#[derive(Clone, Copy)]
 pub enum Fault {
     CutShort,
     WrongTopBits,
@@ -30,7 +30,7 @@ pub enum Fault {
 }
 
 // What stands at the cursor: a label of so many bytes, a jump to a place, the zero byte, or a fault.
-#[derive(Drop)]
+#[derive(Clone, Copy)]
 pub enum Step {
     Label(usize),
     Jump(usize),
@@ -39,13 +39,13 @@ pub enum Step {
 }
 
 // A name that was read: the jumps taken, and the place where the next string starts.
-#[derive(Drop)]
+#[derive(Clone, Copy)]
 pub struct Name {
     pub jumps: usize,
     pub next: usize,
 }
 
-#[derive(Drop)]
+#[derive(Clone, Copy)]
 pub enum Reading {
     Taken(Name),
     Refused(Fault),

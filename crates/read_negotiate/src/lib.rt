@@ -11,19 +11,19 @@ use wire::check::{Checked, Verdict};
 use wire::refusal::Refusal;
 
 // The two names, in field order: 1 and 2. Both are OEM bytes, whatever the flags say.
-#[derive(Drop)]
+#[derive(Clone, Copy)]
 pub struct Fields {
     pub domain: Field,
     pub workstation: Field,
 }
 
-#[derive(Drop)]
+#[derive(Clone, Copy)]
 pub struct Negotiate {
     pub flags: NegotiateFlags,
     pub fields: Fields,
 }
 
-#[derive(Drop)]
+#[derive(Clone, Copy)]
 pub enum Reading {
     Taken(Negotiate),
     Refused(Refusal),

@@ -16,7 +16,7 @@ use wire::number::u32_at;
 use wire::refusal::Refusal;
 
 // Where the five strings stand, A to E. Empty at place 0: a string whose bit is clear, and every string of a response.
-#[derive(Drop)]
+#[derive(Clone, Copy)]
 pub struct Strings {
     pub nb_domain: NlString,
     pub nb_computer: NlString,
@@ -25,7 +25,7 @@ pub struct Strings {
     pub utf8_computer: NlString,
 }
 
-#[derive(Drop)]
+#[derive(Clone, Copy)]
 pub struct NlAuth {
     pub message_type: u32,
     pub flags: NlAuthFlags,
@@ -38,7 +38,7 @@ impl NlAuth {
     pub const RESPONSE: u32 = 1;
 }
 
-#[derive(Drop)]
+#[derive(Clone, Copy)]
 pub enum Reading {
     Taken(NlAuth),
     Refused(Refusal),

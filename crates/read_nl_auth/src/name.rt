@@ -30,7 +30,7 @@ pub fn in_buffer(at: u32) -> usize
 }
 
 // What stands at a place: a string and the place where the next one starts, or why its name is refused.
-#[derive(Drop)]
+#[derive(Clone, Copy)]
 pub enum NameScan {
     Found(NlString, usize),
     Refused(Refusal),

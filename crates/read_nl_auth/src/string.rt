@@ -4,7 +4,7 @@ ghost use Rattle.field.specs.Field.{PartAt};
 ghost use Rattle.read_nl_auth.specs.NlAuth.{string_bytes, string_start, string_length, string_at, string_under};
 
 // Where a string stands in its message, and how many jumps were taken in reading it. One that isn't there has 0 in all three.
-#[derive(Drop)]
+#[derive(Clone, Copy)]
 pub struct NlString {
     pub offset: u32,
     pub len: u16,
@@ -27,7 +27,7 @@ impl NlString {
 }
 
 // What stands at a place: a string and the place where the next one starts, or bytes without a zero byte.
-#[derive(Drop)]
+#[derive(Clone, Copy)]
 pub enum Scan {
     Found(NlString, usize),
     Missing,

@@ -12,14 +12,14 @@ use wire::number::fill;
 use wire::refusal::Refusal;
 use write_authenticate::write;
 
-#[derive(Drop)]
+#[derive(Clone, Copy)]
 pub struct Answer {
     pub len: usize,
     pub time: u64,
     pub mic_due: bool,
 }
 
-#[derive(Drop)]
+#[derive(Clone, Copy)]
 pub enum Answered {
     Sent(Answer),
     Refused(Refusal),

@@ -13,7 +13,7 @@ use target_info::{Timestamp, server_names_in};
 use wire::check::{Checked, check};
 use wire::refusal::Refusal;
 
-#[derive(Drop)]
+#[derive(Clone, Copy)]
 pub struct Settings {
     pub demand_128: bool,
     pub ntlmv2: bool,
@@ -22,13 +22,13 @@ pub struct Settings {
 }
 
 // Of a challenge that is answered.
-#[derive(Drop)]
+#[derive(Clone, Copy)]
 pub struct Decision {
     pub flags: NegotiateFlags,
     pub timestamp: Timestamp,
 }
 
-#[derive(Drop)]
+#[derive(Clone, Copy)]
 pub enum Decided {
     Taken(Decision),
     Refused(Refusal),

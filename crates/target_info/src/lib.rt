@@ -16,34 +16,34 @@ use wire::number::{u16_at, u64_at};
 use wire::refusal::Refusal;
 
 // What a search answers: what it found in a list without fault, or the refusal of the list.
-#[derive(Drop)]
+#[derive(Clone, Copy)]
 pub enum Search {
     Done(Found),
     Refused(Refusal),
 }
 
 // The value of the first timestamp pair, if there is one.
-#[derive(Drop)]
+#[derive(Clone, Copy)]
 pub enum Timestamp {
     Time(u64),
     Nothing,
 }
 
 // What a list holds: how many pairs, the end pair left out, and the timestamp.
-#[derive(Drop)]
+#[derive(Clone, Copy)]
 pub struct Contents {
     pub pairs: usize,
     pub timestamp: Timestamp,
 }
 
-#[derive(Drop)]
+#[derive(Clone, Copy)]
 pub enum ListReading {
     Taken(Contents),
     Refused(Refusal),
 }
 
 // Which of the server's NetBIOS names are there: pairs 1 and 2.
-#[derive(Drop)]
+#[derive(Clone, Copy)]
 pub struct ServerNames {
     pub nb_computer_name: bool,
     pub nb_domain_name: bool,

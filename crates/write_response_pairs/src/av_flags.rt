@@ -2,7 +2,7 @@
 ghost use Rattle.std.specs.Prelude.{◌≡◌, cond, ◌≤◌};
 ghost use Rattle.write_response_pairs.specs.ResponsePairs.{due_bits};
 
-#[derive(Drop)]
+#[derive(Clone, Copy)]
 pub struct AvFlags {
     pub bits: u32,
 }

@@ -24,7 +24,7 @@ use wire::refusal::Refusal;
 
 // What the walk over a list finds: the size of the pairs that are kept, as it is counted for check 30, and whether a timestamp
 // and a flags pair are there.
-#[derive(Drop)]
+#[derive(Clone, Copy)]
 struct Seen {
     pub size: usize,
     pub timestamp: bool,
@@ -33,7 +33,7 @@ struct Seen {
 
 // The list that is to be written: its size, as it is counted for check 30, the bits that are due, and whether a flags pair is
 // added for them.
-#[derive(Drop)]
+#[derive(Clone, Copy)]
 struct Plan {
     pub size: usize,
     pub bits: u32,

@@ -8,18 +8,18 @@ use Rattle.base64_text.proofs.Writing.{Sound, sound_start, sound_group, sound_ne
 use Rattle.base64_text.proofs.put_decoded.Statement.{statement}
 use Rattle.base64_text.proofs.put_decoded.Tie as tie
 
-abbrev invariant-loop : tie.invariant-loop
-invariant-loop out₀ t q₀ i₀ out q i =
+abbrev invariant-loop-i : tie.invariant-loop-i
+invariant-loop-i out₀ t q₀ i₀ out q i =
     (i ≤ length t) × Sound t i × Partly out₀ out q₀.at q.at (decode (drop i t)) (decode t)
 
-abbrev decreases-loop : tie.decreases-loop
-decreases-loop out₀ t q₀ i₀ out q i = length t - i
+abbrev decreases-loop-i : tie.decreases-loop-i
+decreases-loop-i out₀ t q₀ i₀ out q i = length t - i
 
 pub put_decoded_spec : {M : Type 1} → statement M
 put_decoded_spec =
     tie.close
     (tie.spec
-    invariant-loop decreases-loop
+    invariant-loop-i decreases-loop-i
     (λ c. (search rules, search sound_start, none_written _ _ _)) (λ c. search rules) (λ c. search rules) (λ c. search rules) (λ c. search rules)
     (λ c. search rules) (λ c. search rules) (λ c. search rules) (λ c. search rules) (λ c κs. (search sound_group, search full_left))
     (λ c. search rules) (λ c. search rules) (λ c. (search rules, search sound_next, search next_full)) (λ c. search rules) (λ c. search rules)

@@ -4,18 +4,18 @@ use Rattle.read_dns_name.proofs.Walks.{room, Reached, reach_start, reach_short, 
 use Rattle.read_dns_name.proofs.read_name.Statement.{statement}
 use Rattle.read_dns_name.proofs.read_name.Tie as tie
 
-abbrev invariant-loop : tie.invariant-loop
-invariant-loop buf start c₀ c = Reached buf start c
+abbrev invariant-loop-n : tie.invariant-loop-n
+invariant-loop-n buf start c₀ c = Reached buf start c
 
-abbrev decreases-loop : tie.decreases-loop
-decreases-loop buf start c₀ c = room c
+abbrev decreases-loop-n : tie.decreases-loop-n
+decreases-loop-n buf start c₀ c = room c
 
 pub read_name_spec : {M : Type 1} → statement M
 read_name_spec =
     tie.close
     (tie.spec
-    invariant-loop
-    decreases-loop
+    invariant-loop-n
+    decreases-loop-n
     (λ c κs. search rules) (λ c. search reach_start) (λ c κs. search reach_short) (λ c. search rules)
     (λ c κs. (search at_fits, search coded_fits)) (λ c. search label_falls) (λ c. search reach_label)
     (λ c. search rules) (λ c κs. (search behind_fits, search jumps_fit)) (λ c. search jump_falls) (λ c. search reach_jump)

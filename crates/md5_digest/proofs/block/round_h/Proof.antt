@@ -6,17 +6,17 @@ use Rattle.md5_digest.proofs.Rounds.{Left, round_begun, four_h, round_over}
 use Rattle.md5_digest.proofs.block.round_h.Statement.{statement}
 use Rattle.md5_digest.proofs.block.round_h.Tie as tie
 
-abbrev invariant-loop : tie.invariant-loop
-invariant-loop x q₀ n₀ q n = (32 ≤ n) × Left x 48 (round x q₀ 32) q n
+abbrev invariant-loop-n : tie.invariant-loop-n
+invariant-loop-n x q₀ n₀ q n = (32 ≤ n) × Left x 48 (round x q₀ 32) q n
 
-abbrev decreases-loop : tie.decreases-loop
-decreases-loop x q₀ n₀ q n = 48 - n
+abbrev decreases-loop-n : tie.decreases-loop-n
+decreases-loop-n x q₀ n₀ q n = 48 - n
 
 pub round_h_spec : {M : Type 1} → statement M
 round_h_spec =
     tie.close
     (tie.spec
-    invariant-loop decreases-loop (λ c. (search rules, round_begun _ _ 32 48 refl refl)) (λ c κs. search rules) (λ c. search rules)
+    invariant-loop-n decreases-loop-n (λ c. (search rules, round_begun _ _ 32 48 refl refl)) (λ c κs. search rules) (λ c. search rules)
     (λ c κs. search rules) (λ c. search rules) (λ c κs. search rules) (λ c. search rules) (λ c κs. search rules) (λ c. search rules)
     (λ c. search rules) (λ c. (
       search rules,
