@@ -10,17 +10,17 @@ use Rattle.target_info.proofs.Searches.{Looked, look, look_next, look_stop, look
 use Rattle.target_info.proofs.first_pair.Statement.{statement}
 use Rattle.target_info.proofs.first_pair.Tie as tie
 
-abbrev invariant-loop : tie.invariant-loop
-invariant-loop list id at₀ at = Looked id list at × (stop_at list at ≡ Clear)
+abbrev invariant-loop-p : tie.invariant-loop-p
+invariant-loop-p list id at₀ at = Looked id list at × (stop_at list at ≡ Clear)
 
-abbrev decreases-loop : tie.decreases-loop
-decreases-loop list id at₀ at = length list - at
+abbrev decreases-loop-p : tie.decreases-loop-p
+decreases-loop-p list id at₀ at = length list - at
 
 pub first_pair_spec : {M : Type 1} → statement M
 first_pair_spec =
     tie.close
     (tie.spec
-    invariant-loop
-    decreases-loop
+    invariant-loop-p
+    decreases-loop-p
     (λ c. search (look, clear_all)) (λ c κs. search rules) (λ c. search rules) (λ c. search rules) (λ c κs. search rules) (λ c. search rules)
     (λ c. search there_fits) (λ c. search there_falls) (λ c. search (look_next, there_clear)) (λ c. search look_stop) (λ c. search look_here))
