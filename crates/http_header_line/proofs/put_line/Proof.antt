@@ -11,4 +11,4 @@ unfolding header_line
 put_line_spec =
     tie.close
     (tie.spec
-    (λ c. search rules) (λ c κs. search word_room) (λ c κs. search text_room) (λ c. search rules) (λ c. search and_then))
+    (λ c κs. search word_room) (λ c κs. search text_room) (λ c. search rules) (λ c. search and_then))

@@ -13,5 +13,5 @@ mic_present_spec =
     let d = c.before.before.before.before.before.before in
     let e = d.before.before.before in
     mic_is e.before.before.before.args.n e.before.before.before.args.f
-    e.before.before.begins.ensures e.before.begins2.ensures e.begins3.ensures
-    d.before.before.begins4.ensures d.before.begins5.ensures d.begins6.ensures))
+    e.before.before.begins.ensures e.before.begins-2.ensures e.begins-3.ensures
+    d.before.before.begins-4.ensures d.before.begins-5.ensures d.begins-6.ensures))

@@ -6,17 +6,17 @@ use Prim.Native.Nat.{◌-◌}
 use lib.ListN.{length}
 use Rattle.write_dns_name.proofs.Coding.{Coding, code_start, code_inside, last_kept, last_small, last_room, code_last, more_small, more_room, code_more}
 
-abbrev invariant-loop : tie.invariant-loop
-invariant-loop out₀ text q₀ at₀ out q at = Coding out₀ out text q₀.at q.at at
+abbrev invariant-loop-out : tie.invariant-loop-out
+invariant-loop-out out₀ text q₀ at₀ out q at = Coding out₀ out text q₀.at q.at at
 
-abbrev decreases-loop : tie.decreases-loop
-decreases-loop out₀ text q₀ at₀ out q at = length text - at
+abbrev decreases-loop-out : tie.decreases-loop-out
+decreases-loop-out out₀ text q₀ at₀ out q at = length text - at
 
 pub put_pieces_spec : {M : Type 1} → statement M
 put_pieces_spec =
     tie.close
     (tie.spec
-    invariant-loop decreases-loop (λ c. search code_start) (λ c κs. search code_inside) (λ c. search rules) (λ c. search rules)
+    invariant-loop-out decreases-loop-out (λ c. search code_start) (λ c κs. search code_inside) (λ c. search rules) (λ c. search rules)
     (λ c. search rules) (λ c. search rules) (λ c κs. (search last_small, search last_room)) (λ c. search rules) (λ c. search rules)
     (λ c. search rules) (λ c κs. (search more_small, search more_room)) (λ c. search rules) (λ c. search rules) (λ c. search code_more)
     (λ c. search last_kept) (λ c. search code_last))

@@ -9,4 +9,4 @@ put_version_spec =
     tie.close
     (tie.spec
     (λ c κs. search rules) (λ c κs. search rules) (λ c. search rules) (λ c. (search rules, search version_set))
-    (λ c. search rules) (λ c κs. search rules) (λ c. search rules) (λ c. (search rules, search version_clear)))
+    (λ c κs. search rules) (λ c. search rules) (λ c. (search rules, search version_clear)))

@@ -6,17 +6,17 @@ use Rattle.read_nl_auth.proofs.Scans.{Passed, start, next, here, nowhere}
 use Rattle.read_nl_auth.proofs.string.string_length.Statement.{statement}
 use Rattle.read_nl_auth.proofs.string.string_length.Tie as tie
 
-abbrev invariant-loop : tie.invariant-loop
-invariant-loop s i₀ i = Passed s i
+abbrev invariant-loop-i : tie.invariant-loop-i
+invariant-loop-i s i₀ i = Passed s i
 
-abbrev decreases-loop : tie.decreases-loop
-decreases-loop s i₀ i = length s - i
+abbrev decreases-loop-i : tie.decreases-loop-i
+decreases-loop-i s i₀ i = length s - i
 
 pub string_length_spec : {M : Type 1} → statement M
 string_length_spec =
     tie.close
     (tie.spec
-    invariant-loop
-    decreases-loop
+    invariant-loop-i
+    decreases-loop-i
     (λ c. start _) (λ c. search rules) (λ c. search here) (λ c. search rules) (λ c. search rules) (λ c. search next)
     (λ c. search nowhere))

@@ -12,6 +12,6 @@ bytes_spec =
     (tie.spec
     (λ c. search rules) (λ c. search rules) (λ c. search rules) (λ c. search rules) (λ c. search rules)
     (λ c. search rules)
-    (λ c. (simp (span, own_bytes_lem c.before.before.before.before.args.msg.now c.before.before.before.before.args.self c.before.if1.true), (refl, simp (own_start c.before.before.before.before.args.msg.now c.before.before.before.before.args.self c.before.if1.true) (search rules))))
+    (λ c. (simp (span, own_bytes_lem c.before.before.before.args.msg.now c.before.before.before.args.self c.if-end-msg.true), (refl, simp (own_start c.before.before.before.args.msg.now c.before.before.before.args.self c.if-end-msg.true) (search rules))))
     (λ c. search rules)
-    (λ c. (simp (no_bytes c.before.before.before.before.args.msg.now c.before.before.before.before.args.self c.before.if1.false), (refl, simp (no_start c.before.before.before.before.args.msg.now c.before.before.before.before.args.self c.before.if1.false) (search rules)))))
+    (λ c. (simp (no_bytes c.before.before.before.args.msg.now c.before.before.before.args.self c.if-end-msg.false), (refl, simp (no_start c.before.before.before.args.msg.now c.before.before.before.args.self c.if-end-msg.false) (search rules)))))
