@@ -20,6 +20,6 @@ round_f_spec =
     (λ c κs. search rules) (λ c. search rules) (λ c κs. search rules) (λ c. search rules) (λ c κs. search rules) (λ c. search rules)
     (λ c. search rules) (λ c. (
       search rules,
-      four_f _ _ _ _ _ _ _ _ c.step-f4.ensures c.before.step-f3.ensures c.before.before.step-f2.ensures
-          c.before.before.before.step_f.ensures c.before.before.before.before.before.loop.invariant.1 (search rules),
+      four_f _ _ _ _ _ _ _ _ c.step_f-q-in-loop-n-3.ensures c.step_f-q-in-loop-n-2.ensures c.step_f-q-in-loop-n.ensures
+          c.step_f-q.ensures c.loop-n.invariant.1 (search rules),
     )) (λ c. search round_over))

@@ -20,6 +20,6 @@ round_g_spec =
     (λ c κs. search rules) (λ c. search rules) (λ c κs. search rules) (λ c. search rules) (λ c κs. search rules) (λ c. search rules)
     (λ c. search rules) (λ c. (
       search rules,
-      four_g _ _ _ _ _ _ _ _ c.step-g4.ensures c.before.step-g3.ensures c.before.before.step-g2.ensures
-          c.before.before.before.step_g.ensures c.before.before.before.before.before.loop.invariant.1 (search rules) (search rules),
+      four_g _ _ _ _ _ _ _ _ c.step_g-q-in-loop-n-3.ensures c.step_g-q-in-loop-n-2.ensures c.step_g-q-in-loop-n.ensures
+          c.step_g-q.ensures c.loop-n.invariant.1 (search rules) (search rules),
     )) (λ c. search round_over))

@@ -20,6 +20,6 @@ round_h_spec =
     (λ c κs. search rules) (λ c. search rules) (λ c κs. search rules) (λ c. search rules) (λ c κs. search rules) (λ c. search rules)
     (λ c. search rules) (λ c. (
       search rules,
-      four_h _ _ _ _ _ _ _ _ c.step-h4.ensures c.before.step-h3.ensures c.before.before.step-h2.ensures
-          c.before.before.before.step_h.ensures c.before.before.before.before.before.loop.invariant.1 (search rules) (search rules),
+      four_h _ _ _ _ _ _ _ _ c.step_h-q-in-loop-n-3.ensures c.step_h-q-in-loop-n-2.ensures c.step_h-q-in-loop-n.ensures
+          c.step_h-q.ensures c.loop-n.invariant.1 (search rules) (search rules),
     )) (λ c. search round_over))

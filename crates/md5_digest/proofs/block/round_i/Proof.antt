@@ -20,6 +20,6 @@ round_i_spec =
     (λ c κs. search rules) (λ c. search rules) (λ c κs. search rules) (λ c. search rules) (λ c κs. search rules) (λ c. search rules)
     (λ c. search rules) (λ c. (
       search rules,
-      four_i _ _ _ _ _ _ _ _ c.step-i4.ensures c.before.step-i3.ensures c.before.before.step-i2.ensures
-          c.before.before.before.step_i.ensures c.before.before.before.before.before.loop.invariant.1 (search rules) (search rules),
+      four_i _ _ _ _ _ _ _ _ c.step_i-q-in-loop-n-3.ensures c.step_i-q-in-loop-n-2.ensures c.step_i-q-in-loop-n.ensures
+          c.step_i-q.ensures c.loop-n.invariant.1 (search rules) (search rules),
     )) (λ c. search round_over))
