@@ -12,4 +12,4 @@ unfolding refused_end
 put_end_spec =
     tie.close
     (tie.spec
-    (λ c. search rules) (λ c κs. omega (arith, parts)) (λ c κs. omega (arith, parts)) (λ c. search rules) (λ c. search and_then))
+    (λ c κs. omega (arith, parts)) (λ c κs. omega (arith, parts)) (λ c. search rules) (λ c. search and_then))

@@ -10,18 +10,18 @@ use Rattle.write_response_pairs.proofs.look_over.Tie as tie
 use borrow.Author.Rules.{rules}
 use lib.ListN.{length}
 
-abbrev invariant-loop : tie.invariant-loop
-invariant-loop list at₀ size₀ timestamp₀ flags₀ at size timestamp flags = Seeing list at size timestamp flags × (stop_at list at ≡ Clear)
+abbrev invariant-loop-p : tie.invariant-loop-p
+invariant-loop-p list at₀ size₀ timestamp₀ flags₀ at size timestamp flags = Seeing list at size timestamp flags × (stop_at list at ≡ Clear)
 
-abbrev decreases-loop : tie.decreases-loop
-decreases-loop list at₀ size₀ timestamp₀ flags₀ at size timestamp flags = length list - at
+abbrev decreases-loop-p : tie.decreases-loop-p
+decreases-loop-p list at₀ size₀ timestamp₀ flags₀ at size timestamp flags = length list - at
 
 pub look_over_spec : {M : Type 1} → statement M
 look_over_spec =
     tie.close
     (tie.spec
-    invariant-loop
-    decreases-loop
+    invariant-loop-p
+    decreases-loop-p
     (λ c. (see_none _, search clear_all))
     (λ c κs. search rules)
     (λ c. search rules)

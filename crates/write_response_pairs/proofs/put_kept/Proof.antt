@@ -10,18 +10,18 @@ use Rattle.write_response_pairs.proofs.put_kept.Tie as tie
 use borrow.Author.Rules.{rules}
 use lib.ListN.{length}
 
-abbrev invariant-loop : tie.invariant-loop
-invariant-loop out₀ list due at₀ place₀ bits₀ out at place bits = Putting out₀ out list due at bits place.at × (stop_at list at ≡ Clear)
+abbrev invariant-loop-p : tie.invariant-loop-p
+invariant-loop-p out₀ list due at₀ place₀ bits₀ out at place bits = Putting out₀ out list due at bits place.at × (stop_at list at ≡ Clear)
 
-abbrev decreases-loop : tie.decreases-loop
-decreases-loop out₀ list due at₀ place₀ bits₀ out at place bits = length list - at
+abbrev decreases-loop-p : tie.decreases-loop-p
+decreases-loop-p out₀ list due at₀ place₀ bits₀ out at place bits = length list - at
 
 pub put_kept_spec : {M : Type 1} → statement M
 put_kept_spec =
     tie.close
     (tie.spec
-    invariant-loop
-    decreases-loop
+    invariant-loop-p
+    decreases-loop-p
     (λ c. (put_none _ _ _, search clear_all))
     (λ c κs. search rules)
     (λ c. search rules)

@@ -5,16 +5,16 @@ use Rattle.line_words.proofs.digits.put_hex.Statement.{statement}
 use Rattle.line_words.proofs.digits.put_hex.Tie as tie
 use Rattle.line_words.specs.Digits.{hex}
 
-abbrev invariant-loop : tie.invariant-loop
-invariant-loop out₀ n k i₀ left₀ out i left = Lowest 16 out₀ out (hex k n) i left
+abbrev invariant-loop-i : tie.invariant-loop-i
+invariant-loop-i out₀ n k i₀ left₀ out i left = Lowest 16 out₀ out (hex k n) i left
 
-abbrev decreases-loop : tie.decreases-loop
-decreases-loop out₀ n k i₀ left₀ out i left = i
+abbrev decreases-loop-i : tie.decreases-loop-i
+decreases-loop-i out₀ n k i₀ left₀ out i left = i
 
 pub put_hex_spec : {M : Type 1} → statement M
 put_hex_spec =
     tie.close
     (tie.spec
-    invariant-loop decreases-loop (λ c. search hex_start) (λ c. search rules) (λ c. search rules) (λ c κs. search rules)
+    invariant-loop-i decreases-loop-i (λ c. search hex_start) (λ c. search rules) (λ c. search rules) (λ c κs. search rules)
     (λ c. search digit_room) (λ c. search rules) (λ c. search one_stored) (λ c. search digits_kept)
     (λ c. (search rules, search hex_end)))

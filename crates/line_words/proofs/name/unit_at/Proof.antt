@@ -9,4 +9,4 @@ unit_at_spec =
     tie.close
     (tie.spec
     (λ c κs. search wide_room) (λ c. search wide_unit) (λ c. search byte_room)
-    (λ c. omega (arith, c.shared-slice-known2.given c.before.before.before.args.at)) (λ c. search byte_unit))
+    (λ c. omega (arith, c.shared_slice_known-2-1.given c.before.before.before.args.at)) (λ c. search byte_unit))

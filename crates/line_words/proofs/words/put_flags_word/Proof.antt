@@ -12,6 +12,6 @@ unfolding flags_word
 put_flags_word_spec =
     tie.close
     (tie.spec
-    (λ c. search rules) (λ c κs. omega (arith, flags_word_room)) (λ c. omega (arith, flags_word_room))
+    (λ c κs. omega (arith, flags_word_room)) (λ c. omega (arith, flags_word_room))
     (λ c. omega (arith, flags_word_room)) (λ c. search rules) (λ c κs. omega (arith, flags_word_room))
     (λ c. search rules) (λ c. search rules) (λ c. search then_lent))

@@ -11,5 +11,5 @@ unfolding set_word
 put_set_word_spec =
     tie.close
     (tie.spec
-    (λ c. search rules) (λ c κs. omega (arith, set_room)) (λ c. search rules) (λ c. search choice) (λ c. search rules)
-    (λ c κs. omega (arith, set_room)) (λ c. search rules) (λ c. search choice))
+    (λ c κs. omega (arith, set_room)) (λ c. search rules) (λ c. search choice) (λ c κs. omega (arith, set_room))
+    (λ c. search rules) (λ c. search choice))
