@@ -10,7 +10,7 @@ use Rattle.respond.specs.declared.answer.Answered.TheVariants.{Sent, Refused}
 use Rattle.respond.specs.declared.decision.Settings.{Settings}
 use Rattle.respond.specs.declared.decision.Decided.{Decided}
 use Rattle.respond.specs.declared.decision.Decided.TheVariants.{Taken, Refused as Undecided}
-use Rattle.respond.specs.Answer.{Supplied, Effect, respond_to, LentSlice}
+use Rattle.respond.specs.Answer.{Supplied, Effect, respond_to}
 use Rattle.c_number.specs.Number.{refusal_number, bit}
 use Rattle.c_number.specs.Outcome.{Outcome, numbers, refused}
 
@@ -50,8 +50,7 @@ respond_from_c settings s x array =
     after (room_holds 2 (length array)) (record { number = refusal_number NoRoom; output = x.out; numbers = array })
     (as_numbers (respond_to settings s x) array)
 
--- a call's answer, and what then lies in the output and in the array of numbers
-abbrev pub RespondsFromC : Settings → LentSlice → Supplied → ℕ → LentSlice → LentSlice → Type 0
-RespondsFromC settings challenge x answer out array =
-    record { number = answer; output = out.exit.now; numbers = array.exit.now }
-    ≡ respond_from_c settings challenge.entry.now x array.entry.now
+-- a call's answer, and what then lies in the output and in the array of numbers, which held `before`
+abbrev pub RespondsFromC : Settings → List ℕ → Supplied → ℕ → List ℕ → List ℕ → List ℕ → Type 0
+RespondsFromC settings challenge x answer out before numbers =
+    record { number = answer; output = out; numbers = numbers } ≡ respond_from_c settings challenge x before

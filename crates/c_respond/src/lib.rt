@@ -76,7 +76,9 @@ pub fn respond<'a>(
     key: &[u8],
     numbers: &mut [u64],
 ) -> u64
-    ensures { RespondsFromC (settings_of settings) challenge (supplied out clock version mic lm nt domain user workstation key) result out numbers }
+    ensures { RespondsFromC (settings_of settings) challenge.now
+        (supplied out.old clock version.now mic.now lm.now nt.now domain.now user.now workstation.now key.now)
+        result out.new numbers.old numbers.new }
 {
     let Checked::Held = room_holds(2, numbers.len()) else {
         return refusal_number(Refusal::NoRoom);

@@ -147,7 +147,9 @@ pub extern "C" fn dialtable_respond<'a>(
     key: &[u8],
     numbers: &mut [u64],
 ) -> u64
-    ensures { RespondsFromC (settings_of settings) challenge (supplied out clock version mic lm nt domain user workstation key) result out numbers }
+    ensures { RespondsFromC (settings_of settings) challenge.now
+        (supplied out.old clock version.now mic.now lm.now nt.now domain.now user.now workstation.now key.now)
+        result out.new numbers.old numbers.new }
 {
     c_respond::respond(
         out,
@@ -182,7 +184,9 @@ pub extern "C" fn dialtable_respond_for_bench<'a>(
     key: &[u8],
     numbers: &mut [u64],
 ) -> u64
-    ensures { RespondsFromC (bench_settings (not (eqb demand_128 0))) challenge (supplied out clock version mic lm nt domain user workstation key) result out numbers }
+    ensures { RespondsFromC (bench_settings (not (eqb demand_128 0))) challenge.now
+        (supplied out.old clock version.now mic.now lm.now nt.now domain.now user.now workstation.now key.now)
+        result out.new numbers.old numbers.new }
 {
     c_respond::respond(
         out,
@@ -216,7 +220,9 @@ pub extern "C" fn dialtable_respond_to_old_server<'a>(
     key: &[u8],
     numbers: &mut [u64],
 ) -> u64
-    ensures { RespondsFromC old_server_settings challenge (supplied out clock version mic lm nt domain user workstation key) result out numbers }
+    ensures { RespondsFromC old_server_settings challenge.now
+        (supplied out.old clock version.now mic.now lm.now nt.now domain.now user.now workstation.now key.now)
+        result out.new numbers.old numbers.new }
 {
     c_respond::respond(
         out,
@@ -250,7 +256,9 @@ pub extern "C" fn dialtable_respond_for_relay<'a>(
     key: &[u8],
     numbers: &mut [u64],
 ) -> u64
-    ensures { RespondsFromC defaults challenge (supplied out clock version mic lm nt domain user workstation key) result out numbers }
+    ensures { RespondsFromC defaults challenge.now
+        (supplied out.old clock version.now mic.now lm.now nt.now domain.now user.now workstation.now key.now)
+        result out.new numbers.old numbers.new }
 {
     c_respond::respond(
         out,

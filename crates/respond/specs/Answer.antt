@@ -1,7 +1,5 @@
 -- Answering a challenge (MS-NLMP 3.1.5.1.2): what is written, Time, and whether a MIC is due.
 use Rattle.std.specs.Prelude.{ℕ, Bool, true, false, ◌||◌, ◌&&◌, cond, List, [], length, replicate}
-use Rattle.std.specs.Borrow.{Bor}
-use denote.Triple.Both.{Both}
 use Rattle.wire.specs.declared.refusal.Refusal.{Refusal}
 use Rattle.negotiate_flags.specs.declared.NegotiateFlags.{NegotiateFlags}
 use Rattle.negotiate_flags.specs.Flags.{sign, seal, key_exch}
@@ -104,25 +102,22 @@ respond_to settings s x =
 
 -- ---- the parameters of a call
 
--- a slice or an array that is lent: at entry, and at exit
-abbrev pub LentSlice : Type 0
-LentSlice = Both (Bor (List ℕ)) (Bor (List ℕ))
-
-abbrev pub supplied : LentSlice → ℕ → LentSlice → LentSlice → LentSlice → LentSlice → LentSlice → LentSlice → LentSlice → LentSlice → Supplied
+-- what the caller supplies, by the contents of what it lends, before the call
+abbrev pub supplied : List ℕ → ℕ → List ℕ → List ℕ → List ℕ → List ℕ → List ℕ → List ℕ → List ℕ → List ℕ → Supplied
 supplied out clock version mic lm nt domain user workstation key =
     record {
-      out = out.entry.now;
+      out = out;
       clock = clock;
-      version = version.entry.now;
-      mic = mic.entry.now;
-      lm = lm.entry.now;
-      nt = nt.entry.now;
-      domain = domain.entry.now;
-      user = user.entry.now;
-      workstation = workstation.entry.now;
-      key = key.entry.now;
+      version = version;
+      mic = mic;
+      lm = lm;
+      nt = nt;
+      domain = domain;
+      user = user;
+      workstation = workstation;
+      key = key;
     }
 
 -- an answer, with what then lies in the output
-abbrev pub effect : Answered → LentSlice → Effect
-effect answer out = record { answer = answer; output = out.exit.now }
+abbrev pub effect : Answered → List ℕ → Effect
+effect answer out = record { answer = answer; output = out }

@@ -110,7 +110,8 @@ fn send(
     workstation: &[u8],
     key: &[u8],
 ) -> Answered
-    ensures { effect result out ≡ sending settings d (supplied out clock version mic lm nt domain user workstation key) }
+    ensures { effect result out.new ≡ sending settings d
+        (supplied out.old clock version.now mic.now lm.now nt.now domain.now user.now workstation.now key.now) }
 {
     let flags = d.flags;
     let timestamp = d.timestamp;
@@ -149,7 +150,8 @@ pub fn respond<'a>(
     workstation: &[u8],
     key: &[u8],
 ) -> Answered
-    ensures { effect result out ≡ respond_to settings challenge.now (supplied out clock version mic lm nt domain user workstation key) }
+    ensures { effect result out.new ≡ respond_to settings challenge.now
+        (supplied out.old clock version.now mic.now lm.now nt.now domain.now user.now workstation.now key.now) }
 {
     let reading = read_full(challenge);
     let FullReading::Taken(f) = reading else {

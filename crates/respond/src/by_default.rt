@@ -21,7 +21,8 @@ pub fn respond_for_bench<'a>(
     workstation: &[u8],
     key: &[u8],
 ) -> Answered
-    ensures { effect result out ≡ respond_to (bench_settings demand_128) challenge.now (supplied out clock version mic lm nt domain user workstation key) }
+    ensures { effect result out.new ≡ respond_to (bench_settings demand_128) challenge.now
+        (supplied out.old clock version.now mic.now lm.now nt.now domain.now user.now workstation.now key.now) }
 {
     let settings = Settings::for_bench(demand_128);
     respond(
@@ -54,7 +55,8 @@ pub fn respond_to_old_server<'a>(
     workstation: &[u8],
     key: &[u8],
 ) -> Answered
-    ensures { effect result out ≡ respond_to old_server_settings challenge.now (supplied out clock version mic lm nt domain user workstation key) }
+    ensures { effect result out.new ≡ respond_to old_server_settings challenge.now
+        (supplied out.old clock version.now mic.now lm.now nt.now domain.now user.now workstation.now key.now) }
 {
     let settings = Settings::for_old_server();
     respond(
@@ -87,7 +89,8 @@ pub fn respond_for_relay<'a>(
     workstation: &[u8],
     key: &[u8],
 ) -> Answered
-    ensures { effect result out ≡ respond_to defaults challenge.now (supplied out clock version mic lm nt domain user workstation key) }
+    ensures { effect result out.new ≡ respond_to defaults challenge.now
+        (supplied out.old clock version.now mic.now lm.now nt.now domain.now user.now workstation.now key.now) }
 {
     let settings = Settings::defaults();
     respond(

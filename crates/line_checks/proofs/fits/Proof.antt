@@ -19,4 +19,4 @@ fits_spec =
       id = search rules;
       size = search rules;
     })
-    _ _ (λ i. (c.before.shared-slice-known.given i).fits) (search rules)) (λ c κs. search rules) (λ c. search rules))
+    _ _ (λ i. (c.before.shared_slice_known-1.given i).fits) (search rules)) (λ c κs. search rules) (λ c. search rules))

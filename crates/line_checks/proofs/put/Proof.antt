@@ -6,15 +6,15 @@ use Rattle.line_checks.proofs.Laws.{Listed, none_listed, one_listed, all_listed,
 use Rattle.line_checks.proofs.put.Statement.{statement}
 use Rattle.line_checks.proofs.put.Tie as tie
 
-abbrev invariant-loop : tie.invariant-loop
-invariant-loop out₀ checks f p₀ reached₀ i₀ out p reached i = Listed f out₀ out checks p.at reached i
+abbrev invariant-loop-i : tie.invariant-loop-i
+invariant-loop-i out₀ checks f p₀ reached₀ i₀ out p reached i = Listed f out₀ out checks p.at reached i
 
-abbrev decreases-loop : tie.decreases-loop
-decreases-loop out₀ checks f p₀ reached₀ i₀ out p reached i = length checks - i
+abbrev decreases-loop-i : tie.decreases-loop-i
+decreases-loop-i out₀ checks f p₀ reached₀ i₀ out p reached i = length checks - i
 
 pub put_spec : {M : Type 1} → statement M
 put_spec =
     tie.close
     (tie.spec
-    invariant-loop decreases-loop (λ c. none_listed _ _ _) (λ c. search rules) (λ c κs. search line_room) (λ c. search rules)
+    invariant-loop-i decreases-loop-i (λ c. none_listed _ _ _) (λ c. search rules) (λ c κs. search line_room) (λ c. search rules)
     (λ c. search rules) (λ c. search one_listed) (λ c. search listed_kept) (λ c. search all_listed))

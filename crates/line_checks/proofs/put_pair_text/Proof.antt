@@ -12,6 +12,5 @@ unfolding pair_figures
 put_pair_text_spec =
     tie.close
     (tie.spec
-    (λ c. search rules) (λ c κs. omega (arith, parts3)) (λ c. search rules) (λ c. search rules)
-    (λ c κs. omega (arith, parts3)) (λ c. search rules) (λ c. search rules) (λ c κs. omega (arith, parts3))
-    (λ c. search rules) (λ c. search and_then))
+    (λ c κs. omega (arith, parts3)) (λ c. search rules) (λ c κs. omega (arith, parts3)) (λ c. search rules)
+    (λ c κs. omega (arith, parts3)) (λ c. search rules) (λ c. search and_then))

@@ -8,6 +8,6 @@ pub put_words_spec : {M : Type 1} → statement M
 put_words_spec =
     tie.close
     (tie.spec
-    (λ c κs. search word_rooms) (λ c. search rules) (λ c. search word_wrote) (λ c. search rules)
-    (λ c κs. search word_rooms) (λ c. search rules) (λ c. search word_wrote) (λ c. search rules)
-    (λ c κs. search word_rooms) (λ c. search rules) (λ c. search word_wrote))
+    (λ c κs. search word_rooms) (λ c. search rules) (λ c. search word_wrote) (λ c κs. search word_rooms)
+    (λ c. search rules) (λ c. search word_wrote) (λ c κs. search word_rooms) (λ c. search rules)
+    (λ c. search word_wrote))

@@ -8,5 +8,5 @@ pub room_after_figures_spec : {M : Type 1} → statement M
 room_after_figures_spec =
     tie.close
     (tie.spec
-    (λ c. search rules) (λ c κs. search rules) (λ c. search rules) (λ c. search rules) (λ c κs. search rules)
-    (λ c κs. search rules) (λ c. search figures_leave))
+    (λ c κs. search rules) (λ c. search rules) (λ c κs. search rules) (λ c κs. search rules)
+    (λ c. search figures_leave))

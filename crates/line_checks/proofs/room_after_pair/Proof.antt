@@ -8,6 +8,5 @@ pub room_after_pair_spec : {M : Type 1} → statement M
 room_after_pair_spec =
     tie.close
     (tie.spec
-    (λ c κs. search rules) (λ c. search rules) (λ c κs. search rules) (λ c. search rules) (λ c. search rules)
-    (λ c κs. search rules) (λ c. search rules) (λ c. search rules) (λ c κs. search rules) (λ c. search pair_leaves)
-    (λ c. search no_pair_leaves))
+    (λ c κs. search rules) (λ c κs. search rules) (λ c. search rules) (λ c κs. search rules) (λ c. search rules)
+    (λ c κs. search rules) (λ c. search pair_leaves) (λ c. search no_pair_leaves))

@@ -8,4 +8,4 @@ pub room_after_plain_spec : {M : Type 1} → statement M
 room_after_plain_spec =
     tie.close
     (tie.spec
-    (λ c. search rules) (λ c κs. search rules) (λ c κs. search rules) (λ c. search plain_leaves))
+    (λ c κs. search rules) (λ c κs. search rules) (λ c. search plain_leaves))

@@ -8,5 +8,5 @@ pub room_after_words_spec : {M : Type 1} → statement M
 room_after_words_spec =
     tie.close
     (tie.spec
-    (λ c κs. search rules) (λ c. search word_leaves) (λ c. search rules) (λ c κs. search rules)
-    (λ c. search word_leaves) (λ c. search rules) (λ c κs. search rules) (λ c. search word_leaves))
+    (λ c κs. search rules) (λ c. search word_leaves) (λ c κs. search rules) (λ c. search word_leaves)
+    (λ c κs. search rules) (λ c. search word_leaves))

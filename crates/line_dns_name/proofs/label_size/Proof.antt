@@ -6,15 +6,15 @@ use Prim.Native.Nat.{◌-◌}
 use lib.ListN.{length}
 use Rattle.line_dns_name.proofs.Labels.{Sized, none_sized, byte_sized, all_sized, size_small}
 
-abbrev invariant-loop : tie.invariant-loop
-invariant-loop label size₀ i₀ size i = Sized label size i
+abbrev invariant-loop-i : tie.invariant-loop-i
+invariant-loop-i label size₀ i₀ size i = Sized label size i
 
-abbrev decreases-loop : tie.decreases-loop
-decreases-loop label size₀ i₀ size i = length label - i
+abbrev decreases-loop-i : tie.decreases-loop-i
+decreases-loop-i label size₀ i₀ size i = length label - i
 
 pub label_size_spec : {M : Type 1} → statement M
 label_size_spec =
     tie.close
     (tie.spec
-    invariant-loop decreases-loop (λ c. none_sized _) (λ c. search rules) (λ c κs. search rules) (λ c. search rules)
+    invariant-loop-i decreases-loop-i (λ c. none_sized _) (λ c. search rules) (λ c κs. search rules) (λ c. search rules)
     (λ c. search rules) (λ c. search rules) (λ c. search byte_sized) (λ c. (search all_sized, search size_small)))
