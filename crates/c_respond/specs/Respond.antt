@@ -52,5 +52,5 @@ respond_from_c settings s x array =
 
 -- a call's answer, and what then lies in the output and in the array of numbers, which held `before`
 abbrev pub RespondsFromC : Settings → List ℕ → Supplied → ℕ → List ℕ → List ℕ → List ℕ → Type 0
-RespondsFromC settings challenge x answer out before numbers =
-    record { number = answer; output = out; numbers = numbers } ≡ respond_from_c settings challenge x before
+RespondsFromC settings challenge x answer out before array =
+    record { number = answer; output = out; numbers = array } ≡ respond_from_c settings challenge x before

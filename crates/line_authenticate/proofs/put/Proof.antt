@@ -10,16 +10,16 @@ pub put_spec : {M : Type 1} → statement M
 put_spec =
     tie.close
     (tie.spec
-    (λ c. search rules)
     (λ c κs. let e = c.before.before.before.before.before in omega (arith, auth_room e.args.msg.now e.args.a e.args.wide e.requires.0 0 _ e.requires.1))
     (λ c κs. let e = c.before.before.before.before.before.before.before.before.before in omega (arith, auth_room e.args.msg.now e.args.a e.args.wide e.requires.0 0 _ e.requires.1))
     (λ c κs. let e = c.before.before.before.before.before.before.before.before.before.before.before.before.before in omega (arith, auth_room e.args.msg.now e.args.a e.args.wide e.requires.0 0 _ e.requires.1))
     (λ c κs. let e = c.before.before.before.before.before.before.before.before.before.before.before.before.before.before.before.before.before in omega (arith, auth_room e.args.msg.now e.args.a e.args.wide e.requires.0 0 _ e.requires.1))
-    (λ c. search rules) (λ c.
+    (λ c. search rules)
+    (λ c.
     let w = c.before.before in
     let v = w.before.before.before.before in
     let u = v.before.before.before.before in
     let t = u.before.before.before.before in
     let e = t.before.before.before.before.before.before in
     auth_wrote e.args.msg.now e.args.a e.args.wide e.requires.0 _ _ _ _
-    (and_then _ _ _ _ _ _ _ _ t.put_start.ensures (and_then _ _ _ _ _ _ _ _ u.put_names.ensures (and_then _ _ _ _ _ _ _ _ v.put_lengths.ensures w.put_end.ensures)))))
+    (and_then _ _ _ _ _ _ _ _ t.put_start-p.ensures (and_then _ _ _ _ _ _ _ _ u.put_names-p.ensures (and_then _ _ _ _ _ _ _ _ v.put_lengths-p.ensures w.put_end.ensures)))))

@@ -10,7 +10,6 @@ unfolding kind_word
 put_kind_spec =
     tie.close
     (tie.spec
-    (λ c. search rules) (λ c κs. search kind_rooms) (λ c. search rules) (λ c. search choice) (λ c. search rules)
-    (λ c κs. search kind_rooms) (λ c. search rules) (λ c. search choice) (λ c. search rules)
-    (λ c κs. search kind_rooms) (λ c. search rules) (λ c. search choice) (λ c. search rules)
+    (λ c κs. search kind_rooms) (λ c. search rules) (λ c. search choice) (λ c κs. search kind_rooms)
+    (λ c. search rules) (λ c. search choice) (λ c κs. search kind_rooms) (λ c. search rules) (λ c. search choice)
     (λ c κs. search kind_rooms) (λ c. search rules) (λ c. search choice))

@@ -11,5 +11,5 @@ unfolding mic_word
 put_mic_spec =
     tie.close
     (tie.spec
-    (λ c. search rules) (λ c κs. omega (arith, mic_room)) (λ c. search rules) (λ c. search choice) (λ c. search rules)
-    (λ c κs. omega (arith, mic_room)) (λ c. search rules) (λ c. search choice))
+    (λ c κs. omega (arith, mic_room)) (λ c. search rules) (λ c. search choice) (λ c κs. omega (arith, mic_room))
+    (λ c. search rules) (λ c. search choice))

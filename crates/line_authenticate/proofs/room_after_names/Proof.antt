@@ -10,5 +10,4 @@ unfolding auth_names
 room_after_names_spec =
     tie.close
     (tie.spec
-    (λ c. search rules) (λ c κs. search rules) (λ c. search rules) (λ c κs. search rules) (λ c. search rules)
-    (λ c κs. search rules) (λ c. search leaves))
+    (λ c κs. search rules) (λ c κs. search rules) (λ c κs. search rules) (λ c. search leaves))

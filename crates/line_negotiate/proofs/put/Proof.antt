@@ -12,5 +12,5 @@ unfolding nego_text
 put_spec =
     tie.close
     (tie.spec
-    (λ c. search rules) (λ c κs. omega (arith, nego_room)) (λ c κs. omega (arith, nego_room))
-    (λ c κs. omega (arith, nego_room)) (λ c κs. omega (arith, nego_room)) (λ c. search rules) (λ c. search and_then))
+    (λ c κs. omega (arith, nego_room)) (λ c κs. omega (arith, nego_room)) (λ c κs. omega (arith, nego_room))
+    (λ c κs. omega (arith, nego_room)) (λ c. search rules) (λ c. search and_then))
