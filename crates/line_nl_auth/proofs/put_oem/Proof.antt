@@ -10,5 +10,5 @@ unfolding either_text
 put_oem_spec =
     tie.close
     (tie.spec
-    (λ c. search rules) (λ c κs. search rules) (λ c κs. search room_a) (λ c. search rules) (λ c κs. search rules)
-    (λ c κs. search room_b) (λ c. search rules) (λ c. search oem_wrote depth 7 fits 20000))
+    (λ c κs. search rules) (λ c κs. search room_a) (λ c κs. search rules) (λ c κs. search room_b) (λ c. search rules)
+    (λ c. search oem_wrote depth 7 fits 20000))

@@ -12,5 +12,4 @@ unfolding nl_start
 put_start_spec =
     tie.close
     (tie.spec
-    (λ c. search rules) (λ c κs. omega (arith, parts)) (λ c κs. omega (arith, parts)) (λ c. search rules)
-    (λ c. search and_then))
+    (λ c κs. omega (arith, parts)) (λ c κs. omega (arith, parts)) (λ c. search rules) (λ c. search and_then))

@@ -10,6 +10,5 @@ unfolding either_text
 put_utf8_spec =
     tie.close
     (tie.spec
-    (λ c. search rules) (λ c κs. search rules) (λ c κs. search room_c) (λ c. search rules) (λ c κs. search rules)
-    (λ c κs. search room_d) (λ c. search rules) (λ c κs. search rules) (λ c κs. search room_e) (λ c. search rules)
-    (λ c. search utf8_wrote depth 7 fits 20000))
+    (λ c κs. search rules) (λ c κs. search room_c) (λ c κs. search rules) (λ c κs. search room_d)
+    (λ c κs. search rules) (λ c κs. search room_e) (λ c. search rules) (λ c. search utf8_wrote depth 7 fits 20000))
