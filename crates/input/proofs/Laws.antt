@@ -1,86 +1,66 @@
--- Laws of one read, by what its answer is known to be.
-use Prim.Native.Nat.{ℕ, zero, suc, ◌+◌, ◌-◌, ◌≤◌, ◌<◌}
-use mathlib.Core.Path.{◌≡◌, refl, sym, ap, ◌∙◌}
-use mathlib.Core.Bool.{Bool, true, false}
-use mathlib.Core.List.{List}
-use native.Mathlib.Omega.{arith}
-use borrow.Author.Tests.{ltb-true}
-use lib.IntN.{ℤ, pos, negsuc}
-use lib.ListN.{length, take, drop, length-take, length-drop}
-use lib.Signed.{lt_z}
-use mir.Syntax.{w64}
-use mir.Val.{SFits, to_z, of_z}
-use mir.ValLaws.{to_z-of_z}
-use Rattle.io.specs.Counts.{clamp_len}
-use Rattle.libc.specs.Io.{Moved}
-use Rattle.input.specs.declared.Input.{Input}
-use Rattle.input.specs.declared.Input.TheVariants.{Whole, Failed}
-use Rattle.input.specs.declared.Reading.{Reading}
-use Rattle.input.specs.declared.Reading.TheVariants.{On, Over}
-use Rattle.input.specs.Input.{after_read, InBuffer, Further}
+-- What reads do to the bytes that their reader is known to have.
+use Rattle.std.proofs.Common.{◌≡◌, ℕ, zero, suc, ◌+◌, ◌-◌, ◌≤◌, ◌<◌, List, [], ◌++◌, None, Some, IfSome, Option, Result, Ok, Err, refl, sym, ap, ◌∙◌, subst, ◌⊎◌, inl, inr, arith, length, take, drop, slice_range, drop_at, append-nil, take_at, take_all, length-take-le, length-drop}
+use Rattle.std.proofs.lemmas.Bool.{cases_lt}
+use Rattle.std.proofs.KnownBytes.{Consumes-trans}
+use Rattle.std.specs.Io.{ReadsAtMost}
+use Rattle.std.specs.Io.KnownBytes.{Consumes, Keeps, ReadConsumes}
+use borrow.Rule.Slice.PartMut.{put_mid, post_of, mid_of, same_len_mid}
+use lib.Seq.{take-add, take-append-le}
+use Rattle.input.specs.declared.Input.TheVariants.{Whole}
+use Rattle.input.specs.Input.{answer_of, after_read, OnceRead, WasRead}
 
--- ---- an answer below 0, and any other
+-- ---- one read, into the part of the buffer from a place on
 
-below : (z : ℤ) → SFits w64 z → (b : Bool) → lt_z (to_z w64 (of_z w64 z)) (pos 0) ≡ b → lt_z z (pos 0) ≡ b
-below z f b h = rw (to_z-of_z w64 z f) at h
+Keeps-of_none : (a b : Option (List ℕ)) → Consumes a b [] → Keeps a b
+Keeps-of_none None b h = tt
+Keeps-of_none (Some x) None h = h
+Keeps-of_none (Some x) (Some y) h = sym h
 
-pub failed : (at : ℕ) (z : ℤ) → SFits w64 z → lt_z (to_z w64 (of_z w64 z)) (pos 0) ≡ true → Over Failed ≡ after_read at z
-failed at (negsuc k) f h = refl
-failed at (pos k) f h = absurd (omega (arith, ltb-true k 0 (below (pos k) f true h)))
+length-mid : (a : ℕ) (xs : List ℕ) → length (mid_of a (length xs - a) xs) ≡ length xs - a
+length-mid a xs = length-take-le (length xs - a) (drop a xs) (omega (arith, length-drop a xs))
 
-counted : (z : ℤ) (n k : ℕ) → SFits w64 z → Moved n z → n ≤ k → lt_z (to_z w64 (of_z w64 z)) (pos 0) ≡ false → z ≡ pos (clamp_len z k)
-counted (negsuc i) n k f m l h = absurd (let z : ◌≡◌ {A = ℕ} 0 1 = cc (below (negsuc i) f false h) in omega arith)
-counted (pos i) n k f m l h = ap pos (omega arith)
+slice_range-put_mid : (a k n : ℕ) (xs ys : List ℕ) → a ≤ length xs → n ≤ length ys → slice_range (put_mid a k xs ys) a (a + n) ≡ take n ys
+slice_range-put_mid a k n xs ys within fits =
+    let same : (a + n) - a ≡ n = omega arith in
+    let after = post_of a k xs in
+    ap (take ((a + n) - a)) (drop_at (take a xs) (ys ++ after) a (length-take-le a xs within)) ∙ ap (λ m. take m (ys ++ after)) same ∙ take-append-le n ys after fits
 
-on_from : (at n : ℕ) → (n ≡ 0 → ⊥) → On (at + n) ≡ after_read at (pos n)
-on_from at zero g = absurd (g refl)
-on_from at (suc n) g = refl
+pub OnceRead-of_read : {E : Type 0} (a b : Option (List ℕ)) (at : ℕ) (r : Result ℕ E) (xs part : List ℕ)
+    → at ≤ length xs → length part ≡ length (mid_of at (length xs - at) xs) → ReadsAtMost r part → ReadConsumes a b r part
+    → OnceRead a b at (after_read at (answer_of r)) (put_mid at (length xs - at) xs part)
+OnceRead-of_read a b at (Err e) xs part within same bound bytes = bytes
+OnceRead-of_read a b at (Ok zero) xs part within same bound bytes = (refl, Keeps-of_none a b bytes.0, λ room. bytes.1 refl (has_room room))
+  where
+    has_room : at < length (put_mid at (length xs - at) xs part) → 0 < length part
+    has_room room = omega (arith, same_len_mid at (length xs - at) xs part same, same, length-mid at xs)
+OnceRead-of_read a b at (Ok (suc n)) xs part within same bound bytes =
+    subst (Consumes a b) (sym (slice_range-put_mid at (length xs - at) (suc n) xs part within bound.0)) bytes.0
 
-module _ (at : ℕ) (z : ℤ) (l : List ℕ) (r : ℕ) (f : SFits w64 z) (m : Moved (length l - at) z)
-    (h : lt_z (to_z w64 (of_z w64 z)) (pos 0) ≡ false) (e : r ≡ clamp_len (to_z w64 (of_z w64 z)) (length l)) where
-  is_count : z ≡ pos r
-  is_count = counted z (length l - at) (length l) f m (omega arith) h ∙ ap pos (sym (rw (to_z-of_z w64 z f) at e))
+-- ---- a read of the bytes after those that were read before
 
-  pub ended : r ≡ 0 → Over (Whole at) ≡ after_read at z
-  ended g = simp (is_count, g)
+take_split : (a b : ℕ) (old new : List ℕ) → a ≤ b → take a new ≡ take a old → take a old ++ slice_range new a b ≡ take b new
+take_split a b old new h front =
+    let same : a + (b - a) ≡ b = omega arith in
+    ap (λ l. l ++ slice_range new a b) (sym front) ∙ sym (take-add a (b - a) new) ∙ ap (λ n. take n new) same
 
-  pub goes_on : (r ≡ 0 → ⊥) → On (at + r) ≡ after_read at z
-  goes_on g = simp is_count (on_from at r g)
+pub Consumes-further : (a b c : Option (List ℕ)) (at n : ℕ) (xs ys : List ℕ) → Consumes a b (take at xs) → at ≤ n → take at ys ≡ take at xs
+    → Consumes b c (slice_range ys at n) → Consumes a c (take n ys)
+Consumes-further a b c at n xs ys before more front read =
+    subst (Consumes a c) (take_split at n xs ys more front) (Consumes-trans a b c _ _ before read)
 
--- ---- a read of the part from a place on, which leaves the buffer as long as it was
+-- ---- the input, where all of the reader's bytes are known: as many of them as the buffer holds
 
-part_long : (at : ℕ) (l : List ℕ) → length (take (length l - at) (drop at l)) ≡ length l - at
-part_long at l = simp (length-take, length-drop) (omega arith)
-
-module _ (at : ℕ) (l k : List ℕ) (z : ℤ) (f : SFits w64 z) (e : length k ≡ length l) (h : at ≤ length l)
-    (m : Moved (length (take (length l - at) (drop at l))) z) where
-  pub moved : Moved (length k - at) (to_z w64 (of_z w64 z))
-  moved = rw (to_z-of_z w64 z f, e, ← part_long at l) m
-
-  pub further : (r : Reading) → r ≡ after_read at (to_z w64 (of_z w64 z)) → Further at r k
-  further r p = rw p (rw (to_z-of_z w64 z f) (go z m)) where
-    go : (z : ℤ) → Moved (length (take (length l - at) (drop at l))) z → Further at (after_read at z) k
-    go (negsuc i) n = tt
-    go (pos zero) n = omega arith
-    go (pos (suc i)) n = (omega arith, omega (arith, part_long at l))
-
--- ---- the loop: it goes on with more bytes in a buffer as long as before, or hands on what was read
-
-module _ (at : ℕ) (r : Reading) (l k : List ℕ) (f : Further at r k) (e : length k ≡ length l) where
-  pub fewer : (n : ℕ) → r ≡ On n → length k - n < length l - at
-  fewer n p = let h : Further at (On n) k = rw p at f in omega (arith, h.0, h.1, e)
-
-  pub within : (n : ℕ) → r ≡ On n → n ≤ length k
-  within n p = let h : Further at (On n) k = rw p at f in h.1
-
-  pub handed_on : (i : Input) → r ≡ Over i → InBuffer i k
-  handed_on i p = rw p at f
-
--- ---- the input that was read, as a part of its buffer
-
-module _ (i : Input) (n : ℕ) (l : List ℕ) (f : InBuffer i l) (p : i ≡ Whole n) where
-  pub there : n ≤ length l
-  there = let h : InBuffer (Whole n) l = rw p at f in h
-
-  pub there_part : n ≡ length (take n l)
-  there_part = simp length-take (omega (arith, there))
+pub WasRead-known : (a b : Option (List ℕ)) (n room : ℕ) (buf : List ℕ) (P : List ℕ → Type 0) → WasRead a b (Whole n) buf → n ≤ length buf → room ≡ length buf
+    → P (take n buf) → IfSome a (λ xs. P (take room xs))
+WasRead-known None b n room buf P read within long h = tt
+WasRead-known (Some x) None n room buf P read within long h = absurd read.0
+WasRead-known (Some x) (Some y) n room buf P read within long h = subst P (all (cases_lt n room)) h
+  where
+    all : (n < room) ⊎ (room ≤ n) → take n buf ≡ take room x
+    all (inl l) =
+        let none : y ≡ [] = read.1 (omega arith) in
+        let e : x ≡ take n buf = read.0 ∙ ap (λ z. take n buf ++ z) none ∙ append-nil (take n buf) in
+        sym e ∙ sym (take_all room x (omega (arith, ap length e, length-take-le n buf within)))
+    all (inr l) =
+        let same : n ≡ room = omega arith in
+        sym (take_at (take n buf) y n (length-take-le n buf within)) ∙ ap (take n) (sym read.0) ∙ ap (λ k. take k x) same

@@ -1,54 +1,58 @@
-// Standard input, read to its end. A read that fails, be it not ready or interrupted, is never taken for the end.
+// An input, read to its end. A read that fails, be it not ready or interrupted, is never taken for the end.
 #![tactic(auto)]
 
-ghost use Rattle.std.specs.Prelude.{◌≡◌, ◌-◌, ◌≤◌, length};
-ghost use Rattle.libc.specs.Io.{Moved};
-ghost use Rattle.input.specs.Input.{after_read, InBuffer, Further};
+ghost use Rattle.std.specs.Prelude.{◌≡◌, ◌+◌, ◌^◌, ◌<◌, ◌≤◌, IfOk, length, take};
+ghost use Rattle.input.specs.Input.{answer_of, after_read, InBuffer, Further, WasRead, OnceRead};
+
+use std::io;
+use std::io::Read;
 
 // The input, or as much of it as its buffer holds: how many bytes; or that it couldn't be read to its end.
-#[derive(Clone, Copy)]
+#[derive(Drop)]
 pub enum Input {
     Whole(usize),
     Failed,
 }
 
 // After a read: how many bytes are there, with more to come, or that reading is over.
-#[derive(Clone, Copy)]
+#[derive(Drop)]
 pub enum Reading {
     On(usize),
     Over(Input),
 }
 
-fn after_read(at: usize, got: isize, buf: &[u8]) -> Reading
-    requires at_in_bounds { at ≤ length buf.now }
-    requires moved { Moved (length buf.now - at) got }
-    ensures { result ≡ after_read at got }
+fn after_read(at: usize, got: io::Result<usize>) -> Reading
+    requires { IfOk got (λ n. at + n < 2 ^ 64) }
+    ensures { result ≡ after_read at (answer_of got) }
 {
-    if got < 0 {
+    let Ok(n) = got else {
         return Reading::Over(Input::Failed);
-    }
-    let n = io::count(got, buf);
+    };
     if n == 0 {
         return Reading::Over(Input::Whole(at));
     }
     Reading::On(at + n)
 }
 
-fn read_once(buf: &mut [u8], at: usize) -> Reading
+// One read, into the part of the buffer from `at` on. A read that is interrupted is not tried again here: it failed.
+fn read_once<R: Read>(reader: &mut R, buf: &mut [u8], at: usize) -> Reading
     requires { at ≤ length buf.old }
-    ensures { Further at result buf.new }
+    ensures further { Further at result buf.new }
+    ensures before { take at buf.new ≡ take at buf.old }
+    ensures bytes { OnceRead (R.remaining reader.old) (R.remaining reader.new) at result buf.new }
 {
-    let got = libc::read(libc::STDIN_FILENO, &mut buf[at..]);
-    after_read(at, got, buf)
+    let got = reader.read(&mut buf[at..]);
+    after_read(at, got)
 }
 
 // Reads until the buffer is full or the input ends.
-pub fn read_whole(buf: &mut [u8]) -> Input
-    ensures { InBuffer result buf.new }
+pub fn read_whole<R: Read>(reader: &mut R, buf: &mut [u8]) -> Input
+    ensures in_buffer { InBuffer result buf.new }
+    ensures bytes { WasRead (R.remaining reader.old) (R.remaining reader.new) result buf.new }
 {
     let mut at: usize = 0;
     while at < buf.len() {
-        let reading = read_once(buf, at);
+        let reading = read_once(reader, buf, at);
         match reading {
             Reading::On(next) => {
                 at = next;
@@ -59,4 +63,61 @@ pub fn read_whole(buf: &mut [u8]) -> Input
         }
     }
     Input::Whole(at)
+}
+
+#[cfg(test)]
+mod tests {
+    use super::*;
+
+    // Gives one byte a read, and fails once after `before` of them.
+    #[derive(Drop)]
+    struct FailsOnce {
+        bytes: &'static [u8],
+        before: Option<usize>,
+    }
+
+    impl Read for FailsOnce {
+        fn read(&mut self, buf: &mut [u8]) -> io::Result<usize> {
+            if self.before == Some(0) {
+                self.before = None;
+                return Err(io::ErrorKind::Interrupted.into());
+            }
+            self.before = self.before.map(|n| n.saturating_sub(1));
+            if self.bytes.is_empty() || buf.is_empty() {
+                return Ok(0);
+            }
+            buf[0] = self.bytes[0];
+            self.bytes = &self.bytes[1..];
+            Ok(1)
+        }
+    }
+
+    #[test]
+    fn ends_or_fails(rt: HostRuntime) {
+        // The buffer's room, how many reads come before one fails, and how many bytes are read.
+        let cases = [
+            (8, None, Some(5)),
+            (5, None, Some(5)),
+            (3, None, Some(3)),
+            (0, Some(0), Some(0)),
+            (8, Some(0), None),
+            (8, Some(3), None),
+            (8, Some(5), None),
+            (5, Some(5), Some(5)),
+        ];
+        for (room, before, want) in cases {
+            let mut space = [0u8; 8];
+            let mut reader = FailsOnce {
+                bytes: b"hello",
+                before,
+            };
+            let read = match read_whole(&mut reader, &mut space[..room]) {
+                Input::Whole(n) => Some(n),
+                Input::Failed => None,
+            };
+            assert_eq!(rt; read, want, "a room of {room}");
+            let n = want.unwrap_or(0);
+            assert!(rt; b"hello".starts_with(&space[..n]), "a room of {room}");
+        }
+    }
 }
