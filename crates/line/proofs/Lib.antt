@@ -2,3 +2,4 @@ pub mod Lines
 pub mod Challenges
 pub mod Programs
 pub mod Places
+pub mod Printed
