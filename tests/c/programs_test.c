@@ -363,20 +363,15 @@ static void to_a_full_pipe(const struct program *program)
     close(ends[1]);
 }
 
-/* A pipe that nobody reads: the signal ends the program, or the write fails where the signal is ignored. */
+/* A pipe that nobody reads: the write fails, since a program of the toolchain ignores the signal from its start on. */
 static void to_a_pipe_that_nobody_reads(const struct program *program)
 {
-    struct start start = {NULL, "", "", SIGPIPE, 0};
-    int ends[2], in, err[2], status;
+    struct start ignoring = {NULL, "", "", SIGPIPE, 0};
+    int ends[2];
     open_pipe(ends, 1, 1);
     close(ends[0]);
-    cannot_write(program, "a pipe that nobody reads, with its signal ignored", &start, ends[1]);
-    in = holding(program->message.bytes, program->message.len);
-    listen_to(err);
-    status = ended(begin(program, &plain, in, ends[1], err[1]));
-    note(program, "a pipe that nobody reads",
-         heard(program, err, NULL) && WIFSIGNALED(status) && WTERMSIG(status) == SIGPIPE);
-    close(in);
+    cannot_write(program, "a pipe that nobody reads, with its signal ignored", &ignoring, ends[1]);
+    cannot_write(program, "a pipe that nobody reads", &plain, ends[1]);
     close(ends[1]);
 }
 
