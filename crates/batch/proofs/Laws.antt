@@ -7,7 +7,7 @@ use native.Mathlib.Omega.{arith}
 use mir.Syntax.{w64}
 use mir.Val.{Fits}
 use lib.Dec.{leb, eqb}
-use lib.ListN.{length, take, drop}
+use lib.ListN.{length, get_or, set, take, drop}
 use borrow.Author.Tests.{leb-true, leb-false, le-leb, lt-leb, ne_eqb}
 use Rattle.wire.specs.declared.check.Checked.{Checked}
 use Rattle.wire.specs.declared.check.Checked.TheVariants.{Held, Failed}
@@ -25,6 +25,7 @@ use Rattle.verdict.proofs.Refusals.{read_short}
 use Rattle.batch.specs.declared.Answer.{Answer}
 use Rattle.batch.specs.declared.Entry.{Entry}
 use Rattle.batch.specs.Batch.{answer_of, place_inside, at_place, message_at, read_marked, verdict_of, answer_to, with_answer}
+use Rattle.batch.proofs.Fill.{fill_to, fill_next}
 
 -- ---- an answer
 
@@ -106,3 +107,13 @@ answer_is v w x h q = rw (← h) q
 pub entry_is : (s : List ℕ) (e : Entry) (x : Answer) → x ≡ answer_to s e → record { start = e.start; length = e.length; mark = e.mark; answer = x } ≡ with_answer s e
 unfolding with_answer
 entry_is s e x h = rw h
+
+-- one turn of the loop: where the first i entries of xs have their answers, the next one gets its own
+pub one_turn : (s : List ℕ) (xs ys : List Entry) (i : ℕ) (d : Entry) (x : Answer) → ys ≡ fill_to (with_answer s) i xs → i < length xs
+    → x ≡ answer_to s (get_or ys i d)
+    → set ys i (record { start = (get_or ys i d).start; length = (get_or ys i d).length; mark = (get_or ys i d).mark; answer = x })
+    ≡ fill_to (with_answer s) (i + 1) xs
+one_turn s xs ys i d x e l p =
+    ap (λ (z : Entry). set ys i z) (entry_is s (get_or ys i d) x p) ∙
+    ap (λ (zs : List Entry). set zs i (with_answer s (get_or ys i d))) e ∙
+    fill_next (with_answer s) i xs d (with_answer s (get_or ys i d)) l (ap (λ (zs : List Entry). with_answer s (get_or zs i d)) e)

@@ -12,5 +12,5 @@ unfolding chal_words
 put_spec =
     tie.close
     (tie.spec
-    (λ c. search rules) (λ c κs. omega (arith, parts3)) (λ c. search rules) (λ c κs. omega (arith, parts3))
-    (λ c κs. omega (arith, parts3)) (λ c. search rules) (λ c. search and_then))
+    (λ c κs. omega (arith, parts3)) (λ c κs. omega (arith, parts3)) (λ c κs. omega (arith, parts3))
+    (λ c. search rules) (λ c. search and_then))

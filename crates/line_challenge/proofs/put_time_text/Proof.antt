@@ -12,6 +12,6 @@ unfolding time_text
 put_time_text_spec =
     tie.close
     (tie.spec
-    (λ c. search rules) (λ c κs. omega (arith, time_text_room)) (λ c. omega (arith, time_text_room))
-    (λ c. omega (arith, time_text_room)) (λ c. search rules) (λ c κs. omega (arith, time_text_room))
-    (λ c. search rules) (λ c. search rules) (λ c. search then_lent))
+    (λ c κs. omega (arith, time_text_room)) (λ c. omega (arith, time_text_room)) (λ c. omega (arith, time_text_room))
+    (λ c. search rules) (λ c κs. omega (arith, time_text_room)) (λ c. search rules) (λ c. search rules)
+    (λ c. search then_lent))
