@@ -9,10 +9,8 @@ pub write_spec : {M : Type 1} → statement M
 write_spec =
     tie.close
     (tie.spec
-    (λ c κs. search rules) (λ c κs. search rules)
-    (λ c. search rules) (λ c. search rules) (λ c κs. search rules)
-    (λ c. search rules) (λ c. search rules) (λ c κs. search rules)
-    (λ c. search rules) (λ c. search rules) (λ c κs. search rules)
-    (λ c. search rules) (λ c. (search (same_line, chosen), search (same_line, chosen)))
-    (λ c. search rules) (λ c. (search (same_line, chosen), search (same_line, chosen)))
-    (λ c. search rules) (λ c. (search (same_line, chosen), search (same_line, chosen))))
+    (λ c κs. search rules) (λ c κs. search rules) (λ c. search rules) (λ c κs. search rules) (λ c. search rules)
+    (λ c κs. search rules) (λ c. search rules) (λ c κs. search rules) (λ c. search rules)
+    (λ c. (search (same_line, chosen), search (same_line, chosen))) (λ c. search rules)
+    (λ c. (search (same_line, chosen), search (same_line, chosen))) (λ c. search rules)
+    (λ c. (search (same_line, chosen), search (same_line, chosen))))
