@@ -204,6 +204,7 @@ module _ (k l : Kind) (s t : List ℕ) (b : Bytes s) (d : Bytes t) (e : line_as 
   alike_of chal (challenges c h p) (challenges f j q) = (challenge_line_shows s t c f b d p q).0 (same_line AsChallenge h j)
   alike_of auth (authenticates a h p) (authenticates f j q) = (authenticate_line_shows s t a f b d p q).0 (same_line AsAuthenticate h j)
   alike_of refused (refuses x p) (refuses y q) = (refused_line_shows x y).0 (sym (line_refused k s x p) ∙ e ∙ line_refused l t y q)
+  alike_of nl x y = elim x [ ]
 
 read_alike : (k l : Kind) (s t : List ℕ) → Bytes s → Bytes t → line_as k s ≡ line_as l t → ReadAlike k l s t
 unfolding Read
@@ -224,6 +225,7 @@ module _ (k l : Kind) (s t : List ℕ) (b : Bytes s) (d : Bytes t) where
   line_of chal (challenges c h p) (challenges f j q) w = as_one AsChallenge h j ((challenge_line_shows s t c f b d p q).1 w)
   line_of auth (authenticates a h p) (authenticates f j q) w = as_one AsAuthenticate h j ((authenticate_line_shows s t a f b d p q).1 w)
   line_of refused (refuses x p) (refuses y q) w = line_refused k s x p ∙ (refused_line_shows x y).1 w ∙ sym (line_refused l t y q)
+  line_of nl x y w = elim x [ ]
 
 pub lines_show : LinesShow
 lines_show k l s t b d = (read_alike k l s t b d, λ w. line_of k l s t b d w.form w.first w.second w.alike)
@@ -237,28 +239,31 @@ nl_refused s e h = simp h
 NlRead : List ℕ → Type 0
 NlRead s = (f : Form) × Opens f (nl_auth_line s) × NlReadFor s f
 
-nl-reads : (s : List ℕ) → NlRead s
+nl_reads : (s : List ℕ) → NlRead s
 unfolding NlRead
-nl-reads s = go (read_nl_auth s) refl where
+nl_reads s = go (read_nl_auth s) refl where
   go : (r : NlReading) → read_nl_auth s ≡ r → NlRead s
   go (NlTaken m) h = (nl, each_form.as_nl s m h, takes m h)
   go (NlRefused e) h = (refused, subst (Opens refused) (sym (nl_refused s e h)) (opens_refused e), refuses_nl e h)
 
 pub nl_opens_refusal : (s : List ℕ) → Opens refused (nl_auth_line s) → (e : Refusal) × (read_nl_auth s ≡ NlRefused e)
 unfolding NlRead
-nl_opens_refusal s o = let x = nl-reads s in go (subst (NlReadFor s) (one_form x.0 refused (nl_auth_line s) x.1 o) x.2) where
+nl_opens_refusal s o = let x = nl_reads s in go (subst (NlReadFor s) (one_form x.0 refused (nl_auth_line s) x.1 o) x.2) where
   go : NlReadFor s refused → (e : Refusal) × (read_nl_auth s ≡ NlRefused e)
   go (refuses_nl e p) = (e, p)
 
 nl_alike_of : (s t : List ℕ) → Bytes s → Bytes t → nl_auth_line s ≡ nl_auth_line t → (f : Form) (x : NlReadFor s f) (y : NlReadFor t f) → NlAlike s t f x y
 nl_alike_of s t b d e nl (takes m p) (takes n q) = (nl_auth_line_shows s t m n b d p q).0 e
 nl_alike_of s t b d e refused (refuses_nl x p) (refuses_nl y q) = (refused_line_shows x y).0 (sym (nl_refused s x p) ∙ e ∙ nl_refused t y q)
+nl_alike_of s t b d e nego x y = elim x [ ]
+nl_alike_of s t b d e chal x y = elim x [ ]
+nl_alike_of s t b d e auth x y = elim x [ ]
 
 nl_read_alike : (s t : List ℕ) → Bytes s → Bytes t → nl_auth_line s ≡ nl_auth_line t → NlReadAlike s t
 unfolding NlRead
 nl_read_alike s t b d e =
-    let x = nl-reads s in
-    let y = nl-reads t in
+    let x = nl_reads s in
+    let y = nl_reads t in
     let f : x.0 ≡ y.0 = one_form x.0 y.0 (nl_auth_line t) (subst (Opens x.0) e x.1) y.1 in
     let z = subst (NlReadFor s) f x.2 in
     record { form = y.0; first = z; second = y.2; alike = nl_alike_of s t b d e y.0 z y.2 }
@@ -266,6 +271,9 @@ nl_read_alike s t b d e =
 nl_line_of : (s t : List ℕ) → Bytes s → Bytes t → (f : Form) (x : NlReadFor s f) (y : NlReadFor t f) → NlAlike s t f x y → nl_auth_line s ≡ nl_auth_line t
 nl_line_of s t b d nl (takes m p) (takes n q) w = (nl_auth_line_shows s t m n b d p q).1 w
 nl_line_of s t b d refused (refuses_nl x p) (refuses_nl y q) w = nl_refused s x p ∙ (refused_line_shows x y).1 w ∙ sym (nl_refused t y q)
+nl_line_of s t b d nego x y w = elim x [ ]
+nl_line_of s t b d chal x y w = elim x [ ]
+nl_line_of s t b d auth x y w = elim x [ ]
 
 pub nl_lines_show : NlLinesShow
 nl_lines_show s t b d = (nl_read_alike s t b d, λ w. nl_line_of s t b d w.form w.first w.second w.alike)

@@ -267,7 +267,7 @@ module _ (s : List ℕ) where
   no_fault (pair e p v) (here x f) = pair_or_fault _ _ e f
   no_fault (pair e p v) (later w f) = no_fault v f
 
-  pub one_first : {at n m p q : ℕ} → FirstFault s n p at → FirstFault s m q at → (n ≡ m) × (p ≡ q)
+  pub one_first : {n m p q at : ℕ} → FirstFault s n p at → FirstFault s m q at → (n ≡ m) × (p ≡ q)
   one_first (here x f) (here y g) = (one_fault _ _ _ f g, x ∙ sym y)
   one_first (here x f) (later w g) = absurd (pair_or_fault _ _ w f)
   one_first (later v f) (here y g) = absurd (pair_or_fault _ _ v g)

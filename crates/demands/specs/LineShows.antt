@@ -214,6 +214,7 @@ Alike k l s t nego (negotiates m h p) (negotiates n j q) = SameNego s t m n
 Alike k l s t chal (challenges c h p) (challenges d j q) = SameChal s t c d
 Alike k l s t auth (authenticates a h p) (authenticates b j q) = SameAuth s t a b
 Alike k l s t refused (refuses e p) (refuses f q) = SameRefusal e f
+Alike k l s t nl x y = elim x [ ]
 
 pub record ReadAlike (k l : Kind) (s t : List ℕ) : Type 0 where
   pub form : Form
@@ -233,6 +234,9 @@ pub data NlReadFor (s : List ℕ) : Form → Type 0 where
 abbrev pub NlAlike : (s t : List ℕ) (form : Form) → NlReadFor s form → NlReadFor t form → Type 0
 NlAlike s t nl (takes m p) (takes n q) = SameNl s t m n
 NlAlike s t refused (refuses_nl e p) (refuses_nl f q) = SameRefusal e f
+NlAlike s t nego x y = elim x [ ]
+NlAlike s t chal x y = elim x [ ]
+NlAlike s t auth x y = elim x [ ]
 
 pub record NlReadAlike (s t : List ℕ) : Type 0 where
   pub form : Form

@@ -179,6 +179,6 @@ challenge_ignored a b d =
       whole = λ x. λ i. record { reading = whole_reading a b d x i; server_challenge = server_same a b d i };
       timestamp = made_same a b d TimeRefused (λ c l. TimeTaken (timestamp_in l)) (λ c l. refl);
       server_names = made_same a b d NamesRefused (λ c l. NamesTaken (server_names_in l)) (λ c l. refl);
-      target_name_is = λ c h. let t = taken_as a c h in rw t.answer (bytes_same a b d t.none).0;
+      target_name = λ c h. let t = taken_as a c h in rw t.answer (bytes_same a b d t.none).0;
       target_info_is = λ c h. let t = taken_as a c h in rw t.answer (bytes_same a b d t.none).1;
     }
