@@ -13,8 +13,7 @@ use Rattle.av_pairs.specs.declared.Step.TheVariants.{Pair, End, Refused}
 use Rattle.av_pairs.specs.AvPairs.{step_at, end_of, on_step, pairs_from, stop_from, pairs_of, check_pairs}
 use Rattle.av_pairs.specs.Walk.{walk_over, asking, walk_after, pair_or, answer_at}
 use Rattle.demands.specs.PairList.{id_of, size_of, next_of, PairAt, WellFormed, end, pair, Holds, empty, listed, FirstFault, here, later}
-use Rattle.demands.specs.TakenExactly.{RefusedWith}
-use Rattle.demands.specs.InTurn.{PairIs, InTurn, PairsInTurn, KthPair, step_verdict, WalkGives, WalkEnds, WalkRefuses}
+use Rattle.demands.specs.InTurn.{PairIs, InTurn, PairsInTurn, KthPair, StepRefused, WalkGives, WalkEnds, WalkRefuses}
 use Rattle.demands.proofs.PairList.{JudgedS, step_judged, empty_step, pair_or_end, pair_or_fault, one_first, fault_is, holds_or_fault}
 use Rattle.demands.proofs.Walk.{walk_answers}
 
@@ -137,7 +136,7 @@ walk_ends list k = (λ e. subst (JudgedK list.now k) e (asked list k), λ h. go 
 pub walk_refuses : WalkRefuses
 walk_refuses list k n i place = go (asking (walk_after k (walk_over list))) (asked list k) where
   go : (x : Step) → JudgedK list.now k x →
-      RefusedWith (step_verdict x) n i place ↔ ((0 < length list.now) × (i ≡ 2) × FirstFault list.now n place 0 × ((found : ℕ) → KthPair list.now found k 0 → ⊥))
+      StepRefused x n i place ↔ ((0 < length list.now) × (i ≡ 2) × FirstFault list.now n place 0 × ((found : ℕ) → KthPair list.now found k 0 → ⊥))
   go (Pair q) j = (λ t. absurd t, λ h. h.3 j.0 j.1)
   go End j = (λ t. absurd t, λ h. holds_or_fault list.now j.0 n place j.1 h.0 h.2)
   go (Refused e) j = (

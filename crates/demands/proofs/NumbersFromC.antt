@@ -53,7 +53,7 @@ use Rattle.demands.specs.Asking.{AskedAt}
 use Rattle.demands.specs.FromC.{Call, read_negotiate_call, read_timestamp, read_server_names, read_nl_auth_call, count_pairs_call, find_pair_call, next_pair, decide, compute_mic, outcome, TwoArrayCall, read_authenticate_call, read_challenge_call, two_array_outcome, bytes_beside}
 use Rattle.demands.specs.InTurn.{step_verdict}
 use Rattle.demands.specs.Message.{Format}
-use Rattle.demands.specs.NumbersFromC.{number_at, YesOrNo, FieldNumbers, TimestampNumbers, PlainNumbers, NameNumbers, RequestNumbers, NlAuthNumbers, NumbersSay, TwoArraysSay, CallNumbersOwn, TwoArrayNumbersOwn, outcome_verdict, ReadingsFromC}
+use Rattle.demands.specs.NumbersFromC.{number_at, YesOrNo, FieldNumbers, TimestampNumbers, PlainNumbers, NameNumbers, RequestNumbers, NlAuthNumbers, NumbersSay, TwoArraysSay, CallNumbersOwn, TwoArrayNumbersOwn, outcome_verdict, ReadingsFromC, AskingsFromC}
 use Rattle.demands.specs.OwnBytes.{OwnField, OwnString, OwnName, OwnRequest, OwnResponse}
 use Rattle.verdict.specs.Verdict.{nego_verdict, chal_verdict, auth_verdict}
 use Rattle.demands.specs.SearchedExactly.{search_verdict, timestamp_verdict, server_names_verdict}
@@ -282,6 +282,11 @@ readings_from_c s =
       nl_auth = nl_judged (read_nl_auth s);
       timestamp = timestamp_judged (timestamp_of s);
       server_names = names_judged (server_names_of s);
+    }
+
+pub askings_from_c : AskingsFromC
+askings_from_c s =
+    record {
       count = count_judged (count_pairs s);
       found = λ id. found_judged (find_pair (record { id = id }) s);
       asked = λ at. asked_judged (ask_at s at).step (ask_at s at).next;

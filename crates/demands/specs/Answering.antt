@@ -21,7 +21,7 @@ use Rattle.demands.specs.Order.{FirstIn}
 use Rattle.demands.specs.Message.{challenge, Set, offset_of}
 use Rattle.demands.specs.PairList.{size_of, FirstWith, PairThere}
 use Rattle.demands.specs.ReadBack.{AuthenticateBack}
-use Rattle.demands.specs.TakenExactly.{RefusalIs, RefusedWith, InfoBytes, ChallengeHolds, ChallengeFails}
+use Rattle.demands.specs.TakenExactly.{RefusalIs, InfoBytes, ChallengeHolds, ChallengeFails}
 use Rattle.demands.specs.WrittenExactly.{authenticate_size, AuthenticateWritingFails, authenticate_order}
 
 -- ---- the decision
@@ -52,6 +52,11 @@ abbrev pub TimestampIs : List ℕ → Timestamp → Type 0
 TimestampIs b (Time t) = (place : ℕ) × FirstWith b 7 place 0 × (t ≡ u64_at b (place + 4))
 TimestampIs b Nothing = PairThere b 7 → ⊥
 
+abbrev pub DecisionRefusedWith : Decided → ℕ → ℕ → ℕ → Type 0
+DecisionRefusedWith (Taken d) n i p = ⊥
+DecisionRefusedWith (Refused e) n i p = RefusalIs e n i p
+
+-- a decision is made, or refused
 abbrev pub decided_verdict : Decided → Verdict
 decided_verdict (Taken d) = Clear
 decided_verdict (Refused e) = Not e
@@ -59,7 +64,7 @@ decided_verdict (Refused e) = Not e
 abbrev pub DecisionIsRefused : Type 0
 DecisionIsRefused =
     (settings : Settings) (s b : List ℕ) → InfoBytes s b → (n i p : ℕ) →
-    RefusedWith (decided_verdict (decision_on settings s)) n i p ↔ Declined settings s b n i p
+    DecisionRefusedWith (decision_on settings s) n i p ↔ Declined settings s b n i p
 
 abbrev pub DecisionIsTaken : Type 0
 DecisionIsTaken =

@@ -10,7 +10,7 @@ use Rattle.av_pairs.specs.declared.Step.TheVariants.{Pair, End, Refused}
 use Rattle.av_pairs.specs.AvPairs.{pairs_of}
 use Rattle.av_pairs.specs.Walk.{walk_over, asking, walk_after}
 use Rattle.demands.specs.PairList.{id_of, size_of, next_of, PairAt, EndAt, FaultAt, Holds, FirstFault}
-use Rattle.demands.specs.TakenExactly.{RefusedWith}
+use Rattle.demands.specs.TakenExactly.{RefusalIs}
 
 -- p is the pair at a place: its own id and length, and its value four bytes on
 pub record PairIs (s : List ℕ) (at : ℕ) (p : AvPair) : Type 0 where
@@ -32,6 +32,11 @@ PairsInTurn = (s : List ℕ) → (length s ≡ 0 → pairs_of s ≡ []) × (0 < 
 abbrev pub KthPair : List ℕ → ℕ → ℕ → ℕ → Type 0
 KthPair s found zero at = (at ≡ found) × PairAt s at
 KthPair s found (suc k) at = PairAt s at × KthPair s found k (next_of s at)
+
+abbrev pub StepRefused : Step → ℕ → ℕ → ℕ → Type 0
+StepRefused (Pair p) n i place = ⊥
+StepRefused End n i place = ⊥
+StepRefused (Refused e) n i place = RefusalIs e n i place
 
 -- an asking is answered with a pair or the end, or refused
 abbrev pub step_verdict : Step → Verdict
@@ -55,5 +60,5 @@ WalkEnds =
 abbrev pub WalkRefuses : Type 0
 WalkRefuses =
     (list : Bor (List ℕ)) (k n i place : ℕ) →
-    RefusedWith (step_verdict (asking (walk_after k (walk_over list)))) n i place ↔
+    StepRefused (asking (walk_after k (walk_over list))) n i place ↔
     ((0 < length list.now) × (i ≡ 2) × FirstFault list.now n place 0 × ((found : ℕ) → KthPair list.now found k 0 → ⊥))

@@ -146,14 +146,13 @@ CallNumbersOwn = (c : Call) (xs : List ℕ) → outcome c ≡ numbers xs → Num
 abbrev pub TwoArrayNumbersOwn : Type 0
 TwoArrayNumbersOwn = (c : TwoArrayCall) (xs : List ℕ) → two_array_outcome c ≡ numbers xs → TwoArraysSay c xs (bytes_beside c)
 
--- ---- demand 1: "It answers, or refuses by a number". A call from C hands out numbers exactly where its reading, search, asking or
--- decision is taken, and is refused exactly as that is refused
+-- ---- demand 1: "It answers, or refuses by a number". A reading from C hands out numbers exactly where the reader takes, and is
+-- refused exactly as the reader refuses
 
 abbrev pub outcome_verdict : Outcome → Verdict
 outcome_verdict (numbers xs) = Clear
 outcome_verdict (refused e) = Refused e
 
--- of a message, or of a pair list that is lent by itself
 pub record JudgedFromC (s : List ℕ) : Type 0 where
   pub nego : outcome_verdict (outcome (read_negotiate_call s)) ≡ nego_verdict (read_negotiate s)
   pub chal : outcome_verdict (two_array_outcome (read_challenge_call s)) ≡ chal_verdict (read_challenge s).reading
@@ -161,10 +160,16 @@ pub record JudgedFromC (s : List ℕ) : Type 0 where
   pub nl_auth : outcome_verdict (outcome (read_nl_auth_call s)) ≡ nl_verdict (read_nl_auth s)
   pub timestamp : outcome_verdict (outcome (read_timestamp s)) ≡ timestamp_verdict (timestamp_of s)
   pub server_names : outcome_verdict (outcome (read_server_names s)) ≡ server_names_verdict (server_names_of s)
+
+abbrev pub ReadingsFromC : Type 0
+ReadingsFromC = (s : List ℕ) → JudgedFromC s
+
+-- the same of what is counted, searched and asked in a pair list that is lent by itself, and of a decision on a challenge
+pub record AskedFromC (s : List ℕ) : Type 0 where
   pub count : outcome_verdict (outcome (count_pairs_call s)) ≡ count_verdict (count_pairs s)
   pub found : (id : ℕ) → outcome_verdict (outcome (find_pair_call s id)) ≡ search_verdict (find_pair (record { id = id }) s)
   pub asked : (at : ℕ) → outcome_verdict (outcome (next_pair s at)) ≡ step_verdict (ask_at s at).step
   pub decided : (settings : ℕ) → outcome_verdict (outcome (decide settings s)) ≡ decided_verdict (decision_on (settings_of settings) s)
 
-abbrev pub ReadingsFromC : Type 0
-ReadingsFromC = (s : List ℕ) → JudgedFromC s
+abbrev pub AskingsFromC : Type 0
+AskingsFromC = (s : List ℕ) → AskedFromC s

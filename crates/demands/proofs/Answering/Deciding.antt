@@ -29,8 +29,8 @@ use Rattle.respond.specs.declared.decision.Settings.{Settings}
 use Rattle.respond.specs.Decision.{strength_holds, server_names_hold, decision_on}
 use Rattle.target_info.specs.TargetInfo.{first_by, timestamp_in, server_names_in}
 use Rattle.demands.specs.PairList.{PairThere}
-use Rattle.demands.specs.TakenExactly.{RefusedWith, InfoBytes, ChallengeHolds}
-use Rattle.demands.specs.Answering.{Fails20, Fails21, Agreed, Declined, by_reading, by_20, by_21, TimestampIs, decided_verdict, DecisionIsRefused, DecisionIsTaken}
+use Rattle.demands.specs.TakenExactly.{InfoBytes, ChallengeHolds}
+use Rattle.demands.specs.Answering.{Fails20, Fails21, Agreed, Declined, by_reading, by_20, by_21, TimestampIs, DecisionRefusedWith, DecisionIsRefused, DecisionIsTaken}
 use Rattle.demands.proofs.Bools.{true_not_false, both_ways, failed_false, chained}
 use Rattle.demands.proofs.PairList.{one_place}
 use Rattle.demands.proofs.TakenExactly.Challenge as reading
@@ -177,7 +177,7 @@ decline_is settings s b {m} {j} {o} {n} {i} {p} e f =
 
 pub decision_refused : DecisionIsRefused
 decision_refused settings s b info n i p = go (decision_on settings s) (judged settings s b info) where
-  go : (d : Decided) → Judged settings s b info d → RefusedWith (decided_verdict d) n i p ↔ Declined settings s b n i p
+  go : (d : Decided) → Judged settings s b info d → DecisionRefusedWith d n i p ↔ Declined settings s b n i p
   go (Taken d) j = (λ t. absurd t, λ f. agreed_or_declined settings s b n i p j.0 f)
   go (Refused e) j = (
     λ t. decline_is settings s b t j,
