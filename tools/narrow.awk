@@ -5,7 +5,8 @@
 #
 # What the forms rest on: a pointer in memory lies in a place of 8 bytes, of which 4 are then used, so a place that is made for a
 # pointer alone is stored to and loaded from as a pointer and nothing else, and no address is that of a pointer here and of a
-# number there; memory is otherwise made as bytes; steps of an address are counted in bytes; and no pointer becomes a number.
+# number there; memory is otherwise made as bytes; steps of an address are counted in bytes; and no pointer becomes a number. Whether a
+# pointer is null, which a C caller may pass with the length 0, is asked in both by one question.
 
 function refuse(what) {
     printf "the module can't be turned: %s, at its line %d: %s\n", what, NR, $0 >"/dev/stderr"
@@ -30,6 +31,7 @@ BEGIN {
     form[++forms] = set "getelementptr( inbounds)?( nuw)? i8, ptr " reg ", i64 " value "$"
     form[++forms] = set "(add|sub|mul|shl|lshr|udiv|urem|and|or|xor)( nuw)?( nsw)?( exact)?( disjoint)? " whole " " value ", " value "$"
     form[++forms] = set "icmp (eq|ne|ult|ule|ugt|uge|slt|sle|sgt|sge) " whole " " value ", " value "$"
+    form[++forms] = set "icmp eq ptr " reg ", null$"
     form[++forms] = set "(zext|sext|trunc)( nuw)?( nsw)?( nneg)? " whole " " value " to " whole "$"
     form[++forms] = "^  br (label " reg "|i1 " value ", label " reg ", label " reg ")$"
     form[++forms] = "^  switch " whole " " value ", label " reg " \\[$"
@@ -55,7 +57,7 @@ BEGIN {
     rest = $0
     sub(/^attributes #[0-9]+ = \{/, "", rest)
     sub(/\}$/, "", rest)
-    gsub(/"probe-stack"="inline-asm"|"target-cpu"="x86-64"|memory\([a-z: ,]*\)/, "", rest)
+    gsub(/"probe-stack"="inline-asm"|"stack-probe-size"="3072"|"target-cpu"="x86-64"|memory\([a-z: ,]*\)/, "", rest)
     gsub(/nounwind|nocallback|nofree|willreturn|noreturn|cold/, "", rest)
     if (rest !~ /^ *$/) refuse("an attribute that is not known here")
     # What is said of one processor goes.
