@@ -1,6 +1,6 @@
 /*
  * The published vectors of MD5 (RFC 1321, A.5) and HMAC-MD5 (RFC 2104, appendix; RFC 2202, section 2) against the
- * compiled code of crates/md5 and crates/hmac_md5, by way of crates/md5_calls. The last line is 'N passed, M failed'.
+ * compiled code of crates/md5_digest and crates/hmac_md5, by way of crates/md5_calls. The last line is 'N passed, M failed'.
  */
 #include <stdint.h>
 #include <stdio.h>
