@@ -14,11 +14,11 @@ holds : (b : Bool) → T b → b ≡ true
 holds true t = refl
 holds false t = absurd t
 
-abbrev same : Bool → Bool → Bool
+abbrev pub same : Bool → Bool → Bool
 same true b = b
 same false b = not b
 
-same_is : (a b : Bool) → T (same a b) → a ≡ b
+pub same_is : (a b : Bool) → T (same a b) → a ≡ b
 same_is true true t = refl
 same_is true false t = absurd t
 same_is false true t = absurd t
@@ -29,10 +29,10 @@ same_is false false t = refl
 abbrev worked_letter : ℕ → ℕ
 worked_letter v = cond (ltb v 26) (v + 65) (cond (ltb v 52) (v + 71) (cond (ltb v 62) ((v + 60) % 64) (cond (eqb v 62) 43 47)))
 
-abbrev worked_test : ℕ → Bool
+abbrev pub worked_test : ℕ → Bool
 worked_test c = (leb 65 c && leb c 90) || (leb 97 c && leb c 122) || (leb 47 c && leb c 57) || eqb c 43
 
-abbrev worked_value : ℕ → ℕ
+abbrev pub worked_value : ℕ → ℕ
 worked_value c =
     cond (leb 65 c && leb c 90) ((c % 64 + 63) % 64) (
     cond (leb 97 c && leb c 122) ((c % 64 + 57) % 64) (
@@ -57,7 +57,7 @@ places_test : T (every (λ k x. eqb (value_of x) k && is_letter x) 0 alphabet)
 unfolding alphabet is_letter value_of
 places_test = tt
 
-bytes_test : T (every (λ k x. same (worked_test k) (is_letter k) && eqb (worked_value k) (value_of k)) 0 (replicate 256 0))
+pub bytes_test : T (every (λ k x. same (worked_test k) (is_letter k) && eqb (worked_value k) (value_of k)) 0 (replicate 256 0))
 unfolding alphabet is_letter value_of
 bytes_test = tt
 
@@ -65,11 +65,11 @@ few_test : T (every (λ k x. not (is_letter k) || eqb (worked_few k) (value_of k
 unfolding alphabet is_letter value_of
 few_test = tt
 
-and_left : (a b : Bool) → T (a && b) → T a
+pub and_left : (a b : Bool) → T (a && b) → T a
 and_left true b t = tt
 and_left false b t = t
 
-and_right : (a b : Bool) → T (a && b) → T b
+pub and_right : (a b : Bool) → T (a && b) → T b
 and_right true b t = t
 and_right false b t = absurd t
 
@@ -93,27 +93,6 @@ module _ (v : ℕ) (h : v < 64) where
 
   pub is_letter_lem : is_letter (letter v) ≡ true
   is_letter_lem = holds (is_letter (letter v)) (and_right (eqb (value_of (letter v)) v) (is_letter (letter v)) test_at)
-
-module _ (c : ℕ) (h : c < 256) where
-  byte_at : T (same (worked_test c) (is_letter c) && eqb (worked_value c) (value_of c))
-  byte_at = at (λ k x. same (worked_test k) (is_letter k) && eqb (worked_value k) (value_of k)) (replicate 256 0) bytes_test c h
-
-  pub is_tested : worked_test c ≡ is_letter c
-  is_tested = same_is (worked_test c) (is_letter c) (and_left (same (worked_test c) (is_letter c)) (eqb (worked_value c) (value_of c)) byte_at)
-
-  worked_is : worked_value c ≡ value_of c
-  worked_is = eqb→eq (worked_value c) (value_of c) (and_right (same (worked_test c) (is_letter c)) (eqb (worked_value c) (value_of c)) byte_at)
-
-  -- of the numbers chosen one after the other, the last is the value
-  pub is_value : (r w x y z : ℕ) → z ≡ cond (eqb c 47) 63 0 → y ≡ cond (eqb c 43) 62 z → x ≡ cond (leb 48 c && leb c 57) ((c % 64 + 4) % 64) y →
-      w ≡ cond (leb 97 c && leb c 122) ((c % 64 + 57) % 64) x → r ≡ cond (leb 65 c && leb c 90) ((c % 64 + 63) % 64) w → r ≡ value_of c
-  is_value r w x y z ez ey ex ew er =
-      er
-      ∙ ap (λ (n : ℕ). cond (leb 65 c && leb c 90) ((c % 64 + 63) % 64) n)
-      (ew ∙ ap (λ (n : ℕ). cond (leb 97 c && leb c 122) ((c % 64 + 57) % 64) n)
-      (ex ∙ ap (λ (n : ℕ). cond (leb 48 c && leb c 57) ((c % 64 + 4) % 64) n)
-      (ey ∙ ap (λ (n : ℕ). cond (eqb c 43) 62 n) ez)))
-      ∙ worked_is
 
 -- ---- the same of a letter, by fewer questions
 
@@ -163,11 +142,7 @@ value_small c = go (ltb (place_among alphabet c) 64) refl where
   go true e = ltb-true (place_among alphabet c) 64 e
   go false e = omega arith
 
--- so a value that was worked out is below 64
-pub value_below : (c r w x y z : ℕ) → c < 256 → z ≡ cond (eqb c 47) 63 0 → y ≡ cond (eqb c 43) 62 z → x ≡ cond (leb 48 c && leb c 57) ((c % 64 + 4) % 64) y →
-    w ≡ cond (leb 97 c && leb c 122) ((c % 64 + 57) % 64) x → r ≡ cond (leb 65 c && leb c 90) ((c % 64 + 63) % 64) w → r < 64
-value_below c r w x y z h ez ey ex ew er = omega (arith, is_value c h r w x y z ez ey ex ew er, value_small c)
-
+-- so a value that was worked out of a letter is below 64
 pub few_below : (c r x y : ℕ) → c < 256 → is_letter c ≡ true → y ≡ cond (leb 65 c) 63 4 → x ≡ cond (leb 97 c) 57 y →
     r ≡ cond (leb 48 c) ((c % 64 + x) % 64) (c / 4 + 52) → r < 64
 few_below c r x y h l ey ex er = omega (arith, is_value_few c h l r x y ey ex er, value_small c)

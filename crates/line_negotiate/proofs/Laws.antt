@@ -1,21 +1,19 @@
 -- Laws of the line's length.
 use Prim.Native.Nat.{ℕ, ◌+◌, ◌-◌, ◌*◌, ◌≤◌}
 use mathlib.Core.Path.{◌≡◌}
-use mathlib.Core.Bool.{Bool, true, false}
+use mathlib.Core.Bool.{false}
 use mathlib.Core.List.{List}
 use native.Mathlib.Omega.{arith}
-use lib.Dec.{leb}
 use lib.ListN.{length, length-append}
 use Rattle.wire.specs.Text.{ascii}
 use Rattle.read_negotiate.specs.declared.Negotiate.{Negotiate}
 use Rattle.read_negotiate.specs.Negotiate.{all_fields}
 use Rattle.wire.specs.declared.check.Checked.{Checked}
-use Rattle.wire.specs.declared.check.Checked.TheVariants.{Held}
 use Rattle.place.specs.Written.{room_holds}
 use Rattle.line_words.specs.Words.{Room, flags_word}
 use Rattle.line_max.specs.Max.{max_end}
 use Rattle.line_max.proofs.Laws.{two_size}
-use Rattle.line_words.proofs.Calls.{of_left, of_most}
+use Rattle.line_words.proofs.Calls.{of_left}
 use Rattle.line_words.proofs.Labels.{flags_word_size, name_word_bound}
 use Rattle.line_negotiate.specs.Nego.{nego_names, nego_text}
 
@@ -34,9 +32,6 @@ module _ (s : List ℕ) (m : Negotiate) where
   nego_bound =
       simp (length-append, flags_word_size, two_size)
       (omega (arith, name_word_bound (ascii " domain=") s false m.fields.domain, name_word_bound (ascii " work=") s false m.fields.workstation))
-
-  pub nego_surely_fits : (room : ℕ) (b : Bool) → b ≡ leb most room → b ≡ true → Held ≡ room_holds (length (nego_text s m)) room
-  nego_surely_fits room b e h = of_most (nego_text s m) most room b nego_bound e h
 
   pub nego_room : (at n : ℕ) → Room at (nego_text s m) n →
       at + (4 + (length (flags_word m.flags.bits) + (length (nego_names s m) + length (max_end (all_fields m.fields))))) ≤ n

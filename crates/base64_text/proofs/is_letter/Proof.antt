@@ -1,6 +1,6 @@
 -- The ranges hold the characters of the alphabet and no others.
 use borrow.Author.Rules.{rules}
-use Rattle.base64_text.proofs.Alphabet.{is_tested}
+use Rattle.base64_text.proofs.Bytes.{is_tested}
 use Rattle.base64_text.proofs.is_letter.Statement.{statement}
 use Rattle.base64_text.proofs.is_letter.Tie as tie
 

@@ -1,6 +1,6 @@
 -- The value is chosen by the character's range.
 use borrow.Author.Rules.{rules}
-use Rattle.base64_text.proofs.Alphabet.{is_value, value_below}
+use Rattle.base64_text.proofs.Bytes.{is_value, value_below}
 use Rattle.base64_text.proofs.value_of.Statement.{statement}
 use Rattle.base64_text.proofs.value_of.Tie as tie
 

@@ -1,6 +1,7 @@
 -- `fits` is check 33.
 use borrow.Author.Rules.{rules}
-use Rattle.line_negotiate.proofs.Laws.{nego_surely_fits, nego_fits}
+use Rattle.line_negotiate.proofs.Bound.{nego_surely_fits}
+use Rattle.line_negotiate.proofs.Laws.{nego_fits}
 use Rattle.line_negotiate.proofs.fits.Statement.{statement}
 use Rattle.line_negotiate.proofs.fits.Tie as tie
 
