@@ -6,7 +6,9 @@
 # What the forms rest on: a pointer in memory lies in a place of 8 bytes, of which 4 are then used, so a place that is made for a
 # pointer alone is stored to and loaded from as a pointer and nothing else, and no address is that of a pointer here and of a
 # number there; memory is otherwise made as bytes; steps of an address are counted in bytes; and no pointer becomes a number. Whether a
-# pointer is null, which a C caller may pass with the length 0, is asked in both by one question.
+# pointer is null, which a C caller may pass with the length 0, is asked in both by one question. A pair, as a function gives back a
+# slice or two numbers, has its parts at the same bytes in both: behind a pointer stands only a number of 64 bits, at byte 8, and
+# tools/build-for takes no target where such a number lies elsewhere.
 
 function refuse(what) {
     printf "the module can't be turned: %s, at its line %d: %s\n", what, NR, $0 >"/dev/stderr"
@@ -17,6 +19,7 @@ function refuse(what) {
 BEGIN {
     whole = "i(1|8|16|32|64)"
     type = "(" whole "|ptr)"
+    pair = "\\{ (ptr, i64|i(8|16|32|64), i(8|16|32|64)) \\}"
     reg = "%[A-Za-z0-9_.]+"
     value = "(" reg "|-?[0-9]+|true|false)"
     name = "@(\"[^\"]*\"|[A-Za-z0-9_.]+)"
@@ -27,7 +30,10 @@ BEGIN {
 
     form[++forms] = set "alloca (" type "|\\[[0-9]+ x i8\\])" at "$"
     form[++forms] = set "load " type ", ptr " reg at "(, !range ![0-9]+)?(, !noundef ![0-9]+)?$"
+    form[++forms] = set "load " pair ", ptr " reg at "$"
+    form[++forms] = set "extractvalue " pair " " reg ", [01]$"
     form[++forms] = "^  store " type " " value ", ptr " reg at "$"
+    form[++forms] = "^  store ptr " name ", ptr " reg at "$"
     form[++forms] = set "getelementptr( inbounds)?( nuw)? i8, ptr " reg ", i64 " value "$"
     form[++forms] = set "(add|sub|mul|shl|lshr|udiv|urem|and|or|xor)( nuw)?( nsw)?( exact)?( disjoint)? " whole " " value ", " value "$"
     form[++forms] = set "icmp (eq|ne|ult|ule|ugt|uge|slt|sle|sgt|sge) " whole " " value ", " value "$"
@@ -36,9 +42,10 @@ BEGIN {
     form[++forms] = "^  br (label " reg "|i1 " value ", label " reg ", label " reg ")$"
     form[++forms] = "^  switch " whole " " value ", label " reg " \\[$"
     form[++forms] = "^    " whole " -?[0-9]+, label " reg "$"
-    form[++forms] = "^  (\\]|unreachable|ret void|ret " type " " value ")$"
-    form[++forms] = "^  (" reg " = )?call (void|" type ") " name list "$"
-    form[++forms] = "^define (internal )?(noundef )?(zeroext )?(void|" type ") " name list " #[0-9]+ \\{$"
+    form[++forms] = "^  (\\]|unreachable|ret void|ret " type " " value "|ret " pair " " reg ")$"
+    form[++forms] = "^  (" reg " = )?call (void|" type "|" pair ") " name list "$"
+    form[++forms] = "^define (internal )?(noundef )?(zeroext )?(void|" type "|" pair ") " name list " #[0-9]+ \\{$"
+    form[++forms] = "^" name " = private unnamed_addr constant \\[[0-9]+ x i8\\] (c\"[^\"]*\"|zeroinitializer), align 1$"
     form[++forms] = "^([A-Za-z0-9_.]+:( +; preds = .*)?|\\}|;.*)?$"
     form[++forms] = "^(source_filename = \".*\"|![0-9]+ = !\\{(!\".*\"|i8 [0-9]+, i8 [0-9]+)?\\}|!llvm\\.ident = .*)$"
 }
@@ -94,7 +101,7 @@ BEGIN {
     }
     if (/^  (%[^ ]+ = load|store) / && match($0, /, ptr %[A-Za-z0-9_.]+/)) {
         address = substr($0, RSTART + 6, RLENGTH - 6)
-        what = / = load ptr,|^  store ptr / ? "a pointer" : "a number"
+        what = / = load (ptr|\{ ptr, i64 \}),|^  store ptr / ? "a pointer" : "a number"
         if (address in holds && holds[address] != what) refuse("an address of a pointer and of a number")
         holds[address] = what
     }
