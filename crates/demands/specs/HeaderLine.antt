@@ -1,6 +1,6 @@
 -- Document 02, 12/12: "Carry messages in HTTP header lines." A line is spoken of by the positions of its bytes, and the output by
 -- its length; beside their answers and outputs nothing here names a definition of export or import, but for `ExportIs` and
--- `ImportIs`. "Exported text holds secrets and stays out of every log": no crate of a line, and no program, uses `http_header`
+-- `ImportIs`. "Exported text holds secrets and stays out of every log": no crate of a line, and no program, uses `http_header_line`
 -- (crates.txt).
 use Rattle.std.specs.Prelude.{ℕ, ◌+◌, ◌-◌, ◌*◌, ◌/◌, ◌%◌, ◌≤◌, ◌<◌, ◌≡◌, cond, ◌⊎◌, List, [], ◌∷◌, ◌++◌, eqb, length, take, drop, get_or, replicate}
 use Rattle.wire.specs.Text.{ascii}
