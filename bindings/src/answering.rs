@@ -153,7 +153,7 @@ pub fn respond<'a>(
 ) -> Result<Answer<'a>, Refusal> {
     let mut numbers = [0; raw::RESPONSE_NUMBERS];
     let bits = settings.bits();
-    let answer = raw::respond(out, challenge, bits, clock, &parts.into(), &mut numbers);
+    let answer = raw::respond(out, challenge, bits, clock, parts, &mut numbers);
     Answer::of(answer, numbers, out)
 }
 
@@ -167,7 +167,7 @@ macro_rules! thin_calls {
             parts: &Parts<'_>,
         ) -> Result<Answer<'a>, Refusal> {
             let mut numbers = [0; raw::RESPONSE_NUMBERS];
-            let answer = raw::$name(out, challenge, clock, &parts.into(), &mut numbers);
+            let answer = raw::$name(out, challenge, clock, parts, &mut numbers);
             Answer::of(answer, numbers, out)
         }
     )*};
@@ -184,14 +184,7 @@ pub fn respond_for_bench<'a>(
 ) -> Result<Answer<'a>, Refusal> {
     let mut numbers = [0; raw::RESPONSE_NUMBERS];
     let demand_128 = u32::from(demand_128);
-    let answer = raw::respond_for_bench(
-        out,
-        challenge,
-        clock,
-        demand_128,
-        &parts.into(),
-        &mut numbers,
-    );
+    let answer = raw::respond_for_bench(out, challenge, clock, demand_128, parts, &mut numbers);
     Answer::of(answer, numbers, out)
 }
 

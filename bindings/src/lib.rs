@@ -53,7 +53,7 @@ pub use lines::{
 };
 pub use night::{check_messages, Entry, Mark, Verdict};
 pub use pairs::{check_pairs, count_pairs, find_pair, Pair, Walk};
-pub use raw::{SignIn, EXPLAIN_ROOM};
+pub use raw::{Parts, SignIn, EXPLAIN_ROOM};
 pub use reading::{
     nl_auth_name, read_authenticate, read_challenge, read_negotiate, read_nl_auth,
     read_server_names, read_timestamp, Authenticate, Challenge, Field, Negotiate, NlAuth,
@@ -63,7 +63,7 @@ pub use refusal::{Reason, Refusal};
 pub use signing::{check_mic, mic, place_mic, Mic, MicCheck};
 pub use writing::{
     canonical_authenticate, write_authenticate, write_negotiate, write_nl_auth_request,
-    write_nl_auth_response, Parts,
+    write_nl_auth_response,
 };
 
 /// The part of `out` that a call has written, by its answer.

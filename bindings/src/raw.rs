@@ -6,6 +6,7 @@
 //! that is lent until the call ends, a `&mut` one overlaps no other, and the
 //! library touches only what it is lent.
 
+use core::borrow::Borrow;
 use core::fmt;
 
 use crate::hidden::Hidden;
@@ -45,14 +46,15 @@ pub const INTEGRITY: u32 = 4;
 /// The setting "confidentiality wanted".
 pub const CONFIDENTIALITY: u32 = 8;
 
-/// What an AUTHENTICATE message is written from, beside its flags, all of it where the
-/// caller has it.
+/// What an AUTHENTICATE message is written from, beside its flags. `{:?}` shows lengths
+/// alone. The calls of this module also take Version and MIC lent where they stand, as
+/// `&[u8; 8]` and `&[u8; 16]`.
 #[derive(Clone, Copy)]
-pub struct Parts<'a> {
+pub struct Parts<'a, V = [u8; 8], M = [u8; 16]> {
     /// Version, written where the flags have VERSION.
-    pub version: &'a [u8; 8],
+    pub version: V,
     /// MIC
-    pub mic: &'a [u8; 16],
+    pub mic: M,
     /// LmChallengeResponse
     pub lm: &'a [u8],
     /// NtChallengeResponse
@@ -95,6 +97,46 @@ pub struct SignIn<'a> {
     pub challenge: &'a [u8],
     /// AUTHENTICATE
     pub authenticate: &'a [u8],
+}
+
+impl Default for Parts<'_> {
+    fn default() -> Self {
+        Self {
+            version: [0; 8],
+            mic: [0; 16],
+            lm: &[],
+            nt: &[],
+            domain: &[],
+            user: &[],
+            workstation: &[],
+            key: &[],
+        }
+    }
+}
+
+impl<V: Borrow<[u8; 8]>, M: Borrow<[u8; 16]>> Parts<'_, V, M> {
+    fn version(&self) -> &[u8; 8] {
+        self.version.borrow()
+    }
+
+    fn mic(&self) -> &[u8; 16] {
+        self.mic.borrow()
+    }
+}
+
+impl<V: Borrow<[u8; 8]>, M: Borrow<[u8; 16]>> fmt::Debug for Parts<'_, V, M> {
+    fn fmt(&self, f: &mut fmt::Formatter<'_>) -> fmt::Result {
+        f.debug_struct("Parts")
+            .field("version", &Hidden::of(self.version()))
+            .field("mic", &Hidden::of(self.mic()))
+            .field("lm", &Hidden::of(self.lm))
+            .field("nt", &Hidden::of(self.nt))
+            .field("domain", &Hidden::of(self.domain))
+            .field("user", &Hidden::of(self.user))
+            .field("workstation", &Hidden::of(self.workstation))
+            .field("key", &Hidden::of(self.key))
+            .finish()
+    }
 }
 
 impl fmt::Debug for SignIn<'_> {
@@ -386,14 +428,18 @@ pub fn next_pair(list: &[u8], at: usize, numbers: &mut [u64]) -> u64 {
 
 /// Writes an AUTHENTICATE message.
 #[must_use = "a refusal is told by this alone"]
-pub fn write_authenticate(out: &mut [u8], flags: u32, parts: &Parts<'_>) -> u64 {
+pub fn write_authenticate(
+    out: &mut [u8],
+    flags: u32,
+    parts: &Parts<'_, impl Borrow<[u8; 8]>, impl Borrow<[u8; 16]>>,
+) -> u64 {
     unsafe {
         c::dialtable_write_authenticate(
             out.as_mut_ptr(),
             out.len(),
             flags,
-            parts.version.as_ptr(),
-            parts.mic.as_ptr(),
+            parts.version().as_ptr(),
+            parts.mic().as_ptr(),
             parts.lm.as_ptr(),
             parts.lm.len(),
             parts.nt.as_ptr(),
@@ -522,7 +568,7 @@ pub fn respond(
     challenge: &[u8],
     settings: u32,
     clock: u64,
-    parts: &Parts<'_>,
+    parts: &Parts<'_, impl Borrow<[u8; 8]>, impl Borrow<[u8; 16]>>,
     numbers: &mut [u64],
 ) -> u64 {
     unsafe {
@@ -533,8 +579,8 @@ pub fn respond(
             challenge.len(),
             settings,
             clock,
-            parts.version.as_ptr(),
-            parts.mic.as_ptr(),
+            parts.version().as_ptr(),
+            parts.mic().as_ptr(),
             parts.lm.as_ptr(),
             parts.lm.len(),
             parts.nt.as_ptr(),
@@ -561,7 +607,7 @@ pub fn respond_for_bench(
     challenge: &[u8],
     clock: u64,
     demand_128: u32,
-    parts: &Parts<'_>,
+    parts: &Parts<'_, impl Borrow<[u8; 8]>, impl Borrow<[u8; 16]>>,
     numbers: &mut [u64],
 ) -> u64 {
     unsafe {
@@ -572,8 +618,8 @@ pub fn respond_for_bench(
             challenge.len(),
             clock,
             demand_128,
-            parts.version.as_ptr(),
-            parts.mic.as_ptr(),
+            parts.version().as_ptr(),
+            parts.mic().as_ptr(),
             parts.lm.as_ptr(),
             parts.lm.len(),
             parts.nt.as_ptr(),
@@ -599,7 +645,7 @@ pub fn respond_to_old_server(
     out: &mut [u8],
     challenge: &[u8],
     clock: u64,
-    parts: &Parts<'_>,
+    parts: &Parts<'_, impl Borrow<[u8; 8]>, impl Borrow<[u8; 16]>>,
     numbers: &mut [u64],
 ) -> u64 {
     let call = c::dialtable_respond_to_old_server;
@@ -612,7 +658,7 @@ pub fn respond_for_relay(
     out: &mut [u8],
     challenge: &[u8],
     clock: u64,
-    parts: &Parts<'_>,
+    parts: &Parts<'_, impl Borrow<[u8; 8]>, impl Borrow<[u8; 16]>>,
     numbers: &mut [u64],
 ) -> u64 {
     let call = c::dialtable_respond_for_relay;
@@ -624,7 +670,7 @@ fn thin_respond(
     out: &mut [u8],
     challenge: &[u8],
     clock: u64,
-    parts: &Parts<'_>,
+    parts: &Parts<'_, impl Borrow<[u8; 8]>, impl Borrow<[u8; 16]>>,
     numbers: &mut [u64],
 ) -> u64 {
     unsafe {
@@ -634,8 +680,8 @@ fn thin_respond(
             challenge.as_ptr(),
             challenge.len(),
             clock,
-            parts.version.as_ptr(),
-            parts.mic.as_ptr(),
+            parts.version().as_ptr(),
+            parts.mic().as_ptr(),
             parts.lm.as_ptr(),
             parts.lm.len(),
             parts.nt.as_ptr(),

@@ -1,61 +1,6 @@
 //! Writing NEGOTIATE, AUTHENTICATE and NL_AUTH.
 
-use core::fmt;
-
-use crate::hidden::Hidden;
-use crate::{raw, written, Refusal};
-
-/// What an AUTHENTICATE message is written from, beside its flags. `{:?}` shows lengths
-/// alone.
-#[derive(Clone, Copy, Default)]
-pub struct Parts<'a> {
-    /// Version, written where the flags have VERSION.
-    pub version: [u8; 8],
-    /// MIC
-    pub mic: [u8; 16],
-    /// LmChallengeResponse
-    pub lm: &'a [u8],
-    /// NtChallengeResponse
-    pub nt: &'a [u8],
-    /// DomainName
-    pub domain: &'a [u8],
-    /// UserName
-    pub user: &'a [u8],
-    /// Workstation
-    pub workstation: &'a [u8],
-    /// EncryptedRandomSessionKey
-    pub key: &'a [u8],
-}
-
-impl fmt::Debug for Parts<'_> {
-    fn fmt(&self, f: &mut fmt::Formatter<'_>) -> fmt::Result {
-        f.debug_struct("Parts")
-            .field("version", &Hidden::of(&self.version))
-            .field("mic", &Hidden::of(&self.mic))
-            .field("lm", &Hidden::of(self.lm))
-            .field("nt", &Hidden::of(self.nt))
-            .field("domain", &Hidden::of(self.domain))
-            .field("user", &Hidden::of(self.user))
-            .field("workstation", &Hidden::of(self.workstation))
-            .field("key", &Hidden::of(self.key))
-            .finish()
-    }
-}
-
-impl<'a> From<&'a Parts<'_>> for raw::Parts<'a> {
-    fn from(parts: &'a Parts<'_>) -> Self {
-        Self {
-            version: &parts.version,
-            mic: &parts.mic,
-            lm: parts.lm,
-            nt: parts.nt,
-            domain: parts.domain,
-            user: parts.user,
-            workstation: parts.workstation,
-            key: parts.key,
-        }
-    }
-}
+use crate::{raw, written, Parts, Refusal};
 
 /// Writes an AUTHENTICATE message.
 pub fn write_authenticate<'a>(
@@ -63,7 +8,7 @@ pub fn write_authenticate<'a>(
     flags: u32,
     parts: &Parts<'_>,
 ) -> Result<&'a [u8], Refusal> {
-    written(raw::write_authenticate(out, flags, &parts.into()), out)
+    written(raw::write_authenticate(out, flags, parts), out)
 }
 
 /// Writes a NEGOTIATE message. A name that isn't empty sets its bit in the flags

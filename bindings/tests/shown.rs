@@ -166,8 +166,7 @@ fn of_source(with_bytes: bool) -> Vec<String> {
                 let until = rest.find("\n}").unwrap_or(rest.len());
                 let until = rest.find(";\n").map_or(until, |tuple| tuple.min(until));
                 let holds = rest[..until].contains("[u8") || rest[..until].contains("Mic>");
-                // The macro that makes Reason says its name; raw::Entry is under Entry,
-                // raw::Parts under Parts.
+                // The macro that makes Reason says its name; raw::Entry is under Entry.
                 if holds || !with_bytes {
                     names.push(rest[..end].to_owned());
                 }
@@ -208,5 +207,5 @@ fn no_debug_is_derived_over_bytes() {
             }
         }
     }
-    assert_eq!(seen, 7);
+    assert_eq!(seen, 6);
 }

@@ -612,9 +612,9 @@ fn find_pair(list: Vec<u8>, what: &str) -> Measured {
 }
 
 /// The library's parts of an account.
-fn lent(account: &Account) -> dialtable::Parts<'_> {
+fn lent(account: &Account) -> raw::Parts<'_> {
     let parts = account.parts(FLAGS);
-    dialtable::Parts {
+    raw::Parts {
         version: parts.version,
         mic: parts.mic,
         lm: parts.lm,
@@ -636,7 +636,7 @@ fn write(account: Account) -> Measured {
         proved: repeat!(raw::write_authenticate(
             &mut out,
             FLAGS,
-            &black_box(&lent(&account)).into()
+            black_box(&lent(&account))
         )),
         second: repeat!(write_authenticate(
             black_box(&other.parts(FLAGS)),
@@ -731,7 +731,7 @@ fn respond(challenge: Vec<u8>, account: Account) -> Measured {
             black_box(&challenge),
             1,
             black_box(0),
-            &black_box(&lent(&account)).into(),
+            black_box(&lent(&account)),
             &mut numbers
         )),
         second: repeat!({

@@ -111,7 +111,7 @@ fn as_entries(numbers: &mut [u64]) -> &mut [raw::Entry] {
     unsafe { std::slice::from_raw_parts_mut(numbers.as_mut_ptr().cast(), numbers.len() / WORDS) }
 }
 
-const fn lent<'a>(parts: &Parts<'a>) -> raw::Parts<'a> {
+const fn lent<'a>(parts: &Parts<'a>) -> raw::Parts<'a, &'a [u8; 8], &'a [u8; 16]> {
     raw::Parts {
         version: parts.version,
         mic: parts.mic,
