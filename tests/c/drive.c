@@ -403,6 +403,7 @@ static void mics(unsigned bytes_room)
     uint8_t type = len < 12 || msg[8] > 2 || msg[8] == 0 ? 3 : msg[8];
     const uint8_t *three[3];
     dialtable_len lens[3], key_len = draw(8) ? 16 : draw(17);
+    uint8_t found[16];
     unsigned i, which;
 
     for (i = 0; i < 3; i++) {
@@ -412,9 +413,14 @@ static void mics(unsigned bytes_room)
     }
 #define SIGN_IN mic, key_len, three[0], lens[0], three[1], lens[1], three[2], lens[2]
     CALL(dialtable_mic(SIGN_IN, bytes, bytes_room));
+    memcpy(found, bytes, sizeof found);
     if (type == 3 && draw(8))
         CALL(dialtable_write_mic(mic, key_len, three[0], lens[0], three[1], lens[1], msg, len));
     STRUCT_CALL(dialtable_check_mic(SIGN_IN), NUMBER(dialtable_mic_is_right(answer)));
+    if (type == 3 && len >= 88) {
+        memcpy(msg + DIALTABLE_MIC_AT, found, sizeof found);
+        CALL(dialtable_check_mic(SIGN_IN));
+    }
 }
 
 /* The words of every refusal, in eights. */
