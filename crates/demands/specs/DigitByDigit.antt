@@ -1,5 +1,5 @@
 -- Request 6/12: "work out each digit of a log line from its number .. for each of 0 to 15 the digit is proved to be the
--- definition's". `hex_digit` (`crates/line_words`) makes every digit of H, T, D and an escape, and its contract gives hexDigit n for each n
+-- definition's". `hex_digit` (`crates/line_words`) makes every digit of H, T, D and an escape, and its contract gives hex_digit n for each n
 -- below 16; those of `max=` are chosen by a test, and B, and the figure in K, are letters of fixed words. Here stands which sixteen digits
 -- these are, how each comes from its number, and that each digit of H, T, D, an escape and `max=` is such a one.
 use Rattle.std.specs.Prelude.{ℕ, ◌+◌, ◌-◌, ◌/◌, ◌%◌, ◌^◌, ◌≤◌, ◌<◌, ◌≡◌, List, [], ◌∷◌, ◌++◌, length, get_or}
