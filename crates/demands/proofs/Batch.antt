@@ -31,13 +31,13 @@ use Rattle.demands.proofs.First64.{negotiate_same, authenticate_same}
 -- ---- a single call's numbers
 
 -- a reading is refused by a check of its kind, which is neither 0 nor 54
-not-0_or_54 : (k : Kind) (n : ℕ) → OneOf (printed_checks k) n → (n ≡ 0 → ⊥) × (n ≡ 54 → ⊥)
-not-0_or_54 Negotiate n h = (λ e. let x : OneOf (printed_checks Negotiate) 0 = rw e at h in omega (arith, x), λ e. let x : OneOf (printed_checks Negotiate) 54 = rw e at h in omega (arith, x))
-not-0_or_54 Challenge n h = (λ e. let x : OneOf (printed_checks Challenge) 0 = rw e at h in omega (arith, x), λ e. let x : OneOf (printed_checks Challenge) 54 = rw e at h in omega (arith, x))
-not-0_or_54 Authenticate n h = (λ e. let x : OneOf (printed_checks Authenticate) 0 = rw e at h in omega (arith, x), λ e. let x : OneOf (printed_checks Authenticate) 54 = rw e at h in omega (arith, x))
+not_0_or_54 : (k : Kind) (n : ℕ) → OneOf (printed_checks k) n → (n ≡ 0 → ⊥) × (n ≡ 54 → ⊥)
+not_0_or_54 Negotiate n h = (λ e. let x : OneOf (printed_checks Negotiate) 0 = rw e at h in omega (arith, x), λ e. let x : OneOf (printed_checks Negotiate) 54 = rw e at h in omega (arith, x))
+not_0_or_54 Challenge n h = (λ e. let x : OneOf (printed_checks Challenge) 0 = rw e at h in omega (arith, x), λ e. let x : OneOf (printed_checks Challenge) 54 = rw e at h in omega (arith, x))
+not_0_or_54 Authenticate n h = (λ e. let x : OneOf (printed_checks Authenticate) 0 = rw e at h in omega (arith, x), λ e. let x : OneOf (printed_checks Authenticate) 54 = rw e at h in omega (arith, x))
 
 refusal_number : (k : Kind) (s : List ℕ) (n i p : ℕ) → RefusedAs k s n i p → (n ≡ 0 → ⊥) × (n ≡ 54 → ⊥)
-refusal_number k s n i p r = not-0_or_54 k n (why k s n i p r).one
+refusal_number k s n i p r = not_0_or_54 k n (why k s n i p r).one
 
 -- ---- a mark
 
@@ -178,7 +178,7 @@ get_d_past (x ∷ xs) (suc i) h = get_d_past xs i (omega (arith, h))
 
 module _ (es : List Entry) (s t : List ℕ) (d : DifferInListedSecrets es s t) (x : Entry) (listed : Listed x es) (inside : Inside s x) where
   long : length (message s x) ≡ length (message t x)
-  long = simp (length-take, length-drop, d.length-same)
+  long = simp (length-take, length-drop, d.length_same)
 
   first_64 : (p : ℕ) → p < 64 → get_or (message s x) p 0 ≡ get_or (message t x) p 0
   first_64 p l = go (leb x.length p) refl where
@@ -199,12 +199,12 @@ module _ (es : List Entry) (s t : List ℕ) (d : DifferInListedSecrets es s t) (
   same_read Authenticate m = ap auth_verdict (authenticate_same (message s x) (message t x) long first_64)
   same_read Challenge m =
       ap (λ (l : List ℕ). read_as Challenge l)
-      (same_part s t d.length-same x.start x.length (λ p a b. d.open_same x listed inside p (a, b) (in_challenge m)))
+      (same_part s t d.length_same x.start x.length (λ p a b. d.open_same x listed inside p (a, b) (in_challenge m)))
 
 pub secret_batch : SecretBatch
-secret_batch es s t d = batch_same es s t d.length-same (λ e l i. same_read es s t d e l i)
+secret_batch es s t d = batch_same es s t d.length_same (λ e l i. same_read es s t d e l i)
 
 -- ---- ignored bytes
 
 pub batch_ignored : BatchIgnored
-batch_ignored es s t d = batch_same es s t d.length-same (λ e l i k m. ignored_read k _ _ (d.messages e l i k m))
+batch_ignored es s t d = batch_same es s t d.length_same (λ e l i k m. ignored_read k _ _ (d.messages e l i k m))

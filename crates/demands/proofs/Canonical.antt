@@ -357,9 +357,9 @@ canonical_secret s t d = go (read_authenticate s).reading refl where
       record {
         mic_16 = mic_16 s;
         mic_same = mic_16 s ∙ sym (mic_16 t);
-        lm_same = field_long s t a.fields.lm d.length-same;
-        nt_same = field_long s t a.fields.nt d.length-same;
-        key_same = field_long s t a.fields.key d.length-same;
+        lm_same = field_long s t a.fields.lm d.length_same;
+        nt_same = field_long s t a.fields.nt d.length_same;
+        key_same = field_long s t a.fields.key d.length_same;
       } in
       record {
         answer = λ room.

@@ -38,11 +38,11 @@ challenge_example = record { reading = refl; server_challenge_is = refl; pairs =
 
 negotiate_example : NegotiateExample
 unfolding read_negotiate negotiate_fields_at negotiate_ends negotiate_begins negotiate_checks read_head signature_holds field_at field_bytes hex_digit hex escape unit_text text_of name_text name_word flags_word max_digit max_word max_end nego_names nego_text negotiate_line kind_of ntlm_line flags_to_write negotiate_fields_to after_type negotiate_fixed negotiate_bytes negotiate_check negotiate_answer negotiate_out head_bytes version_bytes le16 le32
-negotiate_example = record { reading = refl; line = refl; length-written = refl; bytes_written = refl; no_room = refl; kept = refl }
+negotiate_example = record { reading = refl; line = refl; length_written = refl; bytes_written = refl; no_room = refl; kept = refl }
 
 authenticate_example : AuthenticateExample
 unfolding read_authenticate reading_of fields_at check_ends check_begins check_names check_shared check_fields mic_present read_head signature_holds field_at field_bytes hex_digit hex decimal_size decimal escape unit_text text_of name_text number_word name_word flags_word set_word start_text mic_word kind_word auth_names auth_lengths max_digit max_word max_end auth_end auth_text authenticate_line kind_of ntlm_line fields_to heads_bytes after_heads fixed_bytes payload_bytes authenticate_bytes check_names_to_write check_to_write write_answer write_out head_bytes version_bytes le16 le32
-authenticate_example = record { length-written = refl; bytes_written = refl; line = refl; no_room = refl; kept = refl }
+authenticate_example = record { length_written = refl; bytes_written = refl; line = refl; no_room = refl; kept = refl }
 
 answer_example : AnswerExample
 unfolding challenge_reading_of check_info fields_of challenge_fields_at challenge_ends challenge_begins challenge_names challenge_checks check_pairs pairs_of step_at pair_of left timestamp_in server_names_in domain_part field_start decision_on lm_to_send mic_to_send key_to_send sending respond_to read_authenticate reading_of fields_at check_ends check_begins check_names check_shared check_fields mic_present read_head signature_holds field_at field_bytes hex_digit hex decimal_size decimal escape unit_text text_of name_text number_word name_word flags_word set_word start_text mic_word kind_word auth_names auth_lengths max_digit max_word max_end auth_end auth_text authenticate_line kind_of ntlm_line fields_to heads_bytes after_heads fixed_bytes payload_bytes authenticate_bytes check_names_to_write check_to_write write_answer write_out head_bytes version_bytes le16 le32
@@ -61,7 +61,7 @@ answer_example =
 pair_list_example : PairListExample
 unfolding challenge_reading_of check_info fields_of challenge_fields_at challenge_ends challenge_begins challenge_names challenge_checks read_head signature_holds field_at field_bytes count_pairs check_pairs pairs_of values_of step_at pair_of left due_bits bits_due added_pairs pairs_back pairs_for pair_bytes list_bytes list_with list_for check_list list_answer list_out pairs_answer pairs_out le16 le32
 pair_list_example =
-    record { length-written = refl; bytes_written = refl; pairs = refl; no_room = refl; kept = refl; odd_name = refl; with_all = refl }
+    record { length_written = refl; bytes_written = refl; pairs = refl; no_room = refl; kept = refl; odd_name = refl; with_all = refl }
 
 nl_auth_example : NlAuthExample
 unfolding nl_head_bytes zero_terminated bytes_under oem_bytes name_bytes_under utf8_bytes split_labels labels_hold text_holds coded_holds request_bytes response_bytes check_zeros check_labels check_coded check_strings under check_under check_request request_answer request_out response_answer response_out le16 le32

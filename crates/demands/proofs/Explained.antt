@@ -33,7 +33,7 @@ use Rattle.demands.specs.Order.{rank_in}
 use Rattle.demands.specs.Message.{Format, negotiate, authenticate, challenge, Nonempty, len_of, offset_of}
 use Rattle.demands.specs.PairList.{id_of, size_of}
 use Rattle.demands.specs.TakenExactly.{RefusalIs, RefusedWith, InfoBytes}
-use Rattle.demands.specs.Explained.{Figures, State, held, failed, not-reached, printed_checks, print_of, format_of, TakenAs, RefusedAs, FailsAt, at_field, at_pair, FiguresAre, OneOf, Before, TrueStates, ExplainedExactly}
+use Rattle.demands.specs.Explained.{Figures, State, held, failed, not_reached, printed_checks, print_of, format_of, TakenAs, RefusedAs, FailsAt, at_field, at_pair, FiguresAre, OneOf, Before, TrueStates, ExplainedExactly}
 use Rattle.demands.proofs.Message.{Stands}
 use Rattle.demands.proofs.Message.Fields.{AllStand}
 use Rattle.demands.proofs.TakenExactly.{six}
@@ -149,10 +149,10 @@ module _ (k : Kind) (s : List ℕ) where
 
   state_at : (m : ℕ) → m ≡ given.number → state m ≡ failed (shown given)
   state_at m e =
-      let not-before : ltb (rank_in checks m) (rank_in checks given.number) ≡ false = rw e (le-ltb (rank_in checks given.number) (rank_in checks given.number) (omega arith)) in
-      simp (not-before, eq-eqb m given.number e)
+      let not_before : ltb (rank_in checks m) (rank_in checks given.number) ≡ false = rw e (le-ltb (rank_in checks given.number) (rank_in checks given.number) (omega arith)) in
+      simp (not_before, eq-eqb m given.number e)
 
-  state_beyond : (m : ℕ) → rank_in checks given.number < rank_in checks m → state m ≡ not-reached
+  state_beyond : (m : ℕ) → rank_in checks given.number < rank_in checks m → state m ≡ not_reached
   state_beyond m h =
       let other : m ≡ given.number → ⊥ = λ e. let z = ap (rank_in checks) e in omega (arith, z) in
       simp (le-ltb (rank_in checks m) (rank_in checks given.number) (omega arith), ne_eqb m given.number other)

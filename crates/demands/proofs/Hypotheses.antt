@@ -25,7 +25,7 @@ use Rattle.demands.proofs.PairList.{step_judged, pairs_taken, pairs_refused}
 -- a message and the same with another low byte of a field's MaxLen
 max_len_differs : (k : Format) (s : List ℕ) (i v : ℕ) → 1 ≤ i → i ≤ k.last → DifferInIgnored k s (set s (k.head i + 2) v)
 max_len_differs k s i v l r =
-    record { length-same = sym (length-set s (k.head i + 2) v); bytes_same = λ p. go p (eqb p (k.head i + 2)) refl }
+    record { length_same = sym (length-set s (k.head i + 2) v); bytes_same = λ p. go p (eqb p (k.head i + 2)) refl }
   where
     go : (p : ℕ) (b : Bool) → eqb p (k.head i + 2) ≡ b → (get_or s p 0 ≡ get_or (set s (k.head i + 2) v) p 0) ⊎ Ignored k s p
     go p true e = inr (max_len i l r (inl (eqb-true p (k.head i + 2) e)))
@@ -40,7 +40,7 @@ challenge_differs = max_len_differs challenge challenge_message 1 0xFF (omega ar
 
 reserved_differs : DifferInIgnored challenge challenge_message other_reserved
 reserved_differs =
-    record { length-same = sym (length-set challenge_message 32 0xFF); bytes_same = λ p. go p (eqb p 32) refl }
+    record { length_same = sym (length-set challenge_message 32 0xFF); bytes_same = λ p. go p (eqb p 32) refl }
   where
     go : (p : ℕ) (b : Bool) → eqb p 32 ≡ b → (get_or challenge_message p 0 ≡ get_or other_reserved p 0) ⊎ Ignored challenge challenge_message p
     go p true e = inr (unused (omega (arith, eqb-true p 32 e), omega (arith, eqb-true p 32 e)))
@@ -62,7 +62,7 @@ as_read =
 nl_differs : NlDifferInIgnored (p12 0x01) (p12 0x21)
 nl_differs =
     record {
-      length-same = refl;
+      length_same = refl;
       bytes_same = λ p h. sym (get_or-set_other (p12 0x01) 4 p 0x21 0 (λ e. ⊎_elim (λ l. omega arith) (λ l. omega arith) h));
       flags_same = inl refl;
     }

@@ -106,7 +106,7 @@ module _ (a b : List ℕ) (d : DifferInIgnored authenticate a b) where
       go : (r : Reading) → reading_of a ≡ r → mic_bytes r a ≡ mic_bytes r b
       go (Taken x) p = rw (taken_answer a x p) (at (mic_present (length a) (fields_at a (flags_at a 60))) refl) where
         at : (m : Bool) → mic_present (length a) (fields_at a (flags_at a 60)) ≡ m → cond m (take 16 (drop 72 a)) (replicate 16 0) ≡ cond m (take 16 (drop 72 b)) (replicate 16 0)
-        at true h = same_part a b d.length-same 72 16 (λ q l r. same.looked authenticate a b (seen a) d q (at_mic a q ((mic_there a).0 h) l r))
+        at true h = same_part a b d.length_same 72 16 (λ q l r. same.looked authenticate a b (seen a) d q (at_mic a q ((mic_there a).0 h) l r))
         at false h = refl
       go (Refused e) p = refl
 

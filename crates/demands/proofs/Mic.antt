@@ -203,12 +203,12 @@ unfolding computed_mic mic_of zeroed
 mic_blind key nego chal s t d =
     let at : (p : ℕ) → ((72 ≤ p) × (p < 88) → ⊥) → get_or s p 0 ≡ get_or t p 0 = λ p out. ⊎_elim (λ e. e) (λ x. absurd (out x)) (d.elsewhere p) in
     let v : check_inputs (length key) nego chal s ≡ check_inputs (length key) nego chal t =
-    verdict_same s t d.length-same (λ p l. at p (λ x. omega arith)) (length key) nego chal in
-    let a : take 72 s ≡ take 72 t = same_part s t d.length-same 0 72 (λ p l m. at p (λ x. omega arith)) in
+    verdict_same s t d.length_same (λ p l. at p (λ x. omega arith)) (length key) nego chal in
+    let a : take 72 s ≡ take 72 t = same_part s t d.length_same 0 72 (λ p l m. at p (λ x. omega arith)) in
     let all : (u : List ℕ) → take (length u) (drop 88 u) ≡ drop 88 u = λ u. take_all (length u) (drop 88 u) (simp length-drop (omega arith)) in
     let b : drop 88 s ≡ drop 88 t =
-    sym (all s) ∙ same_part s t d.length-same 88 (length s) (λ p l m. at p (λ x. omega arith))
-    ∙ ap (λ (n : ℕ). take n (drop 88 t)) d.length-same ∙ all t in
+    sym (all s) ∙ same_part s t d.length_same 88 (length s) (λ p l m. at p (λ x. omega arith))
+    ∙ ap (λ (n : ℕ). take n (drop 88 t)) d.length_same ∙ all t in
     simp (v, a, b)
 
 -- ---- refusals

@@ -55,7 +55,7 @@ no = (rw clear.1 refl, rw clear.2 refl)
 
 -- byte 72 is one of the MIC's
 differs : DifferInMic auth other_auth
-differs = record { length-same = refl; elsewhere = λ p. go p (eqb p 72) refl } where
+differs = record { length_same = refl; elsewhere = λ p. go p (eqb p 72) refl } where
   go : (p : ℕ) (b : Bool) → eqb p 72 ≡ b → (get_or auth p 0 ≡ get_or other_auth p 0) ⊎ ((72 ≤ p) × (p < 88))
   go p true e = let h = eqb-true p 72 e in inr (omega (arith, h), omega (arith, h))
   go p false e = inl (sym (get_or-set_other auth 72 p 0xB7 0 (eqb-false p 72 e)))

@@ -42,10 +42,10 @@ module _ (s t : List ℕ) (d : DifferInSecrets s t) where
   flags_same = ap (λ (x : ℕ). record { bits = x }) (same32 s t 60 (λ p a b. d.first_64 p (omega arith)))
 
   pub fields_same : (w : NegotiateFlags) → fields_at s w ≡ fields_at t w
-  fields_same w = auth_fields s t d.length-same d.first_64 w
+  fields_same w = auth_fields s t d.length_same d.first_64 w
 
   reading_same : (read_authenticate s).reading ≡ (read_authenticate t).reading
-  reading_same = authenticate_same s t d.length-same d.first_64
+  reading_same = authenticate_same s t d.length_same d.first_64
 
   -- a name of a taken message has no secret byte
   name_same : (i : ℕ) (f : Field) → Stands authenticate s i f → ((n j : ℕ) → Fails authenticate s n j → ⊥) → authenticate.Name i → SameBytes s t f
@@ -63,9 +63,9 @@ module _ (s t : List ℕ) (d : DifferInSecrets s t) where
     go true p = empty_bytes authenticate s i f w p s ∙ sym (empty_bytes authenticate s i f w p t)
     go false p =
         own_bytes_lem s f (fit (length s) p refl)
-        ∙ same_part s t d.length-same f.offset f.len
+        ∙ same_part s t d.length_same f.offset f.len
         (λ q l r. ⊎_elim (λ e. e) (λ x. absurd (plain q (w.full p) (omega (arith, w.offset p, w.len p), omega (arith, w.offset p, w.len p)) x)) (d.elsewhere q))
-        ∙ sym (own_bytes_lem t f (fit (length t) p (sym d.length-same)))
+        ∙ sym (own_bytes_lem t f (fit (length t) p (sym d.length_same)))
 
   names_same : (a : Authenticate) → (read_authenticate s).reading ≡ Taken a →
       SameBytes s t a.fields.domain × SameBytes s t a.fields.user × SameBytes s t a.fields.workstation
@@ -134,7 +134,7 @@ secret_read s t d =
 other_byte : (s : List ℕ) (at v : ℕ) → 64 ≤ at → Secret s at → DifferInSecrets s (set s at v)
 other_byte s at v l secret =
     record {
-      length-same = sym (length-set s at v);
+      length_same = sym (length-set s at v);
       first_64 = λ p m. sym (get_or-set_other s at p v 0 (λ e. omega arith));
       elsewhere = λ p. go p (eqb p at) refl;
     }

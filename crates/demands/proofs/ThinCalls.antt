@@ -33,16 +33,16 @@ pub header_defaults : HeaderDefaults
 header_defaults = refl
 
 -- the reading of a challenge has no check above 13
-not-of_pairs : (s : List ℕ) (n p at : ℕ) → 13 < n → FirstFault s n p at → ⊥
-not-of_pairs s n p at h f = omega (arith, (first_number s f).1)
+not_of_pairs : (s : List ℕ) (n p at : ℕ) → 13 < n → FirstFault s n p at → ⊥
+not_of_pairs s n p at h f = omega (arith, (first_number s f).1)
 
 not-20 : (s b : List ℕ) (i p : ℕ) → ChallengeFails s b 20 i p → ⊥
 not-20 s b i p (in_fields z f) = f.fails
-not-20 s b i p (in_list {q = q} h f z) = not-of_pairs b 20 q 0 (omega arith) f.2
+not-20 s b i p (in_list {q = q} h f z) = not_of_pairs b 20 q 0 (omega arith) f.2
 
 not-21 : (s b : List ℕ) (i p : ℕ) → ChallengeFails s b 21 i p → ⊥
 not-21 s b i p (in_fields z f) = f.fails
-not-21 s b i p (in_list {q = q} h f z) = not-of_pairs b 21 q 0 (omega arith) f.2
+not-21 s b i p (in_list {q = q} h f z) = not_of_pairs b 21 q 0 (omega arith) f.2
 
 module _ (call : ThinCall) (s b : List ℕ) where
   abbrev Weak : Type 0

@@ -117,13 +117,13 @@ module _ (es : List Entry) (s : List ℕ) where
     pub secret : Secret (message s entry) (p - entry.start)
 
   pub record DifferInListedSecrets (t : List ℕ) : Type 0 where
-    pub length-same : length s ≡ length t
+    pub length_same : length s ≡ length t
     pub only_secrets : (p : ℕ) → (get_or s p 0 ≡ get_or t p 0) ⊎ ListedSecret p
     pub open_same : (e : Entry) → Listed e es → Inside s e → (p : ℕ) → InMessage e p → Open s e p → get_or s p 0 ≡ get_or t p 0
 
   -- demand 2: two buffers of one length in which each listed message differs only in ignored bytes
   pub record DifferInListedIgnored (t : List ℕ) : Type 0 where
-    pub length-same : length s ≡ length t
+    pub length_same : length s ≡ length t
     pub messages : (e : Entry) → Listed e es → Inside s e → (k : Kind) → Marked e k → DifferInIgnored (format_of k) (message s e) (message t e)
 
 -- equal answers, of the call (of which C's number is made) and of each entry

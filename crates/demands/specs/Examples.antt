@@ -106,7 +106,7 @@ pub record NegotiateExample : Type 0 where
         fields = record { domain = record { offset = 40; len = 4; max_len = 4 }; workstation = record { offset = 44; len = 4; max_len = 4 } };
       })
   pub line : ntlm_line negotiate_message ≡ line_of "nego flags=00003207 domain=LINE work=BOX7 max=00"
-  pub length-written : negotiate_answer 50 callers_flags version (ascii "LINE") (ascii "BOX7") ≡ Length 48
+  pub length_written : negotiate_answer 50 callers_flags version (ascii "LINE") (ascii "BOX7") ≡ Length 48
   -- into an output of 50 bytes FF
   pub bytes_written : negotiate_out (replicate 50 0xFF) callers_flags version (ascii "LINE") (ascii "BOX7") ≡
       negotiate_message ++ (0xFF ∷ 0xFF ∷ [])
@@ -147,7 +147,7 @@ authenticate_message =
     heads ++ (0x01 ∷ 0x02 ∷ 0x00 ∷ 0x42 ∷ version ++ (mic ++ (line16 ++ (box16 ++ (lm ++ (nt ++ key))))))
 
 pub record AuthenticateExample : Type 0 where
-  pub length-written : write_answer 174 flags_sent version mic lm nt line16 box16 [] key ≡ Length 172
+  pub length_written : write_answer 174 flags_sent version mic lm nt line16 box16 [] key ≡ Length 172
   pub bytes_written : write_out (replicate 174 0xFF) flags_sent version mic lm nt line16 box16 [] key ≡
       authenticate_message ++ (0xFF ∷ 0xFF ∷ [])
   pub line : ntlm_line authenticate_message ≡ line_of "auth flags=42000201 set=U domain=LINE user=box7 work= lm=24 nt=28 key=16 mic=1 kind=odd max=000000"
@@ -218,7 +218,7 @@ back_with_all =
     ++ (0x0A ∷ 0x00 ∷ 0x10 ∷ 0x00 ∷ bindings ++ (0x09 ∷ 0x00 ∷ 0x00 ∷ 0x00 ∷ 0x00 ∷ 0x00 ∷ 0x00 ∷ 0x00 ∷ []))
 
 pub record PairListExample : Type 0 where
-  pub length-written : pairs_answer 78 challenge_message box16 true bindings ≡ Length 76
+  pub length_written : pairs_answer 78 challenge_message box16 true bindings ≡ Length 76
   pub bytes_written : pairs_out (replicate 78 0xFF) challenge_message box16 true bindings ≡ list_back ++ (0xFF ∷ 0xFF ∷ [])
   pub pairs : count_pairs list_back ≡ Pairs 6
   pub no_room : pairs_answer 75 challenge_message box16 true bindings ≡ Refused NoRoom

@@ -38,7 +38,7 @@ pub record Figures : Type 0 where
 pub data State : Type 0 where
   held : State
   failed : Figures → State
-  not-reached : State
+  not_reached : State
 
 -- a label and D
 abbrev pub word : List ℕ → ℕ → List ℕ
@@ -53,7 +53,7 @@ pair_text n f =
 -- `check D held`, `check D not reached`, `check D failed field=D offset=D length=D message=D`, for 10 to 13 ` at=D id=D size=D`
 abbrev pub line_text : ℕ → State → List ℕ
 line_text n held = word (ascii "check ") n ++ (ascii " held" ++ (0x0A ∷ []))
-line_text n not-reached = word (ascii "check ") n ++ (ascii " not reached" ++ (0x0A ∷ []))
+line_text n not_reached = word (ascii "check ") n ++ (ascii " not reached" ++ (0x0A ∷ []))
 line_text n (failed f) =
     word (ascii "check ") n ++ (
     word (ascii " failed field=") f.field ++ (
@@ -142,7 +142,7 @@ pub record TrueStates (k : Kind) (s : List ℕ) (state : ℕ → State) : Type 0
   pub before : (n i p : ℕ) → RefusedAs k s n i p → (m : ℕ) → Before (printed_checks k) m n → state m ≡ held
   pub holds : (m : ℕ) → OneOf (printed_checks k) m → state m ≡ held → HoldsUpTo k s m
   -- each after it is not reached
-  pub after : (n i p : ℕ) → RefusedAs k s n i p → (m : ℕ) → Before (printed_checks k) n m → state m ≡ not-reached
+  pub after : (n i p : ℕ) → RefusedAs k s n i p → (m : ℕ) → Before (printed_checks k) n m → state m ≡ not_reached
 
 -- the print is one line for each check of the kind, in its order, with a state that is true of it
 abbrev pub ExplainedExactly : Type 0

@@ -83,7 +83,7 @@ NegotiateIgnored = (s t : List ℕ) → DifferInIgnored negotiate s t → SameNe
 -- NL_AUTH: two messages of one length that are alike but for the flags, where these have the same bits A to E or are a
 -- response's
 pub record NlDifferInIgnored (s t : List ℕ) : Type 0 where
-  pub length-same : length s ≡ length t
+  pub length_same : length s ≡ length t
   pub bytes_same : (p : ℕ) → (p < 4) ⊎ (8 ≤ p) → get_or s p 0 ≡ get_or t p 0
   pub flags_same : (u32_at s 4 % 32 ≡ u32_at t 4 % 32) ⊎ (type_of s ≡ 1)
 

@@ -138,7 +138,7 @@ pub data Ignored (k : Format) (s : List ℕ) (p : ℕ) : Type 0 where
 
 -- two messages of one length that differ only in ignored bytes, MaxLen among them
 pub record DifferInIgnored (k : Format) (s t : List ℕ) : Type 0 where
-  pub length-same : length s ≡ length t
+  pub length_same : length s ≡ length t
   pub bytes_same : (p : ℕ) → (get_or s p 0 ≡ get_or t p 0) ⊎ Ignored k s p
 
 -- and of these, two that have the same MaxLen at each field that counts

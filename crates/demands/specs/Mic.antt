@@ -97,7 +97,7 @@ MicAgree = (key nego chal auth : List ℕ) → Agree key nego chal auth
 -- ---- the MIC's own bytes change nothing in what is worked out
 
 pub record DifferInMic (s t : List ℕ) : Type 0 where
-  pub length-same : length s ≡ length t
+  pub length_same : length s ≡ length t
   pub elsewhere : (p : ℕ) → (get_or s p 0 ≡ get_or t p 0) ⊎ ((72 ≤ p) × (p < 88))
 
 abbrev pub MicBlind : Type 0

@@ -31,7 +31,7 @@ pub data Secret (s : List ℕ) (p : ℕ) : Type 0 where
 
 -- two messages of one length, alike in their first 64 bytes and at every other place that is not secret
 pub record DifferInSecrets (s t : List ℕ) : Type 0 where
-  pub length-same : length s ≡ length t
+  pub length_same : length s ≡ length t
   pub first_64 : (p : ℕ) → p < 64 → get_or s p 0 ≡ get_or t p 0
   pub elsewhere : (p : ℕ) → (get_or s p 0 ≡ get_or t p 0) ⊎ Secret s p
 
@@ -88,7 +88,7 @@ pub record SecretExample : Type 0 where
 -- but with any other LM response, NT response, key and MIC bytes, each as long as before. Both times it gets the same answer
 -- or the same refusal. Where messages are written, the two are of one length and alike outside those four places."
 pub record AlikeOutside (s t : List ℕ) : Type 0 where
-  pub length-same : length s ≡ length t
+  pub length_same : length s ≡ length t
   pub outside : (p : ℕ) → (get_or s p 0 ≡ get_or t p 0) ⊎ Secret s p
 
 -- what the two callings have of their own, each as long as before; Version and MIC are of 8 and 16 bytes, as the call takes them

@@ -65,8 +65,8 @@ module _ (f : Figures) (reached : Bool) (n : ℕ) where
     pub held_leaves : reached ≡ true → (n ≡ f.number → ⊥) → m ≡ room - length (plain_words n (ascii " held")) → m ≡ room - length (words_of reached f n)
     held_leaves h e g = rw (words_held h e) g
 
-    pub not-reached_leaves : reached ≡ false → m ≡ room - length (plain_words n (ascii " not reached")) → m ≡ room - length (words_of reached f n)
-    not-reached_leaves h g = rw (words_not_reached h) g
+    pub not_reached_leaves : reached ≡ false → m ≡ room - length (plain_words n (ascii " not reached")) → m ≡ room - length (words_of reached f n)
+    not_reached_leaves h g = rw (words_not_reached h) g
 
   module _ (at m : ℕ) where
     pub failed_room : reached ≡ true → n ≡ f.number → Room at (words_of reached f n) m → Room at (failed_words f) m
@@ -75,8 +75,8 @@ module _ (f : Figures) (reached : Bool) (n : ℕ) where
     pub held_room : reached ≡ true → (n ≡ f.number → ⊥) → Room at (words_of reached f n) m → Room at (plain_words n (ascii " held")) m
     held_room h e r = rw (words_held h e) at r
 
-    pub not-reached_room : reached ≡ false → Room at (words_of reached f n) m → Room at (plain_words n (ascii " not reached")) m
-    not-reached_room h r = rw (words_not_reached h) at r
+    pub not_reached_room : reached ≡ false → Room at (words_of reached f n) m → Room at (plain_words n (ascii " not reached")) m
+    not_reached_room h r = rw (words_not_reached h) at r
 
   module _ (l k : List ℕ) (i q : ℕ) where
     pub wrote_failed : reached ≡ true → n ≡ f.number → Wrote l k i q (failed_words f) → Wrote l k i q (words_of reached f n)
@@ -88,9 +88,9 @@ module _ (f : Figures) (reached : Bool) (n : ℕ) where
     pub wrote_not_reached : reached ≡ false → Wrote l k i q (plain_words n (ascii " not reached")) → Wrote l k i q (words_of reached f n)
     wrote_not_reached h w = rw (words_not_reached h) w
 
-pub ruleset word_leaves = (failed_leaves, held_leaves, not-reached_leaves)
+pub ruleset word_leaves = (failed_leaves, held_leaves, not_reached_leaves)
 
-pub ruleset word_rooms = (failed_room, held_room, not-reached_room)
+pub ruleset word_rooms = (failed_room, held_room, not_reached_room)
 
 pub ruleset word_wrote = (wrote_failed, wrote_held, wrote_not_reached)
 

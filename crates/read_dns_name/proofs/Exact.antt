@@ -18,7 +18,7 @@ use Rattle.read_dns_name.specs.declared.Reading.TheVariants.{Taken, Refused as N
 use Rattle.read_dns_name.specs.declared.Step.{Step}
 use Rattle.read_dns_name.specs.declared.Step.TheVariants.{Label, Jump, End, Refused}
 use Rattle.read_dns_name.specs.DnsName.{left, label_of, jump_to, jump_at, step_at, begin, past_label, jumped, ended, on_step, name_from, labels_from, max_steps, read_name, labels_at, number_of}
-use Rattle.read_dns_name.specs.Rfc1035.{NameEndAt, LabelAt, JumpAt, NameFrom, end, label, jump, coded_length, NameAt, NameFaultAt, no_byte, label_cut, jump_cut, top_bits, not-before, seventeenth, too_long, FaultFrom, here, past_label_step, past_jump, FirstNameFault}
+use Rattle.read_dns_name.specs.Rfc1035.{NameEndAt, LabelAt, JumpAt, NameFrom, end, label, jump, coded_length, NameAt, NameFaultAt, no_byte, label_cut, jump_cut, top_bits, not_before, seventeenth, too_long, FaultFrom, here, past_label_step, past_jump, FirstNameFault}
 use Rattle.read_dns_name.proofs.Judged.{JudgedS, step_judged}
 use Rattle.read_dns_name.proofs.Walks.{room, steps_do}
 
@@ -163,7 +163,7 @@ module _ (s : List ℕ) (c : Cursor) where
   fault_step n (top_bits p there low high) =
       let b : ℕ = get_or s c.at 0 in
       (WrongTopBits, simp (le-leb 1 (length s - c.at) (omega arith), ne_eqb b 0 (λ z. omega arith), le-ltb b 64 low, lt-ltb b 192 high), sym p)
-  fault_step n (not-before {to = to} p w h) = (PlaceNotBefore, jump_is to w ∙ simp (le-ltb to c.run h), sym p)
+  fault_step n (not_before {to = to} p w h) = (PlaceNotBefore, jump_is to w ∙ simp (le-ltb to c.run h), sym p)
   fault_step n (seventeenth {to = to} p w b h) =
       (TooManyJumps, jump_is to w ∙ simp (lt-ltb to c.run b, le-ltb c.jumps 16 (omega arith)), sym p)
   fault_step n (too_long {n = b} p w h) = (

@@ -11,7 +11,7 @@ use Rattle.read_dns_name.specs.declared.Cursor.{Cursor}
 use Rattle.read_dns_name.specs.declared.Step.{Step}
 use Rattle.read_dns_name.specs.declared.Step.TheVariants.{Label, Jump, End, Refused}
 use Rattle.read_dns_name.specs.DnsName.{left, label_of, jump_to, jump_place, jump_at, step_at, number_of}
-use Rattle.read_dns_name.specs.Rfc1035.{NameEndAt, LabelAt, JumpAt, NameFaultAt, no_byte, label_cut, jump_cut, top_bits, not-before, seventeenth, too_long}
+use Rattle.read_dns_name.specs.Rfc1035.{NameEndAt, LabelAt, JumpAt, NameFaultAt, no_byte, label_cut, jump_cut, top_bits, not_before, seventeenth, too_long}
 
 abbrev pub Fault-here : List ℕ → Cursor → ℕ → Type 0
 Fault-here s c n = NameFaultAt s c.at c.run c.jumps c.coded n
@@ -55,7 +55,7 @@ module _ (s : List ℕ) (c : Cursor) where
       (λ h. let l = leb-true 2 (length s - c.at) h in
       let w : JumpAt s c.at to = record { whole = omega arith; top = top; place = refl } in
       checking P _ _ _
-      (λ f. not-before refl w (ltb-false to c.run f))
+      (λ f. not_before refl w (ltb-false to c.run f))
       (λ g. let b = ltb-true to c.run g in
       checking P _ _ _
       (λ f. seventeenth refl w b (let m = ltb-false c.jumps 16 f in omega arith))

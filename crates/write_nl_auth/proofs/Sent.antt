@@ -68,17 +68,17 @@ module _ (s : List ℕ) (d : Bool) (h : d ≡ true) where
   unfolding name_bytes_under
   set-name = rw h
 
-  pub set-name_room : (l : List ℕ) (at : ℕ) → at + length (name_bytes_under d s) ≤ length l → 0 + length (name_bytes s) ≤ length (take (length l - at) (drop at l))
-  set-name_room l at r = simp (length-take, length-drop) (omega (arith, ap length set-name))
+  pub set_name_room : (l : List ℕ) (at : ℕ) → at + length (name_bytes_under d s) ≤ length l → 0 + length (name_bytes s) ≤ length (take (length l - at) (drop at l))
+  set_name_room l at r = simp (length-take, length-drop) (omega (arith, ap length set-name))
 
-  pub set-name_fits : (l k z : List ℕ) (at r : ℕ) → at + length (name_bytes_under d s) ≤ length l → length l < 2 ^ 64 → Wrote k z 0 r (name_bytes s) → Fits w64 (at + r)
-  set-name_fits l k z at r f g w = record { fits = omega (arith, w.place, ap length set-name) }
+  pub set_name_fits : (l k z : List ℕ) (at r : ℕ) → at + length (name_bytes_under d s) ≤ length l → length l < 2 ^ 64 → Wrote k z 0 r (name_bytes s) → Fits w64 (at + r)
+  set_name_fits l k z at r f g w = record { fits = omega (arith, w.place, ap length set-name) }
 
-  pub set-name_wrote : (l k : List ℕ) (i p : ℕ) → Wrote l k i p (name_bytes s) → Wrote l k i p (name_bytes_under d s)
-  set-name_wrote l k i p w = rw set-name w
+  pub set_name_wrote : (l k : List ℕ) (i p : ℕ) → Wrote l k i p (name_bytes s) → Wrote l k i p (name_bytes_under d s)
+  set_name_wrote l k i p w = rw set-name w
 
-  pub set-name_size : (n m r : ℕ) → m ≡ min 65536 (length (name_bytes s)) → r ≡ min 65536 (n + m) → r ≡ min 65536 (n + length (name_bytes_under d s))
-  set-name_size n m r e f = omega (arith, ap length set-name)
+  pub set_name_size : (n m r : ℕ) → m ≡ min 65536 (length (name_bytes s)) → r ≡ min 65536 (n + m) → r ≡ min 65536 (n + length (name_bytes_under d s))
+  set_name_size n m r e f = omega (arith, ap length set-name)
 
   pub set-held : text_holds (under d s) ≡ Held → text_holds s ≡ Held
   unfolding under

@@ -74,7 +74,7 @@ in_ignored e (inl h) k m = rw h (first k (sym (ap (λ (y : Entry). y.mark) h) �
   first Negotiate m = absurd (omega (arith, m))
   first Challenge m = hypotheses_met.challenge_ignored.0
   first Authenticate m = absurd (omega (arith, m))
-in_ignored e (inr (inl h)) k m = rw h (record { length-same = refl; bytes_same = λ p. inl refl })
+in_ignored e (inr (inl h)) k m = rw h (record { length_same = refl; bytes_same = λ p. inl refl })
 in_ignored e (inr (inr h)) k m = absurd h
 
 pub batch_example : BatchExample
@@ -83,13 +83,13 @@ batch_example =
     record {
       differ = (
         record {
-          length-same = refl;
+          length_same = refl;
           only_secrets = λ p. secret p (eqb p 196) refl;
           open_same = λ e l i p w o. opened p (eqb p 196) refl e l w o;
         },
         λ e. two (ap (λ (l : List ℕ). get_or l 196 0) e),
       );
-      ignored = (record { length-same = refl; messages = λ e l i k m. in_ignored e l k m }, λ e. six (ap (λ (l : List ℕ). get_or l 14 0) e));
+      ignored = (record { length_same = refl; messages = λ e l i k m. in_ignored e l k m }, λ e. six (ap (λ (l : List ℕ). get_or l 14 0) e));
       answers = refl;
       in_message = refl;
     }

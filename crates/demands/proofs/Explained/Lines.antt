@@ -11,7 +11,7 @@ use Rattle.line_words.specs.Words.{number_word, line_end}
 use Rattle.line_checks.specs.declared.Figures.{Figures as Given}
 use Rattle.line_checks.specs.Checks.{plain_words, pair_figures, pair_words, message_words, figure_words, failed_words, words_of, check_line, lines_from}
 use Rattle.demands.specs.Order.{rank_in}
-use Rattle.demands.specs.Explained.{Figures, State, held, failed, not-reached, line_text, print_of}
+use Rattle.demands.specs.Explained.{Figures, State, held, failed, not_reached, line_text, print_of}
 use Rattle.demands.proofs.Bools.{true_not_false}
 
 abbrev pub shown : Given → Figures
@@ -22,7 +22,7 @@ shown g =
 abbrev pub state_by : Bool → Bool → Figures → State
 state_by true same f = held
 state_by false true f = failed f
-state_by false false f = not-reached
+state_by false false f = not_reached
 
 abbrev pub state_of : Given → List ℕ → ℕ → State
 state_of g checks n = state_by (ltb (rank_in checks n) (rank_in checks g.number)) (eqb n g.number) (shown g)
@@ -33,7 +33,7 @@ line_held : (g : Given) (n : ℕ) → eqb n g.number ≡ false → check_line tr
 unfolding check_line words_of plain_words number_word
 line_held g n h = simp (h, append_assoc)
 
-line_not_reached : (g : Given) (n : ℕ) → check_line false g n ≡ line_text n not-reached
+line_not_reached : (g : Given) (n : ℕ) → check_line false g n ≡ line_text n not_reached
 unfolding check_line words_of plain_words number_word
 line_not_reached g n = simp append_assoc
 
@@ -79,7 +79,7 @@ every : (P Q : ℕ → Type 0) (cs : List ℕ) → ((x : ℕ) → P x → Q x) �
 every P Q [] f h = tt
 every P Q (c ∷ cs) f h = (f c h.0, every P Q cs f h.1)
 
-none_reached : (g : Given) (cs : List ℕ) → lines_from false g cs ≡ print_of (λ n. not-reached) cs
+none_reached : (g : Given) (cs : List ℕ) → lines_from false g cs ≡ print_of (λ n. not_reached) cs
 none_reached g [] = refl
 none_reached g (c ∷ cs) = rw (line_not_reached g c, none_reached g cs)
 
@@ -90,11 +90,11 @@ place_there : (c : ℕ) (cs : List ℕ) (x : ℕ) → (x ≡ c → ⊥) → rank
 place_there c cs x h = simp (ne_eqb x c h)
 
 -- after the check that failed
-state_after : (g : Given) (c : ℕ) (cs : List ℕ) (x : ℕ) → c ≡ g.number → (x ≡ c → ⊥) → not-reached ≡ state_of g (c ∷ cs) x
+state_after : (g : Given) (c : ℕ) (cs : List ℕ) (x : ℕ) → c ≡ g.number → (x ≡ c → ⊥) → not_reached ≡ state_of g (c ∷ cs) x
 state_after g c cs x e h =
-    let not-before : ltb (rank_in (c ∷ cs) x) (rank_in (c ∷ cs) g.number) ≡ false =
+    let not_before : ltb (rank_in (c ∷ cs) x) (rank_in (c ∷ cs) g.number) ≡ false =
     rw (← e) (le-ltb (rank_in (c ∷ cs) x) (rank_in (c ∷ cs) c) (omega (arith, place_here c cs))) in
-    simp (not-before, ne_eqb x g.number (λ q. h (q ∙ sym e)))
+    simp (not_before, ne_eqb x g.number (λ q. h (q ∙ sym e)))
 
 -- before it, and at it
 state_held : (g : Given) (c : ℕ) (cs : List ℕ) → (g.number ≡ c → ⊥) → held ≡ state_of g (c ∷ cs) c
@@ -102,9 +102,9 @@ state_held g c cs h = simp (lt-ltb (rank_in (c ∷ cs) c) (rank_in (c ∷ cs) g.
 
 state_failed : (g : Given) (c : ℕ) (cs : List ℕ) → c ≡ g.number → failed (shown g) ≡ state_of g (c ∷ cs) c
 state_failed g c cs e =
-    let not-before : ltb (rank_in (c ∷ cs) c) (rank_in (c ∷ cs) g.number) ≡ false =
+    let not_before : ltb (rank_in (c ∷ cs) c) (rank_in (c ∷ cs) g.number) ≡ false =
     rw (← e) (le-ltb (rank_in (c ∷ cs) c) (rank_in (c ∷ cs) c) (omega arith)) in
-    simp (not-before, eq-eqb c g.number e)
+    simp (not_before, eq-eqb c g.number e)
 
 -- a check before both changes nothing
 state_on : (g : Given) (c : ℕ) (cs : List ℕ) (x : ℕ) → (g.number ≡ c → ⊥) → (x ≡ c → ⊥) → state_of g cs x ≡ state_of g (c ∷ cs) x
@@ -122,8 +122,8 @@ lines_are g (c ∷ cs) h = go (member c cs) (eqb c g.number) refl refl h (λ r. 
   go true t p q r later = absurd (true_not_false (sym r))
   go false true p q r later =
       let e = eqb-true c g.number q in
-      let rest = every (λ x. x ≡ c → ⊥) (λ x. not-reached ≡ state_of g (c ∷ cs) x) cs (λ x n. state_after g c cs x e n) (others c cs p) in
-      simp (line_failed g c e, none_reached g cs, print_same (λ n. not-reached) (state_of g (c ∷ cs)) cs rest)
+      let rest = every (λ x. x ≡ c → ⊥) (λ x. not_reached ≡ state_of g (c ∷ cs) x) cs (λ x n. state_after g c cs x e n) (others c cs p) in
+      simp (line_failed g c e, none_reached g cs, print_same (λ n. not_reached) (state_of g (c ∷ cs)) cs rest)
       (ap (λ (x : State). line_text c x ++ print_of (state_of g (c ∷ cs)) cs) (state_failed g c cs e))
   go false false p q r later =
       let e : g.number ≡ c → ⊥ = λ x. eqb-false c g.number q (sym x) in

@@ -159,7 +159,7 @@ print_same k s t l v f h =
 
 secret_print : (s t : List ℕ) → DifferInSecrets s t → explained_as Authenticate s ≡ explained_as Authenticate t
 secret_print s t d =
-    print_same Authenticate s t d.length-same (ap auth_verdict (secret_read s t d).reading)
+    print_same Authenticate s t d.length_same (ap auth_verdict (secret_read s t d).reading)
     (ap (λ (f : AuthFields). heads_without_max_len (A.all_fields f)) (secret_fields s t d (flags_at s 60) ∙ ap (λ (w : NegotiateFlags). A.fields_at t w) (secret_flags s t d)))
     (λ e h p. absurd (no_pair Authenticate s not-authenticate e h p))
 
@@ -197,19 +197,19 @@ ignored_read Authenticate s t d =
 
 negotiate_print : (s t : List ℕ) → DifferInIgnored negotiate s t → explained_as Negotiate s ≡ explained_as Negotiate t
 negotiate_print s t d =
-    print_same Negotiate s t d.length-same (ignored_read Negotiate s t d)
+    print_same Negotiate s t d.length_same (ignored_read Negotiate s t d)
     (ap N.all_fields (nego_fields s t d false bare_only ∙ ap (λ (w : NegotiateFlags). kept_negotiate_fields false (N.fields_at t w)) (flags_same negotiate s t (negotiate_seen s) d)))
     (λ e h p. absurd (no_pair Negotiate s not-negotiate e h p))
 
 authenticate_print : (s t : List ℕ) → DifferInIgnored authenticate s t → explained_as Authenticate s ≡ explained_as Authenticate t
 authenticate_print s t d =
-    print_same Authenticate s t d.length-same (ignored_read Authenticate s t d)
+    print_same Authenticate s t d.length_same (ignored_read Authenticate s t d)
     (ap A.all_fields (auth_fields s t d false bare_only ∙ ap (λ (w : NegotiateFlags). kept_fields false (A.fields_at t w)) (flags_same authenticate s t (authenticate_seen s) d)))
     (λ e h p. absurd (no_pair Authenticate s not-authenticate e h p))
 
 challenge_print : (s t : List ℕ) → DifferInIgnored challenge s t → explained_as Challenge s ≡ explained_as Challenge t
 challenge_print s t d =
-    print_same Challenge s t d.length-same (ignored_read Challenge s t d)
+    print_same Challenge s t d.length_same (ignored_read Challenge s t d)
     (ap C.all_fields (chal_fields s t d false bare_only ∙ ap (λ (w : NegotiateFlags). kept_challenge_fields false (C.fields_at t w)) (flags_same challenge s t (challenge_seen s) d)))
     (pair_same s t d)
 

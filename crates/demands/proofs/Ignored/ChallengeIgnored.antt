@@ -160,7 +160,7 @@ module _ (a b : List ℕ) (d : DifferInIgnored challenge a b) where
       ∙ ap (λ (r : Reading). server_challenge r b) bare_same ∙ sym (by (reading_of b))
     where
       go : (r : Reading) → server_challenge r a ≡ server_challenge r b
-      go (Taken c) = same_part a b d.length-same 24 8 (λ p l r. same.looked challenge a b (seen a) d p (at_server a p l r))
+      go (Taken c) = same_part a b d.length_same 24 8 (λ p l r. same.looked challenge a b (seen a) d p (at_server a p l r))
       go (Refused e) = refl
 
       by : (r : Reading) → server_challenge r b ≡ server_challenge (kept_challenge false r) b

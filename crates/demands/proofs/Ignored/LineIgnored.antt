@@ -249,7 +249,7 @@ negotiate_line_ignored s t d = (
 -- the type, by which the NTLM program chooses, is no ignored byte of any kind
 pub kind_same : (k : Format) (s t : List ℕ) → Seen k s → DifferInIgnored k s t → kind_of s ≡ kind_of t
 unfolding kind_of
-kind_same k s t seen d = simp (d.length-same, same32 s t 8 (λ p l r. looked k s t seen d p (seen.early p (omega arith))))
+kind_same k s t seen d = simp (d.length_same, same32 s t 8 (λ p l r. looked k s t seen d p (seen.early p (omega arith))))
 
 pub max_word_said : MaxWordSaid
 unfolding authenticate_line negotiate_line challenge_line

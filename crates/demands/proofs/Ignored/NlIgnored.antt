@@ -36,7 +36,7 @@ use Rattle.demands.proofs.NlAuth.{nl_auth_own}
 module _ (s t : List ℕ) (d : NlDifferInIgnored s t) where
   buffer_same : (at : ℕ) → 8 ≤ at → drop at s ≡ drop at t
   buffer_same at l =
-      ext_get_or 0 (drop at s) (drop at t) (simp (length-drop, d.length-same))
+      ext_get_or 0 (drop at s) (drop at t) (simp (length-drop, d.length_same))
       (λ k m. simp get_or-drop (d.bytes_same (at + k) (inr (omega arith))))
 
   type_same : type_of s ≡ type_of t
@@ -84,7 +84,7 @@ module _ (s t : List ℕ) (d : NlDifferInIgnored s t) where
   utf8_same w a b at l =
       name_same (dns_domain w) at 3 _ _ l (λ c c' m.
       name_same (dns_host w) c' 4 _ _ m (λ e e' n.
-      name_same (utf8_computer w) e' 5 _ _ n (λ f f' o. simp d.length-same)))
+      name_same (utf8_computer w) e' 5 _ _ n (λ f f' o. simp d.length_same)))
 
   request_same : (w : NlAuthFlags) → read_request w s ≡ read_request w t
   unfolding read_request
@@ -94,12 +94,12 @@ module _ (s t : List ℕ) (d : NlDifferInIgnored s t) where
 
   response_same : read_response s ≡ read_response t
   unfolding read_response
-  response_same = simp (d.length-same, d.bytes_same 8 (inr (omega arith)))
+  response_same = simp (d.length_same, d.bytes_same 8 (inr (omega arith)))
 
   answer_same : read_nl_auth s ≡ read_nl_auth t
   unfolding read_nl_auth
   answer_same =
-      ap (λ (n : ℕ). frame n (type_of s) (read_request (flags_at s) s) (read_response s)) d.length-same
+      ap (λ (n : ℕ). frame n (type_of s) (read_request (flags_at s) s) (read_response s)) d.length_same
       ∙ ap (λ (n : ℕ). frame (length t) n (read_request (flags_at s) s) (read_response s)) type_same
       ∙ ap (λ (r : Reading). frame (length t) (type_of t) (read_request (flags_at s) s) r) response_same
       ∙ ap (λ (r : Reading). frame (length t) (type_of t) r (read_response t)) (request_same (flags_at s))
@@ -132,8 +132,8 @@ module _ (s t : List ℕ) (d : NlDifferInIgnored s t) where
   part_same f l r =
       record {
         bytes = own_bytes_lem s f r
-            ∙ same_part s t d.length-same f.offset f.len (λ p a b. d.bytes_same p (inr (omega arith)))
-            ∙ sym (own_bytes_lem t f (omega (arith, d.length-same)));
+            ∙ same_part s t d.length_same f.offset f.len (λ p a b. d.bytes_same p (inr (omega arith)))
+            ∙ sym (own_bytes_lem t f (omega (arith, d.length_same)));
         labels = labels_same f;
       }
 

@@ -50,7 +50,7 @@ unfolding domain_part field_start part_of kept
 domain_ignored own s t d =
     ap (λ (x : Part). cond (eqb (length own) 0) x (own_part own))
     (made_same s t d (λ e. own_part own) (part_of own (length s)) (λ c l. refl)
-    ∙ ap (λ (n : ℕ). on_taken (λ e. own_part own) (reading_of t) (λ c. part_of own n c (info_of t c))) d.length-same)
+    ∙ ap (λ (n : ℕ). on_taken (λ e. own_part own) (reading_of t) (λ c. part_of own n c (info_of t c))) d.length_same)
 
 pub respond_ignored : RespondIgnored
 unfolding respond_to

@@ -71,7 +71,7 @@ module _ (k : Format) (a b : List ℕ) (seen : Seen k a) (d : DifferInIgnored k 
   pub head_same : read_head (layout_of k) a ≡ read_head (layout_of k) b
   unfolding read_head signature_holds
   head_same =
-      simp (d.length-same, byte 0 (omega arith), byte 1 (omega arith), byte 2 (omega arith), byte 3 (omega arith), byte 4 (omega arith), byte 5 (omega arith), byte 6 (omega arith), byte 7 (omega arith), byte 8 (omega arith), byte 9 (omega arith), byte 10 (omega arith), byte 11 (omega arith), at k.flags (omega arith) (omega arith), at (k.flags + 1) (omega arith) (omega arith), at (k.flags + 2) (omega arith) (omega arith), at (k.flags + 2 + 1) (omega arith) (omega arith))
+      simp (d.length_same, byte 0 (omega arith), byte 1 (omega arith), byte 2 (omega arith), byte 3 (omega arith), byte 4 (omega arith), byte 5 (omega arith), byte 6 (omega arith), byte 7 (omega arith), byte 8 (omega arith), byte 9 (omega arith), byte 10 (omega arith), byte 11 (omega arith), at k.flags (omega arith) (omega arith), at (k.flags + 1) (omega arith) (omega arith), at (k.flags + 2) (omega arith) (omega arith), at (k.flags + 2 + 1) (omega arith) (omega arith))
     where
       byte : (p : ℕ) → p < 12 → get_or a p 0 ≡ get_or b p 0
       byte p l = looked p (seen.early p l)
@@ -92,7 +92,7 @@ module _ (k : Format) (a b : List ℕ) (seen : Seen k a) (d : DifferInIgnored k 
     go (Flags w) j =
         rw j.0
         (by (flags_at a k.flags) (length a) _ ∙ ap (λ (f : Fs). rest (flags_at a k.flags) (length a) f) same
-        ∙ ap (λ (n : ℕ). rest (flags_at a k.flags) n (cut (at b (flags_at a k.flags)))) d.length-same
+        ∙ ap (λ (n : ℕ). rest (flags_at a k.flags) n (cut (at b (flags_at a k.flags)))) d.length_same
         ∙ sym (by (flags_at a k.flags) (length b) _))
     go (Stopped e) j = refl
 
@@ -113,6 +113,6 @@ module _ (k : Format) (a b : List ℕ) (seen : Seen k a) (d : DifferInIgnored k 
     go true p = empty_bytes k a i f w p a ∙ sym (empty_bytes k a i f w p b)
     go false p =
         own_bytes_lem a f (fit (length a) p refl)
-        ∙ same_part a b d.length-same f.offset f.len
+        ∙ same_part a b d.length_same f.offset f.len
         (λ q l r. looked q (seen.at_field i q (w.full p) (omega (arith, after_fixed p)) (omega (arith, w.offset p, w.len p), omega (arith, w.offset p, w.len p))))
-        ∙ sym (own_bytes_lem b f (fit (length b) p (sym d.length-same)))
+        ∙ sym (own_bytes_lem b f (fit (length b) p (sym d.length_same)))

@@ -38,7 +38,7 @@ module _ (key nego chal auth bytes : List ℕ) (clear : (computed_mic key nego c
 
   differ : DifferInMic t auth
   unfolding t
-  differ = record { length-same = length-sets auth 72 bytes; elsewhere = λ p. go p (ltb p 72) (leb 88 p) refl refl } where
+  differ = record { length_same = length-sets auth 72 bytes; elsewhere = λ p. go p (ltb p 72) (leb 88 p) refl refl } where
     go : (p : ℕ) (a b : Bool) → ltb p 72 ≡ a → leb 88 p ≡ b → (get_or (sets auth 72 bytes) p 0 ≡ get_or auth p 0) ⊎ ((72 ≤ p) × (p < 88))
     go p true b x y = inl (outside bytes auth 72 p (inl (ltb-true p 72 x)))
     go p false true x y = inl (outside bytes auth 72 p (inr (omega (arith, l, leb-true 88 p y))))

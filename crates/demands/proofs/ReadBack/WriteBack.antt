@@ -361,7 +361,7 @@ module _ (w : NegotiateFlags) (v dom usr wks mic lm nt key mic' lm' nt' key' : L
 
   alike : key_holds w key ≡ Held → AlikeOutside S T
   unfolding S
-  alike held = record { length-same = lengths_same; outside = λ p. go p (ltb p 72) (ltb p 88) (ltb p a) (ltb p b) (ltb p c) (ltb p (length S)) refl refl refl refl refl refl }
+  alike held = record { length_same = lengths_same; outside = λ p. go p (ltb p 72) (ltb p 88) (ltb p a) (ltb p b) (ltb p c) (ltb p (length S)) refl refl refl refl refl refl }
     where
       a : ℕ
       a = 88 + length named

@@ -47,7 +47,7 @@ module _ (room room' : ℕ) (rooms : room ≡ room') (w : NegotiateFlags) (v dom
     go Clear e =
         rw (← verdict_same)
         (answered_same (check_to_write room w lm nt dom usr wks key) (authenticate_bytes w v mic lm nt dom usr wks key) (authenticate_bytes w v mic' lm' nt' dom usr wks key')
-        (messages_alike w v dom usr wks mic lm nt key mic' lm' nt' key' v8 same (key_held room w lm nt dom usr wks key e)).length-same)
+        (messages_alike w v dom usr wks mic lm nt key mic' lm' nt' key' v8 same (key_held room w lm nt dom usr wks key e)).length_same)
     go (Not d) e = rw (← verdict_same, e)
 
 -- the messages that are written

@@ -14,7 +14,7 @@ use Rattle.demands.proofs.Secret.{secret_read}
 -- the type stands in the first 64 bytes
 kind_same : (s t : List ℕ) → DifferInSecrets s t → kind_of s ≡ kind_of t
 unfolding kind_of
-kind_same s t d = simp (d.length-same, same32 s t 8 (λ p l r. d.first_64 p (omega arith)))
+kind_same s t d = simp (d.length_same, same32 s t 8 (λ p l r. d.first_64 p (omega arith)))
 
 line_same : (s t : List ℕ) → DifferInSecrets s t → kind_of s ≡ Authenticate → ntlm_line s ≡ ntlm_line t
 unfolding ntlm_line
