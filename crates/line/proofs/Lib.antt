@@ -2,4 +2,3 @@ pub mod Lines
 pub mod Challenges
 pub mod Programs
 pub mod Places
-pub mod Printed

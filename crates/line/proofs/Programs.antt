@@ -6,6 +6,7 @@ use mathlib.Core.List.{List}
 use native.Mathlib.Omega.{arith}
 use lib.Dec.{leb}
 use lib.ListN.{length, take, drop, length-append, length-take}
+use lib.Seq.{take_at}
 use Rattle.wire.specs.declared.refusal.Refusal.{Refusal}
 use Rattle.wire.specs.declared.refusal.Refusal.TheVariants.{NoRoom}
 use Rattle.wire.specs.declared.check.Verdict.TheVariants.{Clear, Refused as Not}
@@ -65,6 +66,10 @@ module _ (line out : List ℕ) (r : Written) (p : r ≡ bytes_answer line out) w
 
     pub printed_part : n ≡ length (take n k)
     printed_part = simp length-take (omega (arith, printed))
+
+    pub printed_line : take n k ≡ line
+    unfolding bytes_after
+    printed_line = let w = had_room n h in ap (take n) (q ∙ simp w.0) ∙ take_at line (drop (length line) out) n (sym w.1)
 
   module _ (n : ℕ) (h : r ≡ Length n) where
     shown : line ≡ shown_line line out
