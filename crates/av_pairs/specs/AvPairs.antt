@@ -1,21 +1,14 @@
 -- TargetInfo (MS-NLMP 2.2.2.1): a list of AvPairs, each an id (2 bytes), a length (2) and a value, up to the end pair.
-use Rattle.std.specs.Prelude.{ℕ, zero, suc, ◌+◌, ◌-◌, Bool, true, false, ◌&&◌, cond, List, [], ◌∷◌, leb, eqb, length, take, drop}
+use Rattle.wire.specs.declared.refusal.Refusal.{Refusal}
+use Rattle.std.specs.Prelude.{Result, Option, Ok, Err, Some, None, ⊤, ℕ, zero, suc, ◌+◌, ◌-◌, ◌&&◌, cond, List, [], ◌∷◌, leb, eqb, length, take, drop}
 use Rattle.av_id.specs.declared.AvId.{AvId}
 use Rattle.wire.specs.declared.check.Checked.{Checked}
-use Rattle.wire.specs.declared.check.Verdict.{Verdict}
-use Rattle.wire.specs.declared.check.Verdict.TheVariants.{Clear, Refused as Not}
 use Rattle.wire.specs.declared.refusal.Refusal.TheVariants.{PairPastEnd, PairMissing, WrongEndPair, WrongPairSize}
 use Rattle.av_id.specs.AvId.{is_end, size_allowed, implies}
 use Rattle.wire.specs.Check.{checked, after, on_clear}
 use Rattle.wire.specs.Number.{u16_at}
 use Rattle.av_pairs.specs.declared.AvPair.{AvPair}
-use Rattle.av_pairs.specs.declared.Step.{Step}
-use Rattle.av_pairs.specs.declared.Step.TheVariants.{Pair, End, Refused}
 use Rattle.av_pairs.specs.declared.Asked.{Asked}
-use Rattle.av_pairs.specs.declared.Count.{Count}
-use Rattle.av_pairs.specs.declared.Count.TheVariants.{Pairs, Refused as Uncounted}
-use Rattle.av_pairs.specs.declared.Found.{Found}
-use Rattle.av_pairs.specs.declared.Found.TheVariants.{At, Nothing}
 
 -- how many bytes are left from a place on
 unfoldable pub left : List ℕ → ℕ → ℕ
@@ -39,39 +32,39 @@ value_size_holds id len = checked (size_allowed id len)
 
 -- the pair with this id and length whose head stands at a place, with so many bytes left: checks 12, 10 and 13; each refuses with
 -- that place
-unfoldable pub pair_of : AvId → ℕ → ℕ → ℕ → Step
+unfoldable pub pair_of : AvId → ℕ → ℕ → ℕ → Result (Option AvPair) Refusal
 pair_of id len at left =
-    after (end_pair_holds id len left) (Refused (WrongEndPair at)) (
-    after (value_inside len left) (Refused (PairPastEnd at)) (
-    after (value_size_holds id len) (Refused (WrongPairSize at))
-    (cond (is_end id) End (Pair (record { id = id; at = at + 4; len = len })))))
+    after (end_pair_holds id len left) (Err (WrongEndPair at)) (
+    after (value_inside len left) (Err (PairPastEnd at)) (
+    after (value_size_holds id len) (Err (WrongPairSize at))
+    (cond (is_end id) (Ok None) (Ok (Some (record { id = id; at = at + 4; len = len }))))))
 
 abbrev pub id_at : List ℕ → ℕ → AvId
 id_at s at = record { id = u16_at s at }
 
 -- what stands at a place of a list: an empty list holds no pairs, and else checks 11, 12, 10 and 13 in this order
-unfoldable pub step_at : List ℕ → ℕ → Step
+unfoldable pub step_at : List ℕ → ℕ → Result (Option AvPair) Refusal
 step_at s at =
-    cond (eqb (length s) 0) End (
-    after (pair_there (left s at)) (Refused (PairMissing at))
+    cond (eqb (length s) 0) (Ok None) (
+    after (pair_there (left s at)) (Err (PairMissing at))
     (pair_of (id_at s at) (u16_at s (at + 2)) at (left s at)))
 
 -- the place after a pair, where the next one should start
 abbrev pub end_of : AvPair → ℕ
 end_of p = p.at + p.len
 
-abbrev pub on_step : {A : Type 0} → Step → (AvPair → A) → (Verdict → A) → A
-on_step (Pair p) pair stop = pair p
-on_step End pair stop = stop Clear
-on_step (Refused e) pair stop = stop (Not e)
+abbrev pub on_step : {A : Type 0} → Result (Option AvPair) Refusal → (AvPair → A) → (Result ⊤ Refusal → A) → A
+on_step (Ok (Some p)) pair stop = pair p
+on_step (Ok None) pair stop = stop (Ok tt)
+on_step (Err e) pair stop = stop (Err e)
 
 -- asking at a place: what stands there, and the place to ask at next, which is past a pair, and else the same
 unfoldable pub ask_at : List ℕ → ℕ → Asked
 ask_at s at = record { step = step_at s at; next = on_step (step_at s at) end_of (λ v. at) }
 
 -- the pair at a place, or nothing at the end or a fault: what a loop over a list that was checked asks for
-unfoldable pub pair_at : List ℕ → ℕ → Found
-pair_at s at = on_step (step_at s at) At (λ v. Nothing)
+unfoldable pub pair_at : List ℕ → ℕ → Option AvPair
+pair_at s at = on_step (step_at s at) Some (λ v. None)
 
 -- a pair's value
 abbrev pub value_in : List ℕ → AvPair → List ℕ
@@ -83,12 +76,12 @@ pairs_from zero s at = []
 pairs_from (suc k) s at = on_step (step_at s at) (λ p. p ∷ pairs_from k s (end_of p)) (λ v. [])
 
 -- what comes after these pairs: the end, or that fault
-abbrev pub stop_from : ℕ → List ℕ → ℕ → Verdict
-stop_from zero s at = Clear
+abbrev pub stop_from : ℕ → List ℕ → ℕ → Result ⊤ Refusal
+stop_from zero s at = Ok tt
 stop_from (suc k) s at = on_step (step_at s at) (λ p. stop_from k s (end_of p)) (λ v. v)
 
 -- the same with steps for the bytes that are left
-unfoldable pub stop_at : List ℕ → ℕ → Verdict
+unfoldable pub stop_at : List ℕ → ℕ → Result ⊤ Refusal
 stop_at s at = stop_from (suc (length s - at)) s at
 
 -- a list's pairs before the end or the first fault; each takes four bytes or more, so this many steps do
@@ -107,14 +100,9 @@ unfoldable pub values_of : List ℕ → List Valued
 values_of s = with_values s (pairs_of s)
 
 -- checks 10 to 13 over the whole list: the earliest faulty pair decides
-unfoldable pub check_pairs : List ℕ → Verdict
+unfoldable pub check_pairs : List ℕ → Result ⊤ Refusal
 check_pairs s = stop_from (suc (length s)) s 0
 
 -- how many pairs the list holds, or its refusal
-unfoldable pub count_pairs : List ℕ → Count
-count_pairs s = on_clear Uncounted (check_pairs s) (Pairs (length (pairs_of s)))
-
--- whether a pair was found
-abbrev pub is_there : Found → Bool
-is_there (At p) = true
-is_there Nothing = false
+unfoldable pub count_pairs : List ℕ → Result ℕ Refusal
+count_pairs s = on_clear Err (check_pairs s) (Ok (length (pairs_of s)))

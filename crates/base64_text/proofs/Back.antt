@@ -1,11 +1,11 @@
 -- A message that was encoded decodes to itself, and a text that is in base64 is the encoding of what it decodes to.
 use Prim.Native.Nat.{ℕ, ◌+◌, ◌*◌, ◌/◌, ◌%◌, ◌<◌}
 use mathlib.Core.Path.{◌≡◌, refl, sym, ap, ap₂, ◌∙◌}
-use mathlib.Core.Logic.{◌⊎◌, inl, inr, ⊎_elim}
-use mathlib.Core.Bool.{Bool, true, false, ◌&&◌, ◌||◌}
+use mathlib.Core.Logic.{⊎_elim}
+use mathlib.Core.Bool.{true, ◌&&◌, ◌||◌}
 use mathlib.Core.List.{List, [], ◌∷◌}
 use native.Mathlib.Omega.{arith}
-use borrow.Author.Tests.{ltb-true, eqb-true}
+use Rattle.std.proofs.lemmas.Bool.{ltb-true, eqb-true, or_cases}
 use lib.Dec.{eqb, ltb}
 use lib.Pow.{are_bytes}
 use Rattle.wire.proofs.Bools.{and_left, and_right}
@@ -95,10 +95,6 @@ encoded_base64 (a ∷ b ∷ c ∷ m) h =
     )
 
 -- ---- back and there
-or_cases : (a b : Bool) → a || b ≡ true → (a ≡ true) ⊎ (b ≡ true)
-or_cases true b h = inl refl
-or_cases false b h = inr h
-
 no_more : (t : List ℕ) → is_empty_text t ≡ true → t ≡ []
 no_more [] h = refl
 no_more (x ∷ t) h = cc

@@ -1,7 +1,6 @@
-pub mod Table
 pub mod Alphabet
 pub mod Bytes
-pub mod Laws
+pub mod Groups
 pub mod Writing
 pub mod Reading
 pub mod Size

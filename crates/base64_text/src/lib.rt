@@ -1,23 +1,21 @@
 // Base64 with padding (RFC 4648, section 4).
 #![tactic(auto)]
 
-ghost use Rattle.std.specs.Prelude.{◌≡◌, true, false, cond, [], ◌∷◌, ◌+◌, ◌*◌, ◌≤◌, ◌<◌, length};
+ghost use Rattle.std.specs.Prelude.{◌≡◌, true, false, cond, ◌+◌, ◌≤◌, ◌<◌, length};
 ghost use Rattle.place.specs.Place.{Wrote};
 ghost use Rattle.base64_text.specs.Base64.{letter, three, two, one, encode, is_letter, value_of, group_holds, first_byte, second_byte, third_byte, group_bytes, is_base64, decode};
 
 use place::Place;
 
-// One of two numbers. Both are worked out before, so that the compiler needs no jump: those on a message's bytes can't be foreseen.
+// One of two numbers, without a jump: none may depend on a message's bytes (docs/TESTING.md), and such jumps can't be foreseen.
 fn choose(first: bool, x: u8, y: u8) -> u8
     ensures { result ≡ cond first x y }
 {
-    if first {
-        return x;
-    }
-    y
+    if first { x } else { y }
 }
 
 // The character of a value, worked out: no table of them is kept.
+#[tactic(auto, using(crate::proofs::Alphabet::worked_letter_is))]
 fn letter(v: u8) -> u8
     requires { v < 64 }
     ensures { result ≡ letter v }
@@ -28,20 +26,8 @@ fn letter(v: u8) -> u8
     choose(v < 26, v + b'A', small)
 }
 
-// Four bytes.
-fn put_four(p: Place, out: &mut [u8], w: u8, x: u8, y: u8, z: u8) -> Place
-    requires { p.at + 4 ≤ length out.old }
-    ensures { Wrote out.old out.new p.at result.at (w ∷ x ∷ y ∷ z ∷ []) }
-{
-    let at = p.at;
-    out[at] = w;
-    out[at + 1] = x;
-    out[at + 2] = y;
-    out[at + 3] = z;
-    Place { at: at + 4 }
-}
-
 // The characters of three bytes.
+#[tactic(auto, unfolding(crate::specs::Base64::three))]
 fn put_three(p: Place, out: &mut [u8], a: u8, b: u8, c: u8) -> Place
     requires { p.at + 4 ≤ length out.old }
     ensures { Wrote out.old out.new p.at result.at (three a b c) }
@@ -50,10 +36,11 @@ fn put_three(p: Place, out: &mut [u8], a: u8, b: u8, c: u8) -> Place
     let x = letter(a % 4 * 16 + b / 16);
     let y = letter(b % 16 * 4 + c / 64);
     let z = letter(c % 64);
-    put_four(p, out, w, x, y, z)
+    p.put_bytes(out, &[w, x, y, z])
 }
 
 // Of two bytes at the end.
+#[tactic(auto, unfolding(crate::specs::Base64::two))]
 fn put_two(p: Place, out: &mut [u8], a: u8, b: u8) -> Place
     requires { p.at + 4 ≤ length out.old }
     ensures { Wrote out.old out.new p.at result.at (two a b) }
@@ -61,17 +48,18 @@ fn put_two(p: Place, out: &mut [u8], a: u8, b: u8) -> Place
     let w = letter(a / 4);
     let x = letter(a % 4 * 16 + b / 16);
     let y = letter(b % 16 * 4);
-    put_four(p, out, w, x, y, b'=')
+    p.put_bytes(out, &[w, x, y, b'='])
 }
 
 // Of one byte at the end.
+#[tactic(auto, unfolding(crate::specs::Base64::one))]
 fn put_one(p: Place, out: &mut [u8], a: u8) -> Place
     requires { p.at + 4 ≤ length out.old }
     ensures { Wrote out.old out.new p.at result.at (one a) }
 {
     let w = letter(a / 4);
     let x = letter(a % 4 * 16);
-    put_four(p, out, w, x, b'=', b'=')
+    p.put_bytes(out, &[w, x, b'=', b'='])
 }
 
 // Writes a message as base64.
@@ -80,44 +68,41 @@ pub fn put_encoded(p: Place, out: &mut [u8], m: &[u8]) -> Place
     ensures { Wrote out.old out.new p.at result.at (encode m.now) }
 {
     let mut q = p;
-    let mut i: usize = 0;
-    while 3 <= m.len() - i {
-        q = put_three(q, out, m[i], m[i + 1], m[i + 2]);
-        i = i + 3;
+    let mut left = m;
+    while let [a, b, c, rest @ ..] = left {
+        q = put_three(q, out, *a, *b, *c);
+        left = rest;
     }
-    let left = m.len() - i;
-    if left == 2 {
-        return put_two(q, out, m[i], m[i + 1]);
+    match *left {
+        [a, b] => put_two(q, out, a, b),
+        [a] => put_one(q, out, a),
+        _ => q,
     }
-    if left == 1 {
-        return put_one(q, out, m[i]);
-    }
-    q
 }
 
-// Whether a character is of the alphabet. The slash stands right before the digits.
+// Whether a character is of the alphabet.
+#[tactic(auto, using(crate::proofs::Bytes::is_tested))]
 fn is_letter(c: u8) -> bool
     ensures { result ≡ is_letter c }
 {
-    ((b'A' <= c) & (c <= b'Z'))
-        | ((b'a' <= c) & (c <= b'z'))
-        | ((b'/' <= c) & (c <= b'9'))
-        | (c == b'+')
+    c.is_ascii_alphanumeric() | (c == b'+') | (c == b'/')
 }
 
 // Its value there, 0 for one that is not of it.
+#[tactic(auto, using(crate::proofs::Bytes::worked_is, crate::proofs::Alphabet::value_small))]
 fn value_of(c: u8) -> u8
     ensures { (result ≡ value_of c) × (result < 64) }
 {
     let low = c % 64;
     let slash = choose(c == b'/', 63, 0);
     let sign = choose(c == b'+', 62, slash);
-    let digit = choose((b'0' <= c) & (c <= b'9'), (low + 4) % 64, sign);
-    let small = choose((b'a' <= c) & (c <= b'z'), (low + 57) % 64, digit);
-    choose((b'A' <= c) & (c <= b'Z'), (low + 63) % 64, small)
+    let digit = choose(c.is_ascii_digit(), (low + 4) % 64, sign);
+    let small = choose(c.is_ascii_lowercase(), (low + 57) % 64, digit);
+    choose(c.is_ascii_uppercase(), (low + 63) % 64, small)
 }
 
 // The value of a character that is of it. Capitals stand above the digits, small letters above both, and the signs below.
+#[tactic(auto, using(crate::proofs::Alphabet::worked_few_is, crate::proofs::Alphabet::value_small))]
 fn letter_value(c: u8) -> u8
     requires { is_letter c ≡ true }
     ensures { (result ≡ value_of c) × (result < 64) }
@@ -128,6 +113,7 @@ fn letter_value(c: u8) -> u8
 }
 
 // Whether the last group stands for bytes, with the padding and the bits left over.
+#[tactic(auto, unfolding(crate::specs::Base64::group_holds))]
 fn last_holds(a: u8, b: u8, c: u8, d: u8) -> bool
     ensures { result ≡ group_holds true a b c d }
 {
@@ -138,44 +124,18 @@ fn last_holds(a: u8, b: u8, c: u8, d: u8) -> bool
             | ((c == b'=') & (d == b'=') & (value_of(b) % 16 == 0)))
 }
 
-// Whether a text is in base64: groups of four, and letters alone before the last.
+// Whether a text is in base64: groups of four, and letters alone before the last. With no early end, the compiler tests many at a time.
 pub fn is_base64(t: &[u8]) -> bool
     ensures { result ≡ is_base64 t.now }
 {
-    let n = t.len();
-    if n < 4 {
-        return n == 0;
+    let Some((front, &[a, b, c, d])) = t.split_last_chunk::<4>() else {
+        return t.is_empty();
+    };
+    let mut ok = t.len() % 4 == 0;
+    for x in front {
+        ok &= is_letter(*x);
     }
-    let last = n - 4;
-    let mut ok = n % 4 == 0;
-    let mut i: usize = 0;
-    while i < last {
-        ok = ok & is_letter(t[i]);
-        i = i + 1;
-    }
-    ok & last_holds(t[last], t[last + 1], t[last + 2], t[last + 3])
-}
-
-// Two bytes, and three.
-fn put_pair(p: Place, out: &mut [u8], x: u8, y: u8) -> Place
-    requires { p.at + 2 ≤ length out.old }
-    ensures { Wrote out.old out.new p.at result.at (x ∷ y ∷ []) }
-{
-    let at = p.at;
-    out[at] = x;
-    out[at + 1] = y;
-    Place { at: at + 2 }
-}
-
-fn put_triple(p: Place, out: &mut [u8], x: u8, y: u8, z: u8) -> Place
-    requires { p.at + 3 ≤ length out.old }
-    ensures { Wrote out.old out.new p.at result.at (x ∷ y ∷ z ∷ []) }
-{
-    let at = p.at;
-    out[at] = x;
-    out[at + 1] = y;
-    out[at + 2] = z;
-    Place { at: at + 3 }
+    ok & last_holds(a, b, c, d)
 }
 
 // The bytes of a group, each by two of its four values.
@@ -201,6 +161,7 @@ fn third_byte(u: u8, v: u8) -> u8
 }
 
 // The bytes of a group before the last.
+#[tactic(auto, using(crate::proofs::Writing::full), unfolding(crate::specs::Base64::group_holds))]
 fn put_full(p: Place, out: &mut [u8], a: u8, b: u8, c: u8, d: u8) -> Place
     requires { (group_holds false a b c d ≡ true) × (p.at + length (group_bytes a b c d) ≤ length out.old) }
     ensures { Wrote out.old out.new p.at result.at (group_bytes a b c d) }
@@ -209,16 +170,14 @@ fn put_full(p: Place, out: &mut [u8], a: u8, b: u8, c: u8, d: u8) -> Place
     let t = letter_value(b);
     let u = letter_value(c);
     let v = letter_value(d);
-    put_triple(
-        p,
+    p.put_bytes(
         out,
-        first_byte(s, t),
-        second_byte(t, u),
-        third_byte(u, v),
+        &[first_byte(s, t), second_byte(t, u), third_byte(u, v)],
     )
 }
 
 // The bytes of the last group, by its padding.
+#[tactic(auto, unfolding(crate::specs::Base64::group_bytes))]
 fn put_last(p: Place, out: &mut [u8], a: u8, b: u8, c: u8, d: u8) -> Place
     requires { p.at + length (group_bytes a b c d) ≤ length out.old }
     ensures { Wrote out.old out.new p.at result.at (group_bytes a b c d) }
@@ -233,9 +192,9 @@ fn put_last(p: Place, out: &mut [u8], a: u8, b: u8, c: u8, d: u8) -> Place
     }
     let y = second_byte(t, u);
     if d == b'=' {
-        return put_pair(p, out, x, y);
+        return p.put_bytes(out, &[x, y]);
     }
-    put_triple(p, out, x, y, third_byte(u, v))
+    p.put_bytes(out, &[x, y, third_byte(u, v)])
 }
 
 // Writes the bytes that a text in base64 stands for.
@@ -243,20 +202,21 @@ pub fn put_decoded(p: Place, out: &mut [u8], t: &[u8]) -> Place
     requires { (is_base64 t.now ≡ true) × (p.at + length (decode t.now) ≤ length out.old) }
     ensures { Wrote out.old out.new p.at result.at (decode t.now) }
 {
+    let Some((front, last)) = t.split_last_chunk::<4>() else {
+        return p;
+    };
     let mut q = p;
-    let mut i: usize = 0;
-    while 4 < t.len() - i {
-        q = put_full(q, out, t[i], t[i + 1], t[i + 2], t[i + 3]);
-        i = i + 4;
+    let mut left = front;
+    while let [a, b, c, d, rest @ ..] = left {
+        q = put_full(q, out, *a, *b, *c, *d);
+        left = rest;
     }
-    let left = t.len() - i;
-    if left == 4 {
-        return put_last(q, out, t[i], t[i + 1], t[i + 2], t[i + 3]);
-    }
-    q
+    let [a, b, c, d] = *last;
+    put_last(q, out, a, b, c, d)
 }
 
 // How many bytes a text in base64 stands for: three for each group, without those that the last one's padding leaves out.
+#[tactic(auto, using(crate::proofs::Size::sizes))]
 pub fn decoded_size(t: &[u8]) -> usize
     requires { is_base64 t.now ≡ true }
     ensures { result ≡ length (decode t.now) }

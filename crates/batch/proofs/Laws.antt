@@ -1,4 +1,5 @@
 -- Laws of an answer, of a place and of the buffer.
+use Rattle.std.specs.Prelude.{Result, Ok, Err, ⊤, IsErrAnd}
 use Prim.Native.Nat.{ℕ, ◌+◌, ◌-◌, ◌^◌, ◌≤◌, ◌<◌}
 use mathlib.Core.Path.{◌≡◌, refl, sym, ap, ◌∙◌}
 use mathlib.Core.Bool.{Bool, true, false, cond}
@@ -8,55 +9,60 @@ use mir.Syntax.{w64}
 use mir.Val.{Fits}
 use lib.Dec.{leb, eqb}
 use lib.ListN.{length, get_or, set, take, drop}
-use borrow.Author.Tests.{leb-true, leb-false, le-leb, lt-leb, ne_eqb}
+use borrow.Author.Tests.{leb-true, leb-false, le-leb, lt-leb}
 use Rattle.wire.specs.declared.check.Checked.{Checked}
 use Rattle.wire.specs.declared.check.Checked.TheVariants.{Held, Failed}
-use Rattle.wire.specs.declared.check.Verdict.{Verdict}
-use Rattle.wire.specs.declared.check.Verdict.TheVariants.{Clear, Refused as Not}
 use Rattle.wire.specs.declared.refusal.Refusal.{Refusal}
 use Rattle.wire.specs.declared.refusal.Refusal.TheVariants.{WrongType, PlaceOutside}
-use Rattle.wire.specs.Check.{checked}
+use Rattle.wire.specs.Check.{checked, on_ok}
 use Rattle.wire.specs.Refusal.{number_of, field_of, place_of}
-use Rattle.wire.proofs.Laws.{held_true}
+use Rattle.wire.proofs.Laws.{held_true, with_ok, handed_on}
 use Rattle.wire.proofs.Places.{of_after}
+use Rattle.head.specs.declared.Kind.{Kind}
 use Rattle.head.specs.declared.Kind.TheVariants.{Negotiate, Challenge, Authenticate}
+use Rattle.head.specs.Head.{kind_numbered}
 use Rattle.verdict.specs.Verdict.{read_as, refused_place}
 use Rattle.verdict.proofs.Refusals.{read_short}
 use Rattle.batch.specs.declared.Answer.{Answer}
 use Rattle.batch.specs.declared.Entry.{Entry}
-use Rattle.batch.specs.Batch.{answer_of, place_inside, at_place, message_at, read_marked, verdict_of, answer_to, with_answer}
+use Rattle.batch.specs.Batch.{answer_of, place_inside, message_at, read_marked, verdict_of, answer_to, with_answer}
 use Rattle.batch.proofs.Fill.{fill_to, fill_next}
 
 -- ---- an answer
 
-module _ (v : Verdict) where
-  pub clear_is : v ≡ Clear → record { number = 0; field = 0; place = 0 } ≡ answer_of v
+module _ (v : Result ⊤ Refusal) where
+  pub clear_is : v ≡ Ok tt → record { number = 0; field = 0; place = 0 } ≡ answer_of v
   clear_is h = rw h
 
-  pub refusal_is : (e : Refusal) (n i p : ℕ) → v ≡ Not e → n ≡ number_of e → i ≡ field_of e → p ≡ place_of e → record { number = n; field = i; place = p } ≡ answer_of v
+  pub refusal_is : (e : Refusal) (n i p : ℕ) → v ≡ Err e → n ≡ number_of e → i ≡ field_of e → p ≡ place_of e → record { number = n; field = i; place = p } ≡ answer_of v
   refusal_is e n i p h a b c = rw (h, a, b, c)
 
-  pub place_fits : (e : Refusal) (p : ℕ) → v ≡ Not e → p ≡ place_of e → refused_place v < 2 ^ 32 → p < 2 ^ 32
+  pub place_fits : (e : Refusal) (p : ℕ) → v ≡ Err e → p ≡ place_of e → refused_place v < 2 ^ 32 → p < 2 ^ 32
   place_fits e p h q l = rw q (rw h at l)
 
--- the verdict of a mark
-module _ (mark : ℕ) (s : List ℕ) (v : Verdict) where
-  pub mark_1 : mark ≡ 1 → v ≡ read_as Negotiate s → v ≡ read_marked mark s
-  mark_1 h q = rw h q
+pub ruleset answers = (clear_is, refusal_is, place_fits)
 
-  pub mark_2 : mark ≡ 2 → v ≡ read_as Challenge s → v ≡ read_marked mark s
-  mark_2 h q = rw h q
+-- the verdict of a mark, by the kind that has it
+by_kind : (s : List ℕ) (a b c : Bool) →
+    on_ok Err (cond a (Ok Negotiate) (cond b (Ok Challenge) (cond c (Ok Authenticate) (Err WrongType)))) (λ k. read_as k s)
+    ≡ cond a (read_as Negotiate s) (cond b (read_as Challenge s) (cond c (read_as Authenticate s) (Err WrongType)))
+by_kind s true b c = refl
+by_kind s false true c = refl
+by_kind s false false true = refl
+by_kind s false false false = refl
 
-  pub mark_3 : mark ≡ 3 → v ≡ read_as Authenticate s → v ≡ read_marked mark s
-  mark_3 h q = rw h q
+module _ (mark : ℕ) (s : List ℕ) (r : Result Kind Refusal) (p : r ≡ kind_numbered mark) where
+  its_kind : on_ok Err (kind_numbered mark) (λ k. read_as k s) ≡ read_marked mark s
+  its_kind = by_kind s (eqb mark 1) (eqb mark 2) (eqb mark 3)
 
-pub no_mark : (mark : ℕ) (s : List ℕ) → (mark ≡ 1 → ⊥) → (mark ≡ 2 → ⊥) → (mark ≡ 3 → ⊥) → Not WrongType ≡ read_marked mark s
-no_mark mark s a b c = simp (ne_eqb mark 1 a, ne_eqb mark 2 b, ne_eqb mark 3 c)
+  pub marked : (k : Kind) (v : Result ⊤ Refusal) → r ≡ Ok k → v ≡ read_as k s → v ≡ read_marked mark s
+  marked k v h q = with_ok Err (kind_numbered mark) r k (λ k. read_as k s) v p h q ∙ its_kind
 
-pub ruleset marks = (mark_1, mark_2, mark_3, no_mark)
+  pub unmarked : (q : Result ⊤ Refusal) (e : Refusal) → IsErrAnd q (λ d. d ≡ e) → r ≡ Err e → q ≡ read_marked mark s
+  unmarked q e a h = handed_on q (kind_numbered mark) r e (λ k. read_as k s) a p h ∙ its_kind
 
 -- its place has 32 bits
-of_cond : (b : Bool) (x y : Verdict) → refused_place x < 2 ^ 32 → refused_place y < 2 ^ 32 → refused_place (cond b x y) < 2 ^ 32
+of_cond : (b : Bool) (x y : Result ⊤ Refusal) → refused_place x < 2 ^ 32 → refused_place y < 2 ^ 32 → refused_place (cond b x y) < 2 ^ 32
 of_cond true x y p q = p
 of_cond false x y p q = q
 
@@ -64,11 +70,11 @@ marked_short : (mark : ℕ) (s : List ℕ) → refused_place (read_marked mark s
 marked_short mark s =
     of_cond (eqb mark 1) (read_as Negotiate s) _ (read_short Negotiate s) (
     of_cond (eqb mark 2) (read_as Challenge s) _ (read_short Challenge s) (
-    of_cond (eqb mark 3) (read_as Authenticate s) (Not WrongType) (read_short Authenticate s) (omega arith)))
+    of_cond (eqb mark 3) (read_as Authenticate s) (Err WrongType) (read_short Authenticate s) (omega arith)))
 
-pub verdict_short : (s : List ℕ) (e : Entry) (v : Verdict) → v ≡ verdict_of s e → refused_place v < 2 ^ 32
+pub verdict_short : (s : List ℕ) (e : Entry) (v : Result ⊤ Refusal) → v ≡ verdict_of s e → refused_place v < 2 ^ 32
 verdict_short s e v h =
-    rw h (of_after (λ (w : Verdict). refused_place w < 2 ^ 32) (place_inside (length s) e.start e.length) (Not PlaceOutside) (read_marked e.mark (message_at s e.start e.length)) (omega arith) (marked_short e.mark (message_at s e.start e.length)))
+    rw h (of_after (λ (w : Result ⊤ Refusal). refused_place w < 2 ^ 32) (place_inside (length s) e.start e.length) (Err PlaceOutside) (read_marked e.mark (message_at s e.start e.length)) (omega arith) (marked_short e.mark (message_at s e.start e.length)))
 
 -- ---- a place
 
@@ -83,6 +89,8 @@ start_decides n start len r h p = p ∙ ap checked (same (leb start (n - len)) r
   same true e = simp (le-leb (start + len) n (omega (arith, leb-true start (n - len) e, h)))
   same false e = simp (lt-leb (start + len) n (omega (arith, leb-false start (n - len) e, h)))
 
+pub ruleset places = (too_long, start_decides)
+
 -- a place inside
 pub ends_inside : (n start len : ℕ) (r : Checked) → r ≡ place_inside n start len → r ≡ Held → start + len ≤ n
 ends_inside n start len r p h = leb-true (start + len) n (held_true (leb (start + len) n) (sym p ∙ h))
@@ -92,15 +100,19 @@ pub end_fits : (n start len : ℕ) (r : Checked) → n < 2 ^ 64 → r ≡ place_
 end_fits n start len r l p h = record { fits = omega (arith, ends_inside n start len r p h, l) }
 
 -- 54, and else the message's verdict
-module _ (s : List ℕ) (start len : ℕ) (r : Checked) (p : r ≡ place_inside (length s) start len) (read : List ℕ → Verdict) where
-  pub outside : r ≡ Failed → Not PlaceOutside ≡ at_place s start len read
+module _ (s : List ℕ) (e : Entry) (r : Checked) (p : r ≡ place_inside (length s) e.start e.length) where
+  pub outside : r ≡ Failed → Err PlaceOutside ≡ verdict_of s e
   outside h = simp (← p, h)
 
-  pub inside : (v : Verdict) → r ≡ Held → v ≡ read (take (start + len - start) (drop start s)) → v ≡ at_place s start len read
-  inside v h q = q ∙ (let e : start + len - start ≡ len = omega arith in simp (← p, h, e))
+  pub inside : (v : Result ⊤ Refusal) → r ≡ Held → v ≡ read_marked e.mark (take (e.start + e.length - e.start) (drop e.start s)) → v ≡ verdict_of s e
+  inside v h q = q ∙ (let n : e.start + e.length - e.start ≡ e.length = omega arith in simp (← p, h, n))
 
-pub answer_is : (v w : Verdict) (x : Answer) → v ≡ w → x ≡ answer_of v → x ≡ answer_of w
+pub ruleset verdicts = (outside, inside, ends_inside, end_fits)
+
+pub answer_is : (v w : Result ⊤ Refusal) (x : Answer) → v ≡ w → x ≡ answer_of v → x ≡ answer_of w
 answer_is v w x h q = rw (← h) q
+
+pub ruleset answered = (verdict_short, answer_is)
 
 -- ---- an entry
 

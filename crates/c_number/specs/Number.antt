@@ -1,11 +1,7 @@
 -- What the C interface answers and hands out: every answer is one number, and what a reading found is an array of numbers.
-use Rattle.std.specs.Prelude.{ℕ, ◌+◌, ◌*◌, min, Bool, true, false}
-use Rattle.wire.specs.declared.check.Verdict.{Verdict}
-use Rattle.wire.specs.declared.check.Verdict.TheVariants.{Clear, Refused as Not}
+use Rattle.std.specs.Prelude.{Result, Ok, Err, ⊤, ℕ, ◌+◌, ◌*◌, min, Bool, true, false}
 use Rattle.wire.specs.declared.refusal.Refusal.{Refusal}
 use Rattle.wire.specs.Refusal.{number_of, field_of, place_of}
-use Rattle.place.specs.declared.written.Written.{Written}
-use Rattle.place.specs.declared.written.Written.TheVariants.{Length, Refused}
 
 -- a place has 47 bits there; one that doesn't fit is shown as the largest that does, which only a list lent alone can have
 abbrev pub place_shown : ℕ → ℕ
@@ -16,14 +12,14 @@ abbrev pub refusal_number : Refusal → ℕ
 refusal_number e = 0x8000000000000000 + (65536 * place_shown (place_of e) + (256 * number_of e + field_of e))
 
 -- a group of checks: 0 where all held
-abbrev pub verdict_number : Verdict → ℕ
-verdict_number Clear = 0
-verdict_number (Not e) = refusal_number e
+abbrev pub verdict_number : Result ⊤ Refusal → ℕ
+verdict_number (Ok tt) = 0
+verdict_number (Err e) = refusal_number e
 
 -- a writing: the length written
-abbrev pub written_number : Written → ℕ
-written_number (Length n) = n
-written_number (Refused e) = refusal_number e
+abbrev pub written_number : Result ℕ Refusal → ℕ
+written_number (Ok n) = n
+written_number (Err e) = refusal_number e
 
 -- a question's answer
 abbrev pub bit : Bool → ℕ

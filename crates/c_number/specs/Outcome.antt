@@ -1,6 +1,6 @@
 -- What a reading of the C interface hands out: numbers at the front of a lent array, or a refusal. An array that is too
 -- short is refused 33 before anything is read; a refusal changes nothing.
-use Rattle.std.specs.Prelude.{ℕ, ◌&&◌, List, leb, length}
+use Rattle.std.specs.Prelude.{◌≡◌, Result, Ok, Err, ℕ, ◌&&◌, List, leb, length}
 use Rattle.wire.specs.declared.refusal.Refusal.{Refusal}
 use Rattle.wire.specs.declared.refusal.Refusal.TheVariants.{NoRoom}
 use Rattle.wire.specs.declared.check.Checked.{Checked}
@@ -11,6 +11,16 @@ use Rattle.c_number.specs.Number.{refusal_number}
 pub data Outcome : Type 0 where
   numbers : List ℕ → Outcome
   refused : Refusal → Outcome
+
+-- that this is what comes of a reading: `of` gives the numbers of what it found
+abbrev pub Finds : {A : Type 0} → (A → List ℕ) → Result A Refusal → Outcome → Type 0
+Finds of (Ok a) h = numbers (of a) ≡ h
+Finds of (Err e) h = refused e ≡ h
+
+-- and of one that found bytes too
+abbrev pub FindsBoth : {A B : Type 0} → (A → List ℕ) → (B → List ℕ) → Result (A × B) Refusal → Outcome → List ℕ → Type 0
+FindsBoth of by (Ok f) h bytes = (numbers (of f.0) ≡ h) × (by f.1 ≡ bytes)
+FindsBoth of by (Err e) h bytes = refused e ≡ h
 
 abbrev pub outcome_number : Outcome → ℕ
 outcome_number (numbers xs) = 0

@@ -1,24 +1,11 @@
 -- What each reading found, as numbers in the order that the header names them.
-use Rattle.std.specs.Prelude.{ℕ, List, [], ◌∷◌}
+use Rattle.wire.specs.declared.refusal.Refusal.{Refusal}
+use Rattle.std.specs.Prelude.{Result, Option, Ok, Err, Some, None, ℕ, List, [], ◌∷◌}
 use Rattle.read_authenticate.specs.declared.Authenticate.{Authenticate}
-use Rattle.read_authenticate.specs.declared.Reading.{Reading}
-use Rattle.read_authenticate.specs.declared.Reading.TheVariants.{Taken, Refused}
 use Rattle.read_challenge.specs.declared.Challenge.{Challenge}
-use Rattle.read_challenge.specs.declared.Reading.{Reading as ChalReading}
-use Rattle.read_challenge.specs.declared.Reading.TheVariants.{Taken as ChalTaken, Refused as ChalRefused}
-use Rattle.read_challenge.specs.declared.TimestampReading.{TimestampReading}
-use Rattle.read_challenge.specs.declared.TimestampReading.TheVariants.{Taken as TimeTaken, Refused as TimeRefused}
-use Rattle.read_challenge.specs.declared.ServerNamesReading.{ServerNamesReading}
-use Rattle.read_challenge.specs.declared.ServerNamesReading.TheVariants.{Taken as NamesTaken, Refused as NamesRefused}
 use Rattle.target_info.specs.declared.ServerNames.{ServerNames}
-use Rattle.target_info.specs.declared.Timestamp.{Timestamp}
-use Rattle.target_info.specs.declared.Timestamp.TheVariants.{Time, Nothing}
 use Rattle.read_negotiate.specs.declared.Negotiate.{Negotiate}
-use Rattle.read_negotiate.specs.declared.Reading.{Reading as NegoReading}
-use Rattle.read_negotiate.specs.declared.Reading.TheVariants.{Taken as NegoTaken, Refused as NegoRefused}
 use Rattle.read_nl_auth.specs.declared.NlAuth.{NlAuth}
-use Rattle.read_nl_auth.specs.declared.Reading.{Reading as NlReading}
-use Rattle.read_nl_auth.specs.declared.Reading.TheVariants.{Taken as NlTaken, Refused as NlRefused}
 use Rattle.read_authenticate.specs.Authenticate.{read_authenticate}
 use Rattle.read_challenge.specs.Challenge.{read_challenge}
 use Rattle.c_number.specs.Number.{bit}
@@ -71,9 +58,9 @@ challenge_numbers c =
     c.fields.target_info.max_len ∷ []
 
 -- whether a timestamp is there, and its value
-unfoldable pub timestamp_numbers : Timestamp → List ℕ
-timestamp_numbers (Time t) = 1 ∷ t ∷ []
-timestamp_numbers Nothing = 0 ∷ 0 ∷ []
+unfoldable pub timestamp_numbers : Option ℕ → List ℕ
+timestamp_numbers (Some t) = 1 ∷ t ∷ []
+timestamp_numbers None = 0 ∷ 0 ∷ []
 
 -- whether pairs 1 and 2 are there
 unfoldable pub server_names_numbers : ServerNames → List ℕ
@@ -100,17 +87,17 @@ nl_auth_numbers m =
 
 -- ---- what each reading hands out
 
-abbrev pub negotiate_outcome : NegoReading → Outcome
-negotiate_outcome (NegoTaken m) = numbers (negotiate_numbers m)
-negotiate_outcome (NegoRefused e) = refused e
+abbrev pub negotiate_outcome : Result Negotiate Refusal → Outcome
+negotiate_outcome (Ok m) = numbers (negotiate_numbers m)
+negotiate_outcome (Err e) = refused e
 
-abbrev pub authenticate_outcome : Reading → Outcome
-authenticate_outcome (Taken a) = numbers (authenticate_numbers a)
-authenticate_outcome (Refused e) = refused e
+abbrev pub authenticate_outcome : Result Authenticate Refusal → Outcome
+authenticate_outcome (Ok a) = numbers (authenticate_numbers a)
+authenticate_outcome (Err e) = refused e
 
-abbrev pub challenge_outcome : ChalReading → Outcome
-challenge_outcome (ChalTaken c) = numbers (challenge_numbers c)
-challenge_outcome (ChalRefused e) = refused e
+abbrev pub challenge_outcome : Result Challenge Refusal → Outcome
+challenge_outcome (Ok c) = numbers (challenge_numbers c)
+challenge_outcome (Err e) = refused e
 
 -- of a message's bytes
 abbrev pub authenticate_outcome_of : List ℕ → Outcome
@@ -119,14 +106,14 @@ authenticate_outcome_of s = authenticate_outcome (read_authenticate s).reading
 abbrev pub challenge_outcome_of : List ℕ → Outcome
 challenge_outcome_of s = challenge_outcome (read_challenge s).reading
 
-abbrev pub timestamp_outcome : TimestampReading → Outcome
-timestamp_outcome (TimeTaken t) = numbers (timestamp_numbers t)
-timestamp_outcome (TimeRefused e) = refused e
+abbrev pub timestamp_outcome : Result (Option ℕ) Refusal → Outcome
+timestamp_outcome (Ok t) = numbers (timestamp_numbers t)
+timestamp_outcome (Err e) = refused e
 
-abbrev pub server_names_outcome : ServerNamesReading → Outcome
-server_names_outcome (NamesTaken n) = numbers (server_names_numbers n)
-server_names_outcome (NamesRefused e) = refused e
+abbrev pub server_names_outcome : Result ServerNames Refusal → Outcome
+server_names_outcome (Ok n) = numbers (server_names_numbers n)
+server_names_outcome (Err e) = refused e
 
-abbrev pub nl_auth_outcome : NlReading → Outcome
-nl_auth_outcome (NlTaken m) = numbers (nl_auth_numbers m)
-nl_auth_outcome (NlRefused e) = refused e
+abbrev pub nl_auth_outcome : Result NlAuth Refusal → Outcome
+nl_auth_outcome (Ok m) = numbers (nl_auth_numbers m)
+nl_auth_outcome (Err e) = refused e

@@ -1,38 +1,35 @@
 -- Answering a challenge by the C interface: the decision and the answer as numbers.
-use Rattle.std.specs.Prelude.{ℕ, ◌≡◌, List, [], ◌∷◌, length}
+use Rattle.respond.specs.declared.answer.Answer.{Answer}
+use Rattle.respond.specs.declared.decision.Decision.{Decision}
+use Rattle.wire.specs.declared.refusal.Refusal.{Refusal}
+use Rattle.std.specs.Prelude.{Result, Option, Ok, Err, Some, None, ℕ, ◌≡◌, List, [], ◌∷◌, length}
 use Rattle.wire.specs.declared.refusal.Refusal.TheVariants.{NoRoom}
 use Rattle.wire.specs.Check.{after}
 use Rattle.place.specs.Written.{room_holds, at_front}
-use Rattle.target_info.specs.declared.Timestamp.{Timestamp}
-use Rattle.target_info.specs.declared.Timestamp.TheVariants.{Time, Nothing}
-use Rattle.respond.specs.declared.answer.Answered.{Answered}
-use Rattle.respond.specs.declared.answer.Answered.TheVariants.{Sent, Refused}
 use Rattle.respond.specs.declared.decision.Settings.{Settings}
-use Rattle.respond.specs.declared.decision.Decided.{Decided}
-use Rattle.respond.specs.declared.decision.Decided.TheVariants.{Taken, Refused as Undecided}
 use Rattle.respond.specs.Answer.{Supplied, Effect, respond_to}
 use Rattle.c_number.specs.Number.{refusal_number, bit}
 use Rattle.c_number.specs.Outcome.{Outcome, numbers, refused}
 
 -- ---- the decision: flags, whether a timestamp is there, and its value
 
-unfoldable pub decision_numbers : ℕ → Timestamp → List ℕ
-decision_numbers flags (Time t) = flags ∷ 1 ∷ t ∷ []
-decision_numbers flags Nothing = flags ∷ 0 ∷ 0 ∷ []
+unfoldable pub decision_numbers : ℕ → Option ℕ → List ℕ
+decision_numbers flags (Some t) = flags ∷ 1 ∷ t ∷ []
+decision_numbers flags None = flags ∷ 0 ∷ 0 ∷ []
 
-abbrev pub decided_outcome : Decided → Outcome
-decided_outcome (Taken d) = numbers (decision_numbers d.flags.bits d.timestamp)
-decided_outcome (Undecided e) = refused e
+abbrev pub decided_outcome : Result Decision Refusal → Outcome
+decided_outcome (Ok d) = numbers (decision_numbers d.flags.bits d.timestamp)
+decided_outcome (Err e) = refused e
 
 -- ---- the answer: its length; beside it Time and whether a MIC is due
 
-abbrev pub answered_number : Answered → ℕ
-answered_number (Sent a) = a.len
-answered_number (Refused e) = refusal_number e
+abbrev pub answered_number : Result Answer Refusal → ℕ
+answered_number (Ok a) = a.len
+answered_number (Err e) = refusal_number e
 
-abbrev pub answered_out : Answered → List ℕ → List ℕ
-answered_out (Sent a) out = at_front (a.time ∷ bit a.mic_due ∷ []) out
-answered_out (Refused e) out = out
+abbrev pub answered_out : Result Answer Refusal → List ℕ → List ℕ
+answered_out (Ok a) out = at_front (a.time ∷ bit a.mic_due ∷ []) out
+answered_out (Err e) out = out
 
 -- what comes of a call: its answer, the output and the array of numbers afterwards
 pub record EffectFromC : Type 0 where

@@ -27,17 +27,15 @@ impl SettingsBits {
     pub const OLD_SERVER: u32 = SettingsBits::NTLMV2;
 
     // The bench's: the defaults but for 128-bit, which is demanded where its caller's number is not 0.
+    #[tactic(auto, unfolding(crate::specs::Settings::bench_bits))]
     pub fn for_bench(demand_128: u32) -> SettingsBits
         ensures { result.bits ≡ bench_bits demand_128 }
     {
-        if demand_128 == 0 {
-            return SettingsBits {
-                bits: SettingsBits::OLD_SERVER,
-            };
-        }
-        SettingsBits {
-            bits: SettingsBits::DEFAULTS,
-        }
+        let bits = match demand_128 {
+            0 => SettingsBits::OLD_SERVER,
+            _ => SettingsBits::DEFAULTS,
+        };
+        SettingsBits { bits }
     }
 
     pub fn demand_128(self) -> bool

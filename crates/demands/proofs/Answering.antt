@@ -2,6 +2,8 @@
 pub mod Deciding
 pub mod DomainSent
 pub mod Sending
+use Rattle.wire.specs.Check.{on_ok}
+use Rattle.std.specs.Prelude.{Result, Ok, Err}
 use Prim.Native.Nat.{ℕ, ◌≤◌}
 use mathlib.Core.Path.{◌≡◌, refl, sym, ap, ◌∙◌, subst}
 use mathlib.Core.Logic.{inl, inr, ⊎_elim, ◌↔◌}
@@ -13,19 +15,13 @@ use Rattle.wire.specs.declared.refusal.Refusal.{Refusal}
 use Rattle.wire.specs.Refusal.{number_of, field_of, place_of}
 use Rattle.wire.proofs.Places.{placeless_number}
 use Rattle.demands.proofs.Order.{on_row}
-use Rattle.place.specs.declared.written.Written.{Written}
-use Rattle.place.specs.declared.written.Written.TheVariants.{Length, Refused as Unwritten}
 use Rattle.head.specs.Head.{flags_at}
 use Rattle.write_authenticate.specs.Writing.{write_answer, write_out}
 use Rattle.respond.specs.declared.answer.Answer.{Answer}
-use Rattle.respond.specs.declared.answer.Answered.{Answered}
-use Rattle.respond.specs.declared.answer.Answered.TheVariants.{Sent, Refused as Unanswered}
-use Rattle.respond.specs.declared.decision.Decided.{Decided}
-use Rattle.respond.specs.declared.decision.Decided.TheVariants.{Taken, Refused}
 use Rattle.respond.specs.declared.decision.Decision.{Decision}
 use Rattle.respond.specs.declared.decision.Settings.{Settings}
 use Rattle.respond.specs.Answer.{mic_due, answer_with, Supplied, Effect, refusing, sending, with_domain, respond_to}
-use Rattle.respond.specs.Decision.{decision_on, on_decided}
+use Rattle.respond.specs.Decision.{decision_on}
 use Rattle.respond.specs.Domain.{domain_to_send}
 use Rattle.target_info.specs.TargetInfo.{timestamp_in}
 use Rattle.demands.specs.PairList.{PairThere}
@@ -57,18 +53,18 @@ no_place room bits lm nt domain user workstation key n i h z =
 
 module _ (settings : Settings) (s b : List ℕ) (F : ℕ → ℕ → Type 0) (size time : ℕ) where
   -- an exact writing whose refusals have no place, with its time and whether a MIC is due, is an exact answer
-  as_answer : (r : Written) (due : Bool) → Agreed settings s b → (due ≡ true) ↔ PairThere b 7 → ((n i : ℕ) → F n i → (10 ≤ n) × (n ≤ 13) → ⊥) →
+  as_answer : (r : Result ℕ Refusal) (due : Bool) → Agreed settings s b → (due ≡ true) ↔ PairThere b 7 → ((n i : ℕ) → F n i → (10 ≤ n) × (n ≤ 13) → ⊥) →
       WrittenExactly r authenticate_order F size → AnsweredExactly (answer_with r time due) settings s b F size time
-  as_answer (Length m) due agreed there none w =
+  as_answer (Ok m) due agreed there none w =
       record {
         refused = λ n i p. (λ t. absurd t, λ f. ⊎_elim (λ d. agreed_or_declined settings s b n i p agreed d) (λ g. (w.refused n i).1 g.1) f);
         sent = λ x. (λ h. told x h, λ h. made x ((w.written x.len).1 (h.1, h.2)) h.3 h.4);
       }
     where
-      told : (x : Answer) → Sent (record { len = m; time = time; mic_due = due }) ≡ Sent x →
+      told : (x : Answer) → ◌≡◌ {A = Result Answer Refusal} (Ok (record { len = m; time = time; mic_due = due })) (Ok x) →
           Agreed settings s b × ((n i : ℕ) → F n i → ⊥) × (x.len ≡ size) × (x.time ≡ time) × ((x.mic_due ≡ true) ↔ PairThere b 7)
       told x h = go (same h) where
-        same : Sent (record { len = m; time = time; mic_due = due }) ≡ Sent x → record { len = m; time = time; mic_due = due } ≡ x
+        same : ◌≡◌ {A = Result Answer Refusal} (Ok (record { len = m; time = time; mic_due = due })) (Ok x) → record { len = m; time = time; mic_due = due } ≡ x
         same p = cc
 
         go : record { len = m; time = time; mic_due = due } ≡ x →
@@ -78,12 +74,12 @@ module _ (settings : Settings) (s b : List ℕ) (F : ℕ → ℕ → Type 0) (si
             subst (λ (y : Answer). Agreed settings s b × ((n i : ℕ) → F n i → ⊥) × (y.len ≡ size) × (y.time ≡ time) × ((y.mic_due ≡ true) ↔ PairThere b 7)) e
             (agreed, v.0, v.1, refl, there)
 
-      made : (x : Answer) → Length m ≡ Length x.len → x.time ≡ time → (x.mic_due ≡ true) ↔ PairThere b 7 →
-          Sent (record { len = m; time = time; mic_due = due }) ≡ Sent x
-      made x l t d = ap Sent (λ k. record { len = same l k; time = sym t k; mic_due = same_bool due x.mic_due there d k }) where
-        same : Length m ≡ Length x.len → m ≡ x.len
+      made : (x : Answer) → ◌≡◌ {A = Result ℕ Refusal} (Ok m) (Ok x.len) → x.time ≡ time → (x.mic_due ≡ true) ↔ PairThere b 7 →
+          ◌≡◌ {A = Result Answer Refusal} (Ok (record { len = m; time = time; mic_due = due })) (Ok x)
+      made x l t d = ap Ok (λ k. record { len = same l k; time = sym t k; mic_due = same_bool due x.mic_due there d k }) where
+        same : ◌≡◌ {A = Result ℕ Refusal} (Ok m) (Ok x.len) → m ≡ x.len
         same p = cc
-  as_answer (Unwritten e) due agreed there none w =
+  as_answer (Err e) due agreed there none w =
       record {
         refused = λ n i p. (
           λ t. inr (agreed, (w.refused n i).0 (t.0, t.1), sym t.2 ∙ no_place),
@@ -98,11 +94,11 @@ module _ (settings : Settings) (s b : List ℕ) (F : ℕ → ℕ → Type 0) (si
       no_place : place_of e ≡ 0
       no_place = placeless_number e (none (number_of e) (field_of e) ((w.refused (number_of e) (field_of e)).0 (refl, refl)).fails)
 
-      never : (n : ℕ) → Unwritten e ≡ Length n → ⊥
+      never : (n : ℕ) → Err e ≡ Ok n → ⊥
       never n h = let z : ◌≡◌ {A = ℕ} 0 1 = cc in omega arith
 
   -- so is a refusal of the decision
-  as_refusal : (e : Refusal) → Declined settings s b (number_of e) (field_of e) (place_of e) → AnsweredExactly (Unanswered e) settings s b F size time
+  as_refusal : (e : Refusal) → Declined settings s b (number_of e) (field_of e) (place_of e) → AnsweredExactly (Err e) settings s b F size time
   as_refusal e j =
       record {
         refused = λ n i p. (
@@ -124,7 +120,7 @@ module _ (settings : Settings) (s b : List ℕ) (x : Supplied) (m16 : length x.m
   decision = record { flags = flags_at s 20; timestamp = timestamp_in b }
 
   -- what the writer answers, and the output after it
-  abbrev written : Written
+  abbrev written : Result ℕ Refusal
   written =
       write_answer (length x.out) (flags_at s 20) x.version t.mic_sent t.lm_sent x.nt t.domain_sent x.user x.workstation t.key_sent
 
@@ -145,11 +141,11 @@ module _ (settings : Settings) (s b : List ℕ) (x : Supplied) (m16 : length x.m
       P (respond_to settings s x)
   unfolding respond_to
   on_decision P agreed declined = go (decision_on settings s) (judged settings s b info) where
-    go : (d : Decided) → Judged settings s b info d → P (on_decided (refusing x) d (λ y. sending settings y (with_domain (domain_to_send x.domain s) x)))
-    go (Taken d) j =
+    go : (d : Result Decision Refusal) → Judged settings s b info d → P (on_ok (refusing x) d (λ y. sending settings y (with_domain (domain_to_send x.domain s) x)))
+    go (Ok d) j =
         subst (λ (y : Decision). P (sending settings y (with_domain (domain_to_send x.domain s) x))) (sym j.1)
         (subst P (sym (send_is j.0)) (agreed j.0))
-    go (Refused e) j = declined e j
+    go (Err e) j = declined e j
 
 pub respond_answered : RespondIsAnswered
 respond_answered settings s b x v8 m16 info t = on_decision settings s b x m16 info t Right agreed_to (λ e j. as_refusal settings s b F size t.time e j) where
@@ -172,15 +168,15 @@ respond_answered settings s b x v8 m16 info t = on_decision settings s b x m16 i
 
 -- an answer that is sent is written with what is sent
 pub respond_writes : (settings : Settings) (s b : List ℕ) (x : Supplied) (m16 : length x.mic ≡ 16) (info : InfoBytes s b)
-    (t : ToSend settings s b x) (y : Answer) → (respond_to settings s x).answer ≡ Sent y →
-    (written settings s b x m16 info t ≡ Length y.len) × ((respond_to settings s x).output ≡ leaves settings s b x m16 info t)
+    (t : ToSend settings s b x) (y : Answer) → (respond_to settings s x).answer ≡ Ok y →
+    (written settings s b x m16 info t ≡ Ok y.len) × ((respond_to settings s x).output ≡ leaves settings s b x m16 info t)
 respond_writes settings s b x m16 info t y =
     on_decision settings s b x m16 info t
-    (λ z. z.answer ≡ Sent y → (written settings s b x m16 info t ≡ Length y.len) × (z.output ≡ leaves settings s b x m16 info t))
+    (λ z. z.answer ≡ Ok y → (written settings s b x m16 info t ≡ Ok y.len) × (z.output ≡ leaves settings s b x m16 info t))
     (λ agreed e. (sent_written _ t.time (mic_due (timestamp_in b)) y e, refl)) none
   where
-    none : (e : Refusal) → Declined settings s b (number_of e) (field_of e) (place_of e) → Unanswered e ≡ Sent y →
-        (written settings s b x m16 info t ≡ Length y.len) × (x.out ≡ leaves settings s b x m16 info t)
+    none : (e : Refusal) → Declined settings s b (number_of e) (field_of e) (place_of e) → Err e ≡ Ok y →
+        (written settings s b x m16 info t ≡ Ok y.len) × (x.out ≡ leaves settings s b x m16 info t)
     none e j h = absurd (let z : ◌≡◌ {A = ℕ} 0 1 = cc in omega arith)
 
 pub respond_reads_back : RespondReadsBack

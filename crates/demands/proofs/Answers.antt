@@ -3,6 +3,9 @@ pub mod Decoded
 pub mod SmallFields
 pub mod LineShort
 pub mod LineBounds
+use Rattle.wire.specs.Check.{on_ok}
+use Rattle.std.specs.Prelude.{Result, Ok, Err, ⊤}
+use Rattle.wire.specs.declared.refusal.Refusal.{Refusal}
 use Prim.Native.Nat.{ℕ, ◌≤◌, ◌<◌}
 use mathlib.Core.Path.{◌≡◌, refl, sym, subst}
 use mathlib.Core.Logic.{⊎_elim}
@@ -14,14 +17,10 @@ use lib.ListN.{length}
 use borrow.Author.Tests.{leb-true, le-leb, lt-leb}
 use Rattle.wire.specs.declared.check.Checked.{Checked}
 use Rattle.wire.specs.declared.check.Checked.TheVariants.{Held, Failed}
-use Rattle.wire.specs.declared.check.Verdict.{Verdict}
-use Rattle.wire.specs.declared.check.Verdict.TheVariants.{Clear, Refused as Not}
 use Rattle.wire.specs.declared.refusal.Refusal.TheVariants.{PastEnd, NoRoom}
 use Rattle.wire.specs.Check.{checked, after}
 use Rattle.wire.proofs.Bools.{and_both, and-false}
 use Rattle.field.specs.Field.{ends_inside, field_bytes}
-use Rattle.place.specs.declared.written.Written.{Written}
-use Rattle.place.specs.declared.written.Written.TheVariants.{Length, Refused}
 use Rattle.place.specs.Place.{le16, le32}
 use Rattle.place.specs.Written.{room_holds, answered, bytes_hold, bytes_answer}
 use Rattle.av_pairs.specs.AvPairs.{check_pairs}
@@ -32,14 +31,10 @@ use Rattle.write_negotiate.proofs.Sent.{length-message as negotiate_length}
 use Rattle.nl_auth_flags.specs.Flags.{known}
 use Rattle.write_nl_auth.specs.Writing.{type_and_flags, request_bytes, response_bytes, check_request, request_answer, response_answer}
 use Rattle.respond.specs.declared.answer.Answer.{Answer}
-use Rattle.respond.specs.declared.answer.Answered.{Answered}
-use Rattle.respond.specs.declared.answer.Answered.TheVariants.{Sent, Refused as Unanswered}
 use Rattle.respond.specs.declared.decision.Decision.{Decision}
-use Rattle.respond.specs.declared.decision.Decided.{Decided}
-use Rattle.respond.specs.declared.decision.Decided.TheVariants.{Taken as Decides, Refused as Declines}
 use Rattle.respond.specs.declared.decision.Settings.{Settings}
 use Rattle.respond.specs.Answer.{mic_due, time_to_send, lm_to_send, mic_to_send, key_to_send, answer_with, Supplied, refusing, sending, with_domain, respond_to}
-use Rattle.respond.specs.Decision.{decision_on, on_decided}
+use Rattle.respond.specs.Decision.{decision_on}
 use Rattle.respond.specs.Domain.{domain_to_send}
 use Rattle.c_number.specs.Number.{refusal_number, verdict_number, written_number}
 use Rattle.c_number.specs.Outcome.{Outcome, numbers, refused, outcome_number, call_number, two_array_number}
@@ -87,18 +82,18 @@ two_arrays_decode c room room' =
 
 pub check_pairs_decodes : CheckPairsDecodes
 check_pairs_decodes s = go (check_pairs s) (pairs_small s) where
-  go : (v : Verdict) → SmallV v → DecodesVerdict (verdict_number v) v
-  go Clear w = decodes_length 0 (omega arith)
-  go (Not e) w = decodes_refusal e w
+  go : (v : Result ⊤ Refusal) → SmallV v → DecodesVerdict (verdict_number v) v
+  go (Ok tt) w = decodes_length 0 (omega arith)
+  go (Err e) w = decodes_refusal e w
 
 -- ---- lengths written
 
 -- what is written where a verdict is clear
-by_size : (v : Verdict) (bytes : List ℕ) (n most : ℕ) → (v ≡ Clear → length bytes ≤ most) → answered v bytes ≡ Length n → n ≤ most
-by_size Clear bytes n most size h = subst (λ (k : ℕ). k ≤ most) (same h) (size refl) where
-  same : Length (length bytes) ≡ Length n → length bytes ≡ n
+by_size : (v : Result ⊤ Refusal) (bytes : List ℕ) (n most : ℕ) → (v ≡ Ok tt → length bytes ≤ most) → answered v bytes ≡ Ok n → n ≤ most
+by_size (Ok tt) bytes n most size h = subst (λ (k : ℕ). k ≤ most) (same h) (size refl) where
+  same : ◌≡◌ {A = Result ℕ Refusal} (Ok (length bytes)) (Ok n) → length bytes ≡ n
   same p = cc
-by_size (Not e) bytes n most size h = absurd (let z : ◌≡◌ {A = ℕ} 0 1 = cc in omega arith)
+by_size (Err e) bytes n most size h = absurd (let z : ◌≡◌ {A = ℕ} 0 1 = cc in omega arith)
 
 pub writing_short : WritingShort
 unfolding negotiate_answer write_answer request_answer response_answer response_bytes type_and_flags le32 le16
@@ -112,17 +107,17 @@ writing_short (write_nl_auth_request room flags a b c d e) n h =
     by_size (check_request room (known flags) a b c d e) (request_bytes (known flags) a b c d e) n 65535
     (λ k. (request_holds room (known flags) a b c d e k).size) h
 writing_short (write_nl_auth_response room) n h = go (room_holds (length response_bytes) room) h where
-  same : (m : ℕ) → Length m ≡ Length n → m ≡ n
+  same : (m : ℕ) → ◌≡◌ {A = Result ℕ Refusal} (Ok m) (Ok n) → m ≡ n
   same m p = cc
 
-  go : (k : Checked) → after k (Refused NoRoom) (Length (length response_bytes)) ≡ Length n → n ≤ 65535
+  go : (k : Checked) → after k (Err NoRoom) (Ok (length response_bytes)) ≡ Ok n → n ≤ 65535
   go Held p = omega (arith, same (length response_bytes) p)
   go Failed p = absurd (let z : ◌≡◌ {A = ℕ} 0 1 = cc in omega arith)
 writing_short (write_response_pairs room s name unverified bindings) n h = response_pairs_short room s name unverified bindings n h
 
-written_told : (r : Written) → SmallW r → ((n : ℕ) → r ≡ Length n → n < 0x8000000000000000) → DecodesWritten (written_number r) r
-written_told (Length n) w l = decodes_length n (l n refl)
-written_told (Refused e) w l = decodes_refusal e w
+written_told : (r : Result ℕ Refusal) → SmallW r → ((n : ℕ) → r ≡ Ok n → n < 0x8000000000000000) → DecodesWritten (written_number r) r
+written_told (Ok n) w l = decodes_length n (l n refl)
+written_told (Err e) w l = decodes_refusal e w
 
 pub writing_decodes : WritingDecodes
 writing_decodes w = written_told (writing_answer w) (writing_small w) (λ n h. omega (arith, writing_short w n h))
@@ -131,7 +126,7 @@ pub copy_fits : CopyFits
 unfolding bytes_answer
 copy_fits bytes out n h =
     by_size (bytes_hold bytes out) bytes n (length out)
-    (λ c. leb-true (length bytes) (length out) (held_true _ (after_held (room_holds (length bytes) (length out)) NoRoom Clear c).0)) h
+    (λ c. leb-true (length bytes) (length out) (held_true _ (after_held (room_holds (length bytes) (length out)) NoRoom (Ok tt) c).0)) h
 
 pub copy_decodes : CopyDecodes
 copy_decodes bytes out l = written_told (bytes_answer bytes out) (bytes_small bytes out) (λ n h. omega (arith, copy_fits bytes out n h))
@@ -139,8 +134,8 @@ copy_decodes bytes out l = written_told (bytes_answer bytes out) (bytes_small by
 pub field_copy_decodes : FieldCopyDecodes
 unfolding field_copy_answer
 field_copy_decodes s out f l = go (ends_inside (length s) f) where
-  answer : Checked → Written
-  answer k = after k (Refused (PastEnd 0)) (bytes_answer (field_bytes s f) out)
+  answer : Checked → Result ℕ Refusal
+  answer k = after k (Err (PastEnd 0)) (bytes_answer (field_bytes s f) out)
 
   go : (k : Checked) → DecodesWritten (written_number (answer k)) (answer k)
   go Held = copy_decodes (field_bytes s f) out l
@@ -159,10 +154,10 @@ line_decodes l out = short_tells (called_line l) out (omega (arith, line_short l
 -- ---- answering a challenge
 
 -- the answer with what was written
-answer_told : (r : Written) (time : ℕ) (due : Bool) → SmallW r → ((n : ℕ) → r ≡ Length n → n ≤ 65535) →
+answer_told : (r : Result ℕ Refusal) (time : ℕ) (due : Bool) → SmallW r → ((n : ℕ) → r ≡ Ok n → n ≤ 65535) →
     DecodesAnswered (answered_number (answer_with r time due)) (answer_with r time due)
-answer_told (Length n) time due w l = decodes_length n (omega (arith, l n refl))
-answer_told (Refused e) time due w l = decodes_refusal e w
+answer_told (Ok n) time due w l = decodes_length n (omega (arith, l n refl))
+answer_told (Err e) time due w l = decodes_refusal e w
 
 module _ (settings : Settings) (s : List ℕ) (x : Supplied) (v8 : length x.version ≡ 8) (m16 : length x.mic ≡ 16) where
   -- what is written for a decision, and the answer with it
@@ -171,20 +166,20 @@ module _ (settings : Settings) (s : List ℕ) (x : Supplied) (v8 : length x.vers
       write_authenticate (length x.out) d.flags x.version (mic_to_send d.timestamp x.mic) (lm_to_send settings d.timestamp x.lm) x.nt
       (domain_to_send x.domain s) x.user x.workstation (key_to_send d.flags x.key) v8 (mic_long d.timestamp x.mic m16)
 
-  answer : Decided → Answered
-  answer d = (on_decided (refusing x) d (λ y. sending settings y (with_domain (domain_to_send x.domain s) x))).answer
+  answer : Result Decision Refusal → Result Answer Refusal
+  answer d = (on_ok (refusing x) d (λ y. sending settings y (with_domain (domain_to_send x.domain s) x))).answer
 
-  sent_short : (y : Answer) (d : Decided) → answer d ≡ Sent y → y.len ≤ 65535
+  sent_short : (y : Answer) (d : Result Decision Refusal) → answer d ≡ Ok y → y.len ≤ 65535
   unfolding answer sending sent
-  sent_short y (Decides d) p =
+  sent_short y (Ok d) p =
       writing_short (sent d) y.len (sent_written (writing_answer (sent d)) (time_to_send settings d.timestamp x.clock) (mic_due d.timestamp) y p)
-  sent_short y (Declines e) p = absurd (let z : ◌≡◌ {A = ℕ} 0 1 = cc in omega arith)
+  sent_short y (Err e) p = absurd (let z : ◌≡◌ {A = ℕ} 0 1 = cc in omega arith)
 
-  sent_told : (d : Decided) → SmallD d → DecodesAnswered (answered_number (answer d)) (answer d)
+  sent_told : (d : Result Decision Refusal) → SmallD d → DecodesAnswered (answered_number (answer d)) (answer d)
   unfolding answer sending sent
-  sent_told (Decides d) w =
+  sent_told (Ok d) w =
       answer_told (writing_answer (sent d)) (time_to_send settings d.timestamp x.clock) (mic_due d.timestamp) (writing_small (sent d)) (writing_short (sent d))
-  sent_told (Declines e) w = decodes_refusal e w
+  sent_told (Err e) w = decodes_refusal e w
 
 pub respond_short : RespondShort
 unfolding respond_to answer

@@ -1,4 +1,6 @@
 -- Asking at a place.
+use Rattle.std.specs.Prelude.{Result, Option, Ok, Err, Some, None}
+use Rattle.wire.specs.declared.refusal.Refusal.{Refusal}
 use Prim.Native.Nat.{ℕ, zero, suc, ◌<◌}
 use mathlib.Core.Path.{◌≡◌, refl, sym, ap, ◌∙◌, subst}
 use mathlib.Core.Logic.{◌⊎◌, inl, inr, ⊎_elim}
@@ -7,8 +9,6 @@ use native.Mathlib.Omega.{arith}
 use lib.ListN.{length}
 use Rattle.wire.specs.Refusal.{number_of, field_of, place_of}
 use Rattle.av_pairs.specs.declared.AvPair.{AvPair}
-use Rattle.av_pairs.specs.declared.Step.{Step}
-use Rattle.av_pairs.specs.declared.Step.TheVariants.{Pair, End, Refused}
 use Rattle.av_pairs.specs.AvPairs.{step_at, end_of, on_step, ask_at}
 use Rattle.demands.specs.Asking.{AskedAt, AskingGives}
 use Rattle.demands.specs.InTurn.{PairIs}
@@ -17,17 +17,17 @@ use Rattle.demands.proofs.InTurn.{own, one_pair}
 use Rattle.demands.proofs.PairList.{JudgedS, step_judged, empty_step, pair_or_end, pair_or_fault, end_or_fault, one_first}
 
 -- what stands at a place, by the step
-abbrev At : List ℕ → ℕ → Step → Type 0
-At s at (Pair p) = PairIs s at p
-At s at End = (length s ≡ 0) ⊎ EndAt s at
-At s at (Refused e) = (0 < length s) × (field_of e ≡ 2) × FaultAt s at (number_of e) × (place_of e ≡ at)
+abbrev At : List ℕ → ℕ → Result (Option AvPair) Refusal → Type 0
+At s at (Ok (Some p)) = PairIs s at p
+At s at (Ok None) = (length s ≡ 0) ⊎ EndAt s at
+At s at (Err e) = (0 < length s) × (field_of e ≡ 2) × FaultAt s at (number_of e) × (place_of e ≡ at)
 
 step_is : (s : List ℕ) (at : ℕ) → At s at (step_at s at)
 step_is s at = go (length s) refl where
-  full : (x : Step) → 0 < length s → JudgedS s at x → At s at x
-  full (Pair p) h j = rw j.1 (own s at j.0)
-  full End h j = inr j
-  full (Refused e) h j = (h, j.1, j.0, j.2)
+  full : (x : Result (Option AvPair) Refusal) → 0 < length s → JudgedS s at x → At s at x
+  full (Ok (Some p)) h j = rw j.1 (own s at j.0)
+  full (Ok None) h j = inr j
+  full (Err e) h j = (h, j.1, j.0, j.2)
 
   go : (n : ℕ) → length s ≡ n → At s at (step_at s at)
   go zero e = rw (empty_step s at e) (inl e)
@@ -39,22 +39,22 @@ pair_or_stop s at w h = ⊎_elim (λ e. omega (arith, w.whole, e)) (λ e. pair_o
 stop_or_fault : (s : List ℕ) (at n : ℕ) → (length s ≡ 0) ⊎ EndAt s at → 0 < length s → FaultAt s at n → ⊥
 stop_or_fault s at n h l f = ⊎_elim (λ e. omega arith) (λ e. end_or_fault s at n e f) h
 
-asked : (s : List ℕ) (at : ℕ) (x : Step) → At s at x → AskedAt s at (record { step = x; next = on_step x end_of (λ v. at) })
-asked s at (Pair p) j =
+asked : (s : List ℕ) (at : ℕ) (x : Result (Option AvPair) Refusal) → At s at x → AskedAt s at (record { step = x; next = on_step x end_of (λ v. at) })
+asked s at (Ok (Some p)) j =
     record {
-      pair = λ q. (λ e. subst (PairIs s at) (same e) j, λ w. ap Pair (one_pair s at p q j w));
+      pair = λ q. (λ e. subst (PairIs s at) (same e) j, λ w. ap (λ (r : AvPair). Ok (Some r)) (one_pair s at p q j w));
       end = (λ e. other e, λ h. absurd (pair_or_stop s at j.there h));
       refused = λ n i p. (λ t. absurd t, λ h. pair_or_fault s at n j.there h.2);
       onward = λ w. omega (arith, j.size, j.value);
       stays = λ no. absurd (no j.there);
     }
   where
-    same : {q : AvPair} → Pair p ≡ Pair q → p ≡ q
+    same : {q : AvPair} → ◌≡◌ {A = Result (Option AvPair) Refusal} (Ok (Some p)) (Ok (Some q)) → p ≡ q
     same e = cc
 
-    other : {A : Type 0} → Pair p ≡ End → A
+    other : {A : Type 0} → ◌≡◌ {A = Result (Option AvPair) Refusal} (Ok (Some p)) (Ok None) → A
     other e = absurd (let z : ◌≡◌ {A = ℕ} 0 1 = cc in omega arith)
-asked s at End j =
+asked s at (Ok None) j =
     record {
       pair = λ q. (λ e. other e, λ w. absurd (pair_or_stop s at w.there j));
       end = (λ e. j, λ h. refl);
@@ -63,9 +63,9 @@ asked s at End j =
       stays = λ no. refl;
     }
   where
-    other : {A : Type 0} {q : AvPair} → End ≡ Pair q → A
+    other : {A : Type 0} {q : AvPair} → ◌≡◌ {A = Result (Option AvPair) Refusal} (Ok None) (Ok (Some q)) → A
     other e = absurd (let z : ◌≡◌ {A = ℕ} 0 1 = cc in omega arith)
-asked s at (Refused x) j =
+asked s at (Err x) j =
     record {
       pair = λ q. (λ e. other e, λ w. absurd (pair_or_fault s at (number_of x) w.there j.2));
       end = (λ e. ended e, λ h. absurd (stop_or_fault s at (number_of x) h j.0 j.2));
@@ -77,10 +77,10 @@ asked s at (Refused x) j =
       stays = λ no. refl;
     }
   where
-    other : {A : Type 0} {q : AvPair} → Refused x ≡ Pair q → A
+    other : {A : Type 0} {q : AvPair} → ◌≡◌ {A = Result (Option AvPair) Refusal} (Err x) (Ok (Some q)) → A
     other e = absurd (let z : ◌≡◌ {A = ℕ} 0 1 = cc in omega arith)
 
-    ended : {A : Type 0} → Refused x ≡ End → A
+    ended : {A : Type 0} → ◌≡◌ {A = Result (Option AvPair) Refusal} (Err x) (Ok None) → A
     ended e = absurd (let z : ◌≡◌ {A = ℕ} 0 1 = cc in omega arith)
 
 pub asking_gives : AskingGives

@@ -1,5 +1,7 @@
 -- A night's messages: what each place is answered, and what the answers depend on.
 pub mod Example
+use Rattle.std.specs.Prelude.{Result, Err, ⊤}
+use Rattle.wire.specs.declared.refusal.Refusal.{Refusal}
 use Prim.Native.Nat.{ℕ, zero, suc, ◌+◌, ◌≤◌, ◌<◌}
 use mathlib.Core.Path.{◌≡◌, refl, sym, ap, ◌∙◌}
 use mathlib.Core.Logic.{◌⊎◌, inl, inr}
@@ -10,8 +12,6 @@ use lib.Dec.{leb, eqb}
 use lib.ListN.{length, take, drop, get_or, length-take, length-drop}
 use lib.Seq.{get_or-take, get_or-drop}
 use borrow.Author.Tests.{leb-true, leb-false, le-leb, lt-leb, eqb-true, eqb-false, ne_eqb}
-use Rattle.wire.specs.declared.check.Verdict.{Verdict}
-use Rattle.wire.specs.declared.check.Verdict.TheVariants.{Refused as Not}
 use Rattle.wire.specs.declared.refusal.Refusal.TheVariants.{WrongType, PlaceOutside}
 use Rattle.wire.specs.Check.{checked, after}
 use Rattle.head.specs.declared.Kind.{Kind}
@@ -50,7 +50,7 @@ by_kind Authenticate m s h = rw h
 abbrev KindOrNone : ℕ → Type 0
 KindOrNone m = ((k : Kind) × (m ≡ mark_of k)) ⊎ ((k : Kind) → m ≡ mark_of k → ⊥)
 
-by_none : (m : ℕ) (s : List ℕ) → ((k : Kind) → m ≡ mark_of k → ⊥) → read_marked m s ≡ Not WrongType
+by_none : (m : ℕ) (s : List ℕ) → ((k : Kind) → m ≡ mark_of k → ⊥) → read_marked m s ≡ Err WrongType
 by_none m s none = simp (ne_eqb m 1 (none Negotiate), ne_eqb m 2 (none Challenge), ne_eqb m 3 (none Authenticate))
 
 kind_or_none : (m : ℕ) → KindOrNone m
@@ -69,10 +69,10 @@ kind_or_none m = one (eqb m 1) (eqb m 2) (eqb m 3) refl refl refl where
 -- ---- an entry
 
 module _ (s : List ℕ) (x : Entry) where
-  abbrev v : Verdict
+  abbrev v : Result ⊤ Refusal
   v = at_place s x.start x.length (read_marked x.mark)
 
-  when_outside : Passes s x → v ≡ Not PlaceOutside
+  when_outside : Passes s x → v ≡ Err PlaceOutside
   when_outside l = simp (lt-leb (x.start + x.length) (length s) l)
 
   when_inside : Inside s x → v ≡ read_marked x.mark (message s x)
@@ -142,11 +142,11 @@ map_same : (f g : Entry → Entry) (es : List Entry) → ((e : Entry) → Listed
 map_same f g [] h = refl
 map_same f g (e ∷ es) h = λ i. h e (inl refl) i ∷ map_same f g es (λ x l. h x (inr l)) i
 
-at_same : (s t : List ℕ) (start len : ℕ) (read : List ℕ → Verdict) → length s ≡ length t →
+at_same : (s t : List ℕ) (start len : ℕ) (read : List ℕ → Result ⊤ Refusal) → length s ≡ length t →
     (start + len ≤ length s → read (take len (drop start s)) ≡ read (take len (drop start t))) → at_place s start len read ≡ at_place t start len read
 at_same s t start len read long h = rw (← long) (go (leb (start + len) (length s)) refl) where
   go : (b : Bool) → leb (start + len) (length s) ≡ b →
-      after (checked b) (Not PlaceOutside) (read (take len (drop start s))) ≡ after (checked b) (Not PlaceOutside) (read (take len (drop start t)))
+      after (checked b) (Err PlaceOutside) (read (take len (drop start s))) ≡ after (checked b) (Err PlaceOutside) (read (take len (drop start t)))
   go true e = h (leb-true (start + len) (length s) e)
   go false e = refl
 
@@ -157,7 +157,7 @@ SameRead s t e = Inside s e → (k : Kind) → Marked e k → read_as k (message
 entry_same : (s t : List ℕ) (e : Entry) → length s ≡ length t → SameRead s t e → with_answer s e ≡ with_answer t e
 unfolding with_answer
 entry_same s t e long h =
-    ap (λ (v : Verdict). record { start = e.start; length = e.length; mark = e.mark; answer = answer_of v })
+    ap (λ (v : Result ⊤ Refusal). record { start = e.start; length = e.length; mark = e.mark; answer = answer_of v })
     (at_same s t e.start e.length (read_marked e.mark) long (λ l. go l (kind_or_none e.mark)))
   where
     go : Inside s e → KindOrNone e.mark → read_marked e.mark (message s e) ≡ read_marked e.mark (message t e)

@@ -1,4 +1,5 @@
 -- Tests and what they say.
+use Rattle.std.specs.Prelude.{Result, Ok, Err, ⊤}
 use Prim.Native.Nat.{ℕ, ◌/◌, ◌%◌}
 use mathlib.Core.Path.{◌≡◌, refl, sym, ◌∙◌}
 use mathlib.Core.Logic.{◌⊎◌, inl, inr}
@@ -6,8 +7,6 @@ use mathlib.Core.Bool.{Bool, true, false, ◌||◌}
 use native.Mathlib.Omega.{arith}
 use Rattle.wire.specs.declared.check.Checked.TheVariants.{Held, Failed}
 use Rattle.wire.specs.declared.check.Checked.{Checked}
-use Rattle.wire.specs.declared.check.Verdict.{Verdict}
-use Rattle.wire.specs.declared.check.Verdict.TheVariants.{Clear, Refused as Not}
 use Rattle.wire.specs.declared.refusal.Refusal.{Refusal}
 use Rattle.wire.specs.Check.{checked, after}
 
@@ -39,7 +38,7 @@ chained P Held e x f h = h refl
 chained P Failed e x f h = f refl
 
 -- a chain that came to its end: its first check held
-pub after_held : (c : Checked) (e : Refusal) (x : Verdict) → after c (Not e) x ≡ Clear → (c ≡ Held) × (x ≡ Clear)
+pub after_held : (c : Checked) (e : Refusal) (x : Result ⊤ Refusal) → after c (Err e) x ≡ Ok tt → (c ≡ Held) × (x ≡ Ok tt)
 after_held Held e x h = (refl, h)
 after_held Failed e x h = (cc, cc)
 

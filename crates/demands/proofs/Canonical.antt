@@ -1,6 +1,7 @@
 -- One meaning, one writing.
 pub mod CanonicalWritten
 pub mod Example
+use Rattle.std.specs.Prelude.{Result, Ok, Err}
 use Prim.Native.Nat.{ℕ, ◌+◌, ◌≤◌}
 use mathlib.Core.Path.{◌≡◌, refl, sym, ap, ◌∙◌, subst}
 use mathlib.Core.Bool.{Bool, true, false, cond}
@@ -8,15 +9,11 @@ use mathlib.Core.List.{List, []}
 use native.Mathlib.Omega.{arith}
 use lib.Dec.{leb}
 use lib.ListN.{length, take, drop, length-take, length-drop}
-use Rattle.wire.specs.declared.check.Verdict.TheVariants.{Refused as Not}
 use Rattle.wire.specs.declared.refusal.Refusal.{Refusal}
 use Rattle.field.specs.declared.Field.{Field}
 use Rattle.field.specs.Field.{field_bytes}
-use Rattle.place.specs.declared.written.Written.TheVariants.{Length, Refused as Unwritten}
 use Rattle.read_authenticate.specs.declared.Authenticate.{Authenticate}
 use Rattle.read_authenticate.specs.declared.Fields.{Fields}
-use Rattle.read_authenticate.specs.declared.Reading.{Reading}
-use Rattle.read_authenticate.specs.declared.Reading.TheVariants.{Taken, Refused}
 use Rattle.read_authenticate.specs.Authenticate.{read_authenticate}
 use Rattle.write_authenticate.specs.Writing.{authenticate_bytes, check_to_write, write_answer, write_out}
 use Rattle.write_authenticate.proofs.Sent.{length-message, length-payload}
@@ -50,7 +47,7 @@ use Rattle.demands.proofs.WrittenExactly.MessagesWritten.{authenticate_written}
 
 -- ---- meaning
 
-pub each_means : (s : List ℕ) (a : Authenticate) → (read_authenticate s).reading ≡ Taken a → Means s (meaning_of s (read_authenticate s).mic a)
+pub each_means : (s : List ℕ) (a : Authenticate) → (read_authenticate s).reading ≡ Ok a → Means s (meaning_of s (read_authenticate s).mic a)
 unfolding meaning_of
 each_means s a h =
     record {
@@ -68,9 +65,9 @@ each_means s a h =
 
 pub meaning_is_there : MeaningIsThere
 meaning_is_there s t = go (read_authenticate s).reading refl t where
-  go : (r : Reading) → (read_authenticate s).reading ≡ r → IsTaken (auth_verdict r) → (m : Meaning) × Means s m
-  go (Taken a) p u = (meaning_of s (read_authenticate s).mic a, each_means s a p)
-  go (Refused e) p u = absurd u
+  go : (r : Result Authenticate Refusal) → (read_authenticate s).reading ≡ r → IsTaken (auth_verdict r) → (m : Meaning) × Means s m
+  go (Ok a) p u = (meaning_of s (read_authenticate s).mic a, each_means s a p)
+  go (Err e) p u = absurd u
 
 module _ (s : List ℕ) (m : Meaning) (x : Means s m) where
   -- the meaning is made of what the reading answers
@@ -92,29 +89,29 @@ module _ (s : List ℕ) (m : Meaning) (x : Means s m) where
   pub answer_of : (room : ℕ) → canonical_answer room s ≡ meaning_answer room m
   unfolding canonical_answer
   answer_of room =
-      ap (λ (r : Reading). on_meaning Unwritten s (read_authenticate s).mic r (λ k. meaning_answer room k)) x.read
+      ap (λ (r : Result Authenticate Refusal). on_meaning Err s (read_authenticate s).mic r (λ k. meaning_answer room k)) x.read
       ∙ ap (λ (k : Meaning). meaning_answer room k) made
 
   pub output_of : (out : List ℕ) → canonical_out out s ≡ meaning_out out m
   unfolding canonical_out
   output_of out =
-      ap (λ (r : Reading). on_meaning (λ e. out) s (read_authenticate s).mic r (λ k. meaning_out out k)) x.read
+      ap (λ (r : Result Authenticate Refusal). on_meaning (λ e. out) s (read_authenticate s).mic r (λ k. meaning_out out k)) x.read
       ∙ ap (λ (k : Meaning). meaning_out out k) made
 
   pub mic_long : length m.mic ≡ 16
   mic_long = ap length (sym x.mic) ∙ mic_16 s
 
 -- nothing is made of a message that is refused
-module _ (s : List ℕ) (e : Refusal) (h : (read_authenticate s).reading ≡ Refused e) where
-  pub answer_refused : (room : ℕ) → canonical_answer room s ≡ Unwritten e
+module _ (s : List ℕ) (e : Refusal) (h : (read_authenticate s).reading ≡ Err e) where
+  pub answer_refused : (room : ℕ) → canonical_answer room s ≡ Err e
   unfolding canonical_answer
-  answer_refused room = ap (λ (r : Reading). on_meaning Unwritten s (read_authenticate s).mic r (λ k. meaning_answer room k)) h
+  answer_refused room = ap (λ (r : Result Authenticate Refusal). on_meaning Err s (read_authenticate s).mic r (λ k. meaning_answer room k)) h
 
   pub output_refused : (out : List ℕ) → canonical_out out s ≡ out
   unfolding canonical_out
-  output_refused out = ap (λ (r : Reading). on_meaning (λ d. out) s (read_authenticate s).mic r (λ k. meaning_out out k)) h
+  output_refused out = ap (λ (r : Result Authenticate Refusal). on_meaning (λ d. out) s (read_authenticate s).mic r (λ k. meaning_out out k)) h
 
-one_message : (a b : Authenticate) → Taken a ≡ Taken b → a ≡ b
+one_message : (a b : Authenticate) → ◌≡◌ {A = Result Authenticate Refusal} (Ok a) (Ok b) → a ≡ b
 one_message a b h = cc
 
 pub one_meaning : OneMeaning
@@ -144,14 +141,14 @@ size_for_lem m m16 =
     ∙ ap (λ (n : ℕ). 88 + n) (length-payload m.lm m.nt m.domain m.user m.workstation m.key)
 
 -- a meaning that is written stands at the output's front
-front_is : (m : Meaning) (out : List ℕ) (n : ℕ) → meaning_answer (length out) m ≡ Length n → take n (meaning_out out m) ≡ bytes_for m
+front_is : (m : Meaning) (out : List ℕ) (n : ℕ) → meaning_answer (length out) m ≡ Ok n → take n (meaning_out out m) ≡ bytes_for m
 unfolding meaning_answer meaning_out write_answer write_out
 front_is m out n h =
     (written_is (check_to_write (length out) m.flags m.lm m.nt m.domain m.user m.workstation m.key) (bytes_for m) out n h).1
 
 -- a meaning that is written into one output is written into every one that has room for it
-again : (m : Meaning) (room n more : ℕ) → length m.mic ≡ 16 → meaning_answer room m ≡ Length n → size_for m ≤ more →
-    meaning_answer more m ≡ Length (size_for m)
+again : (m : Meaning) (room n more : ℕ) → length m.mic ≡ 16 → meaning_answer room m ≡ Ok n → size_for m ≤ more →
+    meaning_answer more m ≡ Ok (size_for m)
 unfolding meaning_answer
 again m room n more m16 h l = ((exact more).written (size_for m)).1 (none, refl) where
   F : ℕ → ℕ → ℕ → Type 0
@@ -172,7 +169,7 @@ again m room n more m16 h l = ((exact more).written (size_for m)).1 (none, refl)
       on_row 33 k _ _ ⊥ (λ e p. omega (arith, p.1, l)) (λ x. x)))))
 
 module _ (s w : List ℕ) (m : Meaning) (x : Means s m) (y : WrittenAs s w) where
-  answer_is : meaning_answer (length y.out) m ≡ Length y.size
+  answer_is : meaning_answer (length y.out) m ≡ Ok y.size
   answer_is = sym (answer_of s m x (length y.out)) ∙ y.answer
 
   front : take y.size (meaning_out y.out m) ≡ w
@@ -216,12 +213,12 @@ one_writing s t w v m n x y p q = (
 -- what is written was taken
 written_means : (s w : List ℕ) → WrittenAs s w → (m : Meaning) × Means s m
 written_means s w y = go (read_authenticate s).reading refl where
-  never : (e : Refusal) (n : ℕ) → Unwritten e ≡ Length n → ⊥
+  never : (e : Refusal) (n : ℕ) → ◌≡◌ {A = Result ℕ Refusal} (Err e) (Ok n) → ⊥
   never e n h = let z : ◌≡◌ {A = ℕ} 0 1 = cc in omega arith
 
-  go : (r : Reading) → (read_authenticate s).reading ≡ r → (m : Meaning) × Means s m
-  go (Taken a) p = (meaning_of s (read_authenticate s).mic a, each_means s a p)
-  go (Refused e) p = absurd (never e y.size (sym (answer_refused s e p (length y.out)) ∙ y.answer))
+  go : (r : Result Authenticate Refusal) → (read_authenticate s).reading ≡ r → (m : Meaning) × Means s m
+  go (Ok a) p = (meaning_of s (read_authenticate s).mic a, each_means s a p)
+  go (Err e) p = absurd (never e y.size (sym (answer_refused s e p (length y.out)) ∙ y.answer))
 
 pub written_again : WrittenAgain
 written_again s w out y l =
@@ -230,8 +227,8 @@ written_again s w out y l =
     let x = mx.1 in
     let n = size_is s w m x y in
     let b = meaning_back s w m x y in
-    let r : meaning_answer (length out) m ≡ Length (length w) =
-    again m (length y.out) y.size (length out) (mic_long s m x) (answer_is s w m x y) (omega (arith, n, l)) ∙ ap Length (sym n) in (
+    let r : meaning_answer (length out) m ≡ Ok (length w) =
+    again m (length y.out) y.size (length out) (mic_long s m x) (answer_is s w m x y) (omega (arith, n, l)) ∙ ap Ok (sym n) in (
       answer_of w m b (length out) ∙ r,
       ap (λ (k : List ℕ). take (length w) k) (output_of w m b out) ∙ front_is m out (length w) r ∙ sym (whole s w m x y),
     )
@@ -250,18 +247,18 @@ written_by_layout s w m x y =
 pub canonical_kept : CanonicalKept
 unfolding meaning_answer meaning_out
 canonical_kept out s = go (read_authenticate s).reading refl where
-  go : (r : Reading) → (read_authenticate s).reading ≡ r → Kept (canonical_answer (length out) s) out (canonical_out out s)
-  go (Taken a) p =
+  go : (r : Result Authenticate Refusal) → (read_authenticate s).reading ≡ r → Kept (canonical_answer (length out) s) out (canonical_out out s)
+  go (Ok a) p =
       let m = meaning_of s (read_authenticate s).mic a in
       let x = each_means s a p in
       rw (answer_of s m x (length out), output_of s m x out)
       (authenticate_kept out m.flags zero_version m.mic m.lm m.nt m.domain m.user m.workstation m.key refl (mic_long s m x))
-  go (Refused e) p =
+  go (Err e) p =
       rw (answer_refused s e p (length out), output_refused s e p out)
-      (kept_laws.by_verdict (Not e) [] out (λ h. absurd (let z : ◌≡◌ {A = ℕ} 0 1 = cc in omega arith)))
+      (kept_laws.by_verdict (Err e) [] out (λ h. absurd (let z : ◌≡◌ {A = ℕ} 0 1 = cc in omega arith)))
 
 -- two messages that are refused alike
-refused_alike : (s t : List ℕ) (e : Refusal) → (read_authenticate s).reading ≡ Refused e → (read_authenticate t).reading ≡ Refused e → SameCanonical s t
+refused_alike : (s t : List ℕ) (e : Refusal) → (read_authenticate s).reading ≡ Err e → (read_authenticate t).reading ≡ Err e → SameCanonical s t
 refused_alike s t e p q =
     record {
       answer = λ room. answer_refused s e p room ∙ sym (answer_refused t e q room);
@@ -269,17 +266,17 @@ refused_alike s t e p q =
     }
 
 -- a message that is refused, or taken, alike but for MaxLen
-refused_too : (r : Reading) (e : Refusal) → Refused e ≡ authenticate_without_max_len r → r ≡ Refused e
-refused_too (Taken a) e h = absurd (let z : ◌≡◌ {A = ℕ} 0 1 = cc in omega arith)
-refused_too (Refused x) e h = sym h
+refused_too : (r : Result Authenticate Refusal) (e : Refusal) → Err e ≡ authenticate_without_max_len r → r ≡ Err e
+refused_too (Ok a) e h = absurd (let z : ◌≡◌ {A = ℕ} 0 1 = cc in omega arith)
+refused_too (Err x) e h = sym h
 
-abbrev fields_of : Fields → Reading → Fields
-fields_of d (Taken a) = a.fields
-fields_of d (Refused e) = d
+abbrev fields_of : Fields → Result Authenticate Refusal → Fields
+fields_of d (Ok a) = a.fields
+fields_of d (Err e) = d
 
-abbrev bits_of : Reading → ℕ
-bits_of (Taken a) = a.flags.bits
-bits_of (Refused e) = 0
+abbrev bits_of : Result Authenticate Refusal → ℕ
+bits_of (Ok a) = a.flags.bits
+bits_of (Err e) = 0
 
 pub canonical_ignored : CanonicalIgnored
 unfolding meaning_of field_bytes
@@ -287,11 +284,11 @@ canonical_ignored s t d = go (read_authenticate s).reading refl where
   same : SameAnswer s t
   same = authenticate_ignored s t d
 
-  both : (a x : Authenticate) → (read_authenticate s).reading ≡ Taken a → (read_authenticate t).reading ≡ Taken x → SameCanonical s t
+  both : (a x : Authenticate) → (read_authenticate s).reading ≡ Ok a → (read_authenticate t).reading ≡ Ok x → SameCanonical s t
   both a x p q =
       let m = meaning_of s (read_authenticate s).mic a in
       let b : SameFields s t a.fields = same.bytes a p in
-      let e : authenticate_without_max_len (Taken x) ≡ authenticate_without_max_len (Taken a) =
+      let e : authenticate_without_max_len (Ok x) ≡ authenticate_without_max_len (Ok a) =
       sym (ap authenticate_without_max_len q) ∙ sym same.reading ∙ ap authenticate_without_max_len p in
       let f = ap (fields_of a.fields) e in
       canonical_by_meaning s t m (each_means s a p)
@@ -308,16 +305,16 @@ canonical_ignored s t d = go (read_authenticate s).reading refl where
         key = ap (λ (z : Fields). field_bytes t z.key) f ∙ sym b.key;
       })
 
-  taken : (r : Reading) (a : Authenticate) → (read_authenticate s).reading ≡ Taken a → (read_authenticate t).reading ≡ r → SameCanonical s t
-  taken (Taken x) a p q = both a x p q
-  taken (Refused e) a p q =
-      let h : Refused e ≡ authenticate_without_max_len (read_authenticate s).reading = sym (ap authenticate_without_max_len q) ∙ sym same.reading in
-      let z : (read_authenticate s).reading ≡ Refused e = refused_too (read_authenticate s).reading e h in
+  taken : (r : Result Authenticate Refusal) (a : Authenticate) → (read_authenticate s).reading ≡ Ok a → (read_authenticate t).reading ≡ r → SameCanonical s t
+  taken (Ok x) a p q = both a x p q
+  taken (Err e) a p q =
+      let h : Err e ≡ authenticate_without_max_len (read_authenticate s).reading = sym (ap authenticate_without_max_len q) ∙ sym same.reading in
+      let z : (read_authenticate s).reading ≡ Err e = refused_too (read_authenticate s).reading e h in
       refused_alike s t e z q
 
-  go : (r : Reading) → (read_authenticate s).reading ≡ r → SameCanonical s t
-  go (Taken a) p = taken (read_authenticate t).reading a p refl
-  go (Refused e) p = refused_alike s t e p (refused_too (read_authenticate t).reading e (sym (ap authenticate_without_max_len p) ∙ same.reading))
+  go : (r : Result Authenticate Refusal) → (read_authenticate s).reading ≡ r → SameCanonical s t
+  go (Ok a) p = taken (read_authenticate t).reading a p refl
+  go (Err e) p = refused_alike s t e p (refused_too (read_authenticate t).reading e (sym (ap authenticate_without_max_len p) ∙ same.reading))
 
 field_long : (s t : List ℕ) (f : Field) → length s ≡ length t → length (field_bytes s f) ≡ length (field_bytes t f)
 unfolding field_bytes
@@ -332,11 +329,11 @@ canonical_secret s t d = go (read_authenticate s).reading refl where
   same : SamePublic s t
   same = secret_read s t d
 
-  never : (e : Refusal) (n : ℕ) → Unwritten e ≡ Length n → ⊥
+  never : (e : Refusal) (n : ℕ) → ◌≡◌ {A = Result ℕ Refusal} (Err e) (Ok n) → ⊥
   never e n h = let z : ◌≡◌ {A = ℕ} 0 1 = cc in omega arith
 
-  go : (r : Reading) → (read_authenticate s).reading ≡ r → SecretsWritten s t
-  go (Taken a) p =
+  go : (r : Result Authenticate Refusal) → (read_authenticate s).reading ≡ r → SecretsWritten s t
+  go (Ok a) p =
       let m = meaning_of s (read_authenticate s).mic a in
       let x = each_means s a p in
       let k : Meaning = record { flags = a.flags; mic = (read_authenticate t).mic; lm = field_bytes t a.fields.lm; nt = field_bytes t a.fields.nt; domain = m.domain; user = m.user; workstation = m.workstation; key = field_bytes t a.fields.key } in
@@ -371,7 +368,7 @@ canonical_secret s t d = go (read_authenticate s).reading refl where
             (written_alike out out' l a.flags zero_version m.domain m.user m.workstation m.mic m.lm m.nt m.key k.mic k.lm k.nt k.key refl long n
             (sym (answer_of s m x (length out)) ∙ h));
       }
-  go (Refused e) p =
+  go (Err e) p =
       record {
         answer = (refused_alike s t e p (sym same.reading ∙ p)).answer;
         message = λ out out' n l h. absurd (never e n (sym (answer_refused s e p (length out)) ∙ h));
@@ -382,24 +379,24 @@ canonical_secret s t d = go (read_authenticate s).reading refl where
 pub canonical_short : CanonicalShort
 unfolding meaning_answer
 canonical_short room s n h = go (read_authenticate s).reading refl where
-  never : (e : Refusal) → Unwritten e ≡ Length n → ⊥
+  never : (e : Refusal) → ◌≡◌ {A = Result ℕ Refusal} (Err e) (Ok n) → ⊥
   never e q = let z : ◌≡◌ {A = ℕ} 0 1 = cc in omega arith
 
-  go : (r : Reading) → (read_authenticate s).reading ≡ r → n ≤ 65535
-  go (Taken a) p =
+  go : (r : Result Authenticate Refusal) → (read_authenticate s).reading ≡ r → n ≤ 65535
+  go (Ok a) p =
       let m = meaning_of s (read_authenticate s).mic a in
       let x = each_means s a p in
       writing_short (write_authenticate room m.flags zero_version m.mic m.lm m.nt m.domain m.user m.workstation m.key refl (mic_long s m x)) n
       (sym (answer_of s m x room) ∙ h)
-  go (Refused e) p = absurd (never e (sym (answer_refused s e p room) ∙ h))
+  go (Err e) p = absurd (never e (sym (answer_refused s e p room) ∙ h))
 
 pub canonical_decodes : CanonicalDecodes
 unfolding meaning_answer
 canonical_decodes room s = go (read_authenticate s).reading refl where
-  go : (r : Reading) → (read_authenticate s).reading ≡ r → DecodesWritten (written_number (canonical_answer room s)) (canonical_answer room s)
-  go (Taken a) p =
+  go : (r : Result Authenticate Refusal) → (read_authenticate s).reading ≡ r → DecodesWritten (written_number (canonical_answer room s)) (canonical_answer room s)
+  go (Ok a) p =
       let m = meaning_of s (read_authenticate s).mic a in
       let x = each_means s a p in
       rw (answer_of s m x room)
       (writing_decodes (write_authenticate room m.flags zero_version m.mic m.lm m.nt m.domain m.user m.workstation m.key refl (mic_long s m x)))
-  go (Refused e) p = rw (answer_refused s e p room) (decodes_refusal e (authenticate_small s e p))
+  go (Err e) p = rw (answer_refused s e p room) (decodes_refusal e (authenticate_small s e p))

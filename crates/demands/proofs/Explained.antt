@@ -5,6 +5,7 @@ pub mod Reasons
 pub mod Same
 pub mod Short
 pub mod Example
+use Rattle.std.specs.Prelude.{Err}
 use Prim.Native.Nat.{ℕ, ◌+◌, ◌≤◌, ◌<◌}
 use mathlib.Core.Path.{◌≡◌, refl, sym, ap, ◌∙◌, subst}
 use mathlib.Core.Logic.{◌⊎◌, inl, inr, ⊎_elim}
@@ -15,7 +16,6 @@ use lib.Dec.{ltb, eqb}
 use lib.ListN.{length, take, drop, get_or, length-take}
 use lib.Seq.{get_or-take, get_or-drop}
 use borrow.Author.Tests.{eqb-true, eqb-false, eq-eqb, ne_eqb, ltb-true, lt-ltb, le-ltb}
-use Rattle.wire.specs.declared.check.Verdict.TheVariants.{Refused as Not}
 use Rattle.wire.specs.declared.refusal.Refusal.{Refusal}
 use Rattle.wire.specs.Number.{u16_at}
 use Rattle.wire.specs.Refusal.{number_of, field_of}
@@ -175,7 +175,7 @@ module _ (k : Kind) (s : List ℕ) where
   unfolding figures_as
   given_taken t = simp (taken_clear (read_as k s) t)
 
-  given_refused : (e : Refusal) → read_as k s ≡ Not e → given ≡ figures_of s (field_numbered (field_of e) (fields_by_number k s)) e
+  given_refused : (e : Refusal) → read_as k s ≡ Err e → given ≡ figures_of s (field_numbered (field_of e) (fields_by_number k s)) e
   unfolding figures_as
   given_refused e h = simp h
 

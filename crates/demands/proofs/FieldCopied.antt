@@ -1,4 +1,5 @@
 -- A copy of a field from C.
+use Rattle.std.specs.Prelude.{Err}
 use Prim.Native.Nat.{ℕ, ◌+◌, ◌≤◌, ◌<◌}
 use mathlib.Core.Path.{◌≡◌, refl}
 use mathlib.Core.Bool.{Bool, true, false, ◌||◌, cond}
@@ -9,13 +10,11 @@ use lib.ListN.{length, take, drop, length-take, length-drop}
 use borrow.Author.Tests.{eq-eqb, ne_eqb, le-leb, lt-leb}
 use Rattle.wire.specs.declared.check.Checked.{Checked}
 use Rattle.wire.specs.declared.check.Checked.TheVariants.{Held, Failed}
-use Rattle.wire.specs.declared.check.Verdict.TheVariants.{Refused as Not}
 use Rattle.wire.specs.declared.refusal.Refusal.TheVariants.{PastEnd}
 use Rattle.wire.specs.Check.{checked, after}
 use Rattle.field.specs.declared.Field.{Field}
 use Rattle.field.specs.Field.{is_empty, ends_inside, field_bytes}
 use Rattle.field.proofs.Fields.{own_bytes_lem}
-use Rattle.place.specs.declared.written.Written.TheVariants.{Refused}
 use Rattle.place.specs.Written.{bytes_answer, bytes_after}
 use Rattle.c_read.specs.FieldCopy.{field_copy_answer, field_copy_out}
 use Rattle.demands.specs.Kept.{Kept}
@@ -68,7 +67,7 @@ pub field_copy_kept : FieldCopyKept
 unfolding field_copy_answer field_copy_out
 field_copy_kept s out f = go (ends_inside (length s) f) where
   go : (k : Checked) →
-      Kept (after k (Refused (PastEnd 0)) (bytes_answer (field_bytes s f) out)) out
+      Kept (after k (Err (PastEnd 0)) (bytes_answer (field_bytes s f) out)) out
       (after k out (bytes_after (field_bytes s f) out))
   go Held = line_kept (field_bytes s f) out
-  go Failed = by_verdict (Not (PastEnd 0)) [] out (λ h. omega arith)
+  go Failed = by_verdict (Err (PastEnd 0)) [] out (λ h. omega arith)

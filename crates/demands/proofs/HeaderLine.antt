@@ -1,6 +1,8 @@
 -- Header lines: refused exactly when, given back, told apart.
 pub mod Text
 pub mod Lines
+use Rattle.std.specs.Prelude.{Result, Ok, Err, ⊤}
+use Rattle.wire.specs.declared.refusal.Refusal.{Refusal}
 use Prim.Native.Nat.{ℕ, suc, ◌+◌, ◌*◌, ◌/◌, ◌≤◌, ◌<◌}
 use mathlib.Core.Path.{◌≡◌, refl, sym, ap, ap₂, ◌∙◌, subst}
 use mathlib.Core.Logic.{inl}
@@ -13,12 +15,9 @@ use lib.Seq.{take-append_seam}
 use borrow.Author.Tests.{leb-true, leb-false, le-leb, ltb-true, lt-ltb}
 use Rattle.wire.specs.Text.{ascii}
 use Rattle.wire.specs.declared.check.Checked.TheVariants.{Held, Failed}
-use Rattle.wire.specs.declared.check.Verdict.{Verdict}
-use Rattle.wire.specs.declared.check.Verdict.TheVariants.{Clear, Refused as Not}
 use Rattle.wire.specs.declared.refusal.Refusal.TheVariants.{TooLong, NoRoom, WrongScheme, WrongBase64}
 use Rattle.wire.proofs.Laws.{held_true}
 use Rattle.wire.proofs.Bools.{and_left}
-use Rattle.place.specs.declared.written.Written.TheVariants.{Length}
 use Rattle.place.specs.Written.{answered, out_after, room_holds}
 use Rattle.base64_text.specs.Base64.{alphabet, letter, three, two, one, encode, is_letter, value_of, group_holds, group_bytes, is_base64, decode}
 use Rattle.base64_text.proofs.Alphabet.{is_letter_lem}
@@ -41,10 +40,10 @@ use Rattle.demands.proofs.HeaderLine.Lines.{scheme_held, held_scheme, starts_so,
 -- ---- refused exactly when
 
 -- a writing whose length is known where its verdict is clear
-by_clear : (order : List ℕ) (F : ℕ → ℕ → Type 0) → Rows order F → (k : ℕ) → rank_in order k ≡ length order → (v : Verdict) (bytes : List ℕ) (size : ℕ) →
-    (v ≡ Clear → length bytes ≡ size) → JudgedBy (rank_in order) F k v → WrittenExactly (answered v bytes) order F size
-by_clear order F r k e Clear bytes size l j = by_verdict order F r k e Clear bytes size (l refl) j
-by_clear order F r k e (Not d) bytes size l j = by_verdict order F r k e (Not d) (replicate size 0) size (length-replicate size 0) j
+by_clear : (order : List ℕ) (F : ℕ → ℕ → Type 0) → Rows order F → (k : ℕ) → rank_in order k ≡ length order → (v : Result ⊤ Refusal) (bytes : List ℕ) (size : ℕ) →
+    (v ≡ Ok tt → length bytes ≡ size) → JudgedBy (rank_in order) F k v → WrittenExactly (answered v bytes) order F size
+by_clear order F r k e (Ok tt) bytes size l j = by_verdict order F r k e (Ok tt) bytes size (l refl) j
+by_clear order F r k e (Err d) bytes size l j = by_verdict order F r k e (Err d) (replicate size 0) size (length-replicate size 0) j
 
 module _ (room : ℕ) (t : List ℕ) where
   abbrev text : List ℕ
@@ -59,13 +58,13 @@ module _ (room : ℕ) (t : List ℕ) where
   text_judged : FreeBy rank F 58 0 → JudgedBy rank F 0 (check_text room text)
   unfolding check_text
   text_judged free =
-      chained (JudgedBy rank F 0) (base64_holds text) (Not WrongBase64) _
+      chained (JudgedBy rank F 0) (base64_holds text) (Err WrongBase64) _
       (λ f. first_by rank F 58 0 free (refl, has_fault text (failed_false (is_base64 text) f)))
       (λ h58.
       let g = held_true (is_base64 text) h58 in
       let size = size_is text g in
       let free1 = next import_order F 58 1 refl (omega arith) free (λ j x. no_fault text g x.1) in
-      chained (JudgedBy rank F 0) (message_holds (length (decode text))) (Not TooLong) _
+      chained (JudgedBy rank F 0) (message_holds (length (decode text))) (Err TooLong) _
       (λ f. first_by rank F 1 0 free1 (refl, omega (arith, size, leb-false (length (decode text)) 65535 (failed_false _ f))))
       (λ h1.
       room_judged import_order F room (decoded_size text) (length (decode text)) size (λ l. (refl, l)) (λ j x. x.1) refl (omega arith)
@@ -76,14 +75,14 @@ module _ (room : ℕ) (t : List ℕ) where
   unfolding check_import
   import_judged =
       let none = free_at_first import_order F 57 refl in
-      chained (JudgedBy rank F 0) (scheme_holds t) (Not WrongScheme) (check_text room text)
+      chained (JudgedBy rank F 0) (scheme_holds t) (Err WrongScheme) (check_text room text)
       (λ f. first_by rank F 57 0 none (refl, λ s. never (sym (scheme_held t s) ∙ f)))
       (λ h. text_judged (next import_order F 57 58 refl (omega arith) none (λ j x. x.1 (held_scheme t h))))
     where
       never : Held ≡ Failed → ⊥
       never e = let z : ◌≡◌ {A = ℕ} 0 1 = cc in omega arith
 
-  import_base64 : check_import room t ≡ Clear → is_base64 text ≡ true
+  import_base64 : check_import room t ≡ Ok tt → is_base64 text ≡ true
   unfolding check_import check_text
   import_base64 h = held_true (is_base64 text) (after_held (base64_holds text) WrongBase64 _ (after_held (scheme_holds t) WrongScheme _ h).1).0
 
@@ -106,7 +105,7 @@ module _ (room : ℕ) (m : List ℕ) where
   unfolding check_export
   export_judged =
       let none = free_at_first (1 ∷ 33 ∷ []) G 1 refl in
-      chained (JudgedBy (rank_in (1 ∷ 33 ∷ [])) G 0) (message_holds (length m)) (Not TooLong) _
+      chained (JudgedBy (rank_in (1 ∷ 33 ∷ [])) G 0) (message_holds (length m)) (Err TooLong) _
       (λ f. first_by (rank_in (1 ∷ 33 ∷ [])) G 1 0 none (refl, leb-false (length m) 65535 (failed_false _ f)))
       (λ h.
       room_judged (1 ∷ 33 ∷ []) G room (line_size m) (length (header_line m)) (line_length m) (λ l. (refl, l)) (λ j x. x.1) refl (omega arith)
@@ -127,7 +126,7 @@ pub record ImportHolds (room : ℕ) (t : List ℕ) : Type 0 where
   pub size : length (decode (text_after_scheme t)) ≤ 65535
   pub room_there : length (decode (text_after_scheme t)) ≤ room
 
-pub import_holds : (room : ℕ) (t : List ℕ) → check_import room t ≡ Clear → ImportHolds room t
+pub import_holds : (room : ℕ) (t : List ℕ) → check_import room t ≡ Ok tt → ImportHolds room t
 unfolding check_import check_text
 import_holds room t h =
     let s = after_held (scheme_holds t) WrongScheme _ h in
@@ -153,27 +152,27 @@ import_kept out t =
 -- ---- from C
 
 module _ (room : ℕ) (m : List ℕ) where
-  abbrev ExportTold : Verdict → Type 0
+  abbrev ExportTold : Result ⊤ Refusal → Type 0
   ExportTold v = DecodesWritten (written_number (answered v (header_line m))) (answered v (header_line m))
 
   export_told : ExportTold (check_export room m)
   unfolding check_export
   export_told =
-      chained ExportTold (message_holds (length m)) (Not TooLong) _ (λ f. decodes_refusal TooLong (omega arith))
-      (λ h. chained ExportTold (room_holds (length (header_line m)) room) (Not NoRoom) Clear (λ f. decodes_refusal NoRoom (omega arith))
+      chained ExportTold (message_holds (length m)) (Err TooLong) _ (λ f. decodes_refusal TooLong (omega arith))
+      (λ h. chained ExportTold (room_holds (length (header_line m)) room) (Err NoRoom) (Ok tt) (λ f. decodes_refusal NoRoom (omega arith))
       (λ k. decodes_length (length (header_line m)) (omega (arith, line_length m, leb-true (length m) 65535 (held_true _ h)))))
 
 module _ (room : ℕ) (t : List ℕ) where
-  abbrev ImportTold : Verdict → Type 0
+  abbrev ImportTold : Result ⊤ Refusal → Type 0
   ImportTold v = DecodesWritten (written_number (answered v (decode (text_after_scheme t)))) (answered v (decode (text_after_scheme t)))
 
   import_told : ImportTold (check_import room t)
   unfolding check_import check_text
   import_told =
-      chained ImportTold (scheme_holds t) (Not WrongScheme) _ (λ f. decodes_refusal WrongScheme (omega arith))
-      (λ s. chained ImportTold (base64_holds (text_after_scheme t)) (Not WrongBase64) _ (λ f. decodes_refusal WrongBase64 (omega arith))
-      (λ g. chained ImportTold (message_holds (length (decode (text_after_scheme t)))) (Not TooLong) _ (λ f. decodes_refusal TooLong (omega arith))
-      (λ h. chained ImportTold (room_holds (length (decode (text_after_scheme t))) room) (Not NoRoom) Clear (λ f. decodes_refusal NoRoom (omega arith))
+      chained ImportTold (scheme_holds t) (Err WrongScheme) _ (λ f. decodes_refusal WrongScheme (omega arith))
+      (λ s. chained ImportTold (base64_holds (text_after_scheme t)) (Err WrongBase64) _ (λ f. decodes_refusal WrongBase64 (omega arith))
+      (λ g. chained ImportTold (message_holds (length (decode (text_after_scheme t)))) (Err TooLong) _ (λ f. decodes_refusal TooLong (omega arith))
+      (λ h. chained ImportTold (room_holds (length (decode (text_after_scheme t))) room) (Err NoRoom) (Ok tt) (λ f. decodes_refusal NoRoom (omega arith))
       (λ k. decodes_length (length (decode (text_after_scheme t))) (omega (arith, leb-true (length (decode (text_after_scheme t))) 65535 (held_true _ h)))))))
 
 pub export_decodes : ExportDecodes
@@ -188,20 +187,20 @@ import_decodes room t = import_told room t
 
 -- a call that is answered with a length wrote these bytes
 module _ (bytes out : List ℕ) (n : ℕ) where
-  clear_answer : (v : Verdict) → answered v bytes ≡ Length n → v ≡ Clear
-  clear_answer Clear h = refl
-  clear_answer (Not e) h = absurd (let z : ◌≡◌ {A = ℕ} 0 1 = cc in omega arith)
+  clear_answer : (v : Result ⊤ Refusal) → answered v bytes ≡ Ok n → v ≡ Ok tt
+  clear_answer (Ok tt) h = refl
+  clear_answer (Err e) h = absurd (let z : ◌≡◌ {A = ℕ} 0 1 = cc in omega arith)
 
-  length-answer : (v : Verdict) → answered v bytes ≡ Length n → length bytes ≡ n
-  length-answer Clear h = cc
-  length-answer (Not e) h = absurd (let z : ◌≡◌ {A = ℕ} 0 1 = cc in omega arith)
+  length-answer : (v : Result ⊤ Refusal) → answered v bytes ≡ Ok n → length bytes ≡ n
+  length-answer (Ok tt) h = cc
+  length-answer (Err e) h = absurd (let z : ◌≡◌ {A = ℕ} 0 1 = cc in omega arith)
 
-  front : (v : Verdict) → answered v bytes ≡ Length n → take n (out_after v bytes out) ≡ bytes
+  front : (v : Result ⊤ Refusal) → answered v bytes ≡ Ok n → take n (out_after v bytes out) ≡ bytes
   front v h =
-      ap₂ (λ (k : ℕ) (w : Verdict). take k (out_after w bytes out)) (sym (length-answer v h)) (clear_answer v h)
+      ap₂ (λ (k : ℕ) (w : Result ⊤ Refusal). take k (out_after w bytes out)) (sym (length-answer v h)) (clear_answer v h)
       ∙ take-append_seam bytes (drop (length bytes) out)
 
-exported : (out m : List ℕ) (n : ℕ) → export_answer (length out) m ≡ Length n → take n (export_out out m) ≡ header_line m
+exported : (out m : List ℕ) (n : ℕ) → export_answer (length out) m ≡ Ok n → take n (export_out out m) ≡ header_line m
 unfolding export_answer export_out
 exported out m n h = front (header_line m) out n (check_export (length out) m) h
 
@@ -215,7 +214,7 @@ import_is out t b n a h =
     let k = import_holds (length out) t (clear_answer (decode (text_after_scheme t)) out n (check_import (length out) t) h) in
     ap encode (front (decode (text_after_scheme t)) out n (check_import (length out) t) h) ∙ there (text_after_scheme t) k.in_base64 ∙ sym (text_is t b a)
 
-short_message : (room : ℕ) (m : List ℕ) (n : ℕ) → export_answer room m ≡ Length n → length m ≤ 65535
+short_message : (room : ℕ) (m : List ℕ) (n : ℕ) → export_answer room m ≡ Ok n → length m ≤ 65535
 unfolding export_answer check_export
 short_message room m n h =
     leb-true (length m) 65535 (held_true _ (after_held (message_holds (length m)) TooLong _ (clear_answer (header_line m) [] n (check_export room m) h)).0)
@@ -263,7 +262,7 @@ module _ (m : List ℕ) (h : are_bytes m ≡ true) where
       scheme_held (ascii "NTLM " ++ encode m)
       (record { letter_n = inl refl; letter_t = inl refl; letter_l = inl refl; letter_m = inl refl; space = refl })
 
-  check_back : (room : ℕ) → length m ≤ 65535 → length m ≤ room → check_import room (header_line m) ≡ Clear
+  check_back : (room : ℕ) → length m ≤ 65535 → length m ≤ room → check_import room (header_line m) ≡ Ok tt
   unfolding check_import check_text
   check_back room size g =
       simp (scheme_back, text_back, encoded_base64 m h, back m h, le-leb (length m) 65535 size, le-leb (length m) room g)
@@ -277,7 +276,7 @@ module _ (m : List ℕ) (h : are_bytes m ≡ true) where
       record {
         answer = ap₂ answered (check_back (length out) size g) message_back;
         message =
-            ap₂ (λ (v : Verdict) (l : List ℕ). take (length m) (out_after v l out)) (check_back (length out) size g) message_back
+            ap₂ (λ (v : Result ⊤ Refusal) (l : List ℕ). take (length m) (out_after v l out)) (check_back (length out) size g) message_back
             ∙ take-append_seam m (drop (length m) out);
       }
 
@@ -324,16 +323,16 @@ case_and_spaces_ignored s t d =
 
 -- ---- demand 2 leaves both calls out
 
-alike : (v : Verdict) (xs ys : List ℕ) → length xs ≡ length ys → answered v xs ≡ answered v ys
-alike Clear xs ys e = ap Length e
-alike (Not d) xs ys e = refl
+alike : (v : Result ⊤ Refusal) (xs ys : List ℕ) → length xs ≡ length ys → answered v xs ≡ answered v ys
+alike (Ok tt) xs ys e = ap Ok e
+alike (Err d) xs ys e = refl
 
 pub bytes_unread : BytesUnread
 unfolding export_answer check_export
 bytes_unread room m k e =
     let lines : length (header_line m) ≡ length (header_line k) = line_length m ∙ ap (λ (n : ℕ). 5 + 4 * ((n + 2) / 3)) e ∙ sym (line_length k) in
     let checks : check_export room m ≡ check_export room k = simp (e, lines) in
-    alike (check_export room m) (header_line m) (header_line k) lines ∙ ap (λ (v : Verdict). answered v (header_line k)) checks
+    alike (check_export room m) (header_line m) (header_line k) lines ∙ ap (λ (v : Result ⊤ Refusal). answered v (header_line k)) checks
 
 pub every_byte_counts : EveryByteCounts
 every_byte_counts m k out other n p hm hk em ek e =

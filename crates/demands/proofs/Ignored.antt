@@ -3,6 +3,9 @@ pub mod ChallengeIgnored
 pub mod LineIgnored
 pub mod NlIgnored
 pub mod RespondIgnored
+use Rattle.std.specs.Prelude.{Result, Ok, Err, ⊤}
+use Rattle.read_authenticate.specs.declared.Authenticate.{Authenticate}
+use Rattle.wire.specs.declared.refusal.Refusal.{Refusal}
 use Prim.Native.Nat.{ℕ, ◌≤◌, ◌<◌}
 use mathlib.Core.Path.{◌≡◌, refl, sym, ap, ◌∙◌}
 use mathlib.Core.Logic.{inr, ⊎_elim}
@@ -12,15 +15,11 @@ use native.Mathlib.Omega.{arith}
 use lib.ListN.{length, take, drop, replicate}
 use borrow.Author.Tests.{eqb-true}
 use Rattle.negotiate_flags.specs.declared.NegotiateFlags.{NegotiateFlags}
-use Rattle.wire.specs.declared.check.Verdict.{Verdict}
-use Rattle.wire.specs.declared.check.Verdict.TheVariants.{Clear, Refused as Not}
 use Rattle.wire.specs.Check.{on_clear}
 use Rattle.field.specs.Field.{field_at}
 use Rattle.negotiate_flags.specs.Flags.{unicode, key_exch}
 use Rattle.head.specs.Head.{flags_at}
 use Rattle.read_authenticate.specs.declared.Fields.{Fields}
-use Rattle.read_authenticate.specs.declared.Reading.{Reading}
-use Rattle.read_authenticate.specs.declared.Reading.TheVariants.{Taken, Refused}
 use Rattle.read_authenticate.specs.Authenticate.{fields_at, check_ends, check_begins, check_names, check_shared, check_fields, mic_present, mic_bytes, reading_of, read_authenticate}
 use Rattle.demands.specs.Message.{authenticate, MicThere, Fails, Ignored, DifferInIgnored, SameMaxLen}
 use Rattle.demands.specs.Ignored.{SameBytes, AuthenticateIgnored}
@@ -53,19 +52,19 @@ at_mic s p there l r g =
 
 -- what follows the head's checks goes by the records without MaxLen
 module _ (m : Bool) (w : NegotiateFlags) where
-  abbrev rest : ℕ → Fields → Reading
+  abbrev rest : ℕ → Fields → Result Authenticate Refusal
   rest n f =
-      on_clear Refused (check_fields n (unicode w) f)
-      (Taken (record { flags = w; fields = f; mic_present = mic_present n f }))
+      on_clear Err (check_fields n (unicode w) f)
+      (Ok (record { flags = w; fields = f; mic_present = mic_present n f }))
 
   rest_kept : (n : ℕ) (f : Fields) → kept_reading m (rest n f) ≡ rest n (kept_fields m f)
   unfolding check_fields check_ends check_begins check_names check_shared mic_present kept
   rest_kept n f = go (check_fields n (unicode w) f) where
-    go : (v : Verdict) →
-        kept_reading m (on_clear Refused v (Taken (record { flags = w; fields = f; mic_present = mic_present n f })))
-        ≡ on_clear Refused v (Taken (record { flags = w; fields = kept_fields m f; mic_present = mic_present n f }))
-    go Clear = refl
-    go (Not e) = refl
+    go : (v : Result ⊤ Refusal) →
+        kept_reading m (on_clear Err v (Ok (record { flags = w; fields = f; mic_present = mic_present n f })))
+        ≡ on_clear Err v (Ok (record { flags = w; fields = kept_fields m f; mic_present = mic_present n f }))
+    go (Ok tt) = refl
+    go (Err e) = refl
 
 module _ (a b : List ℕ) (d : DifferInIgnored authenticate a b) where
   -- without MaxLen, and with it where it is the same
@@ -87,28 +86,28 @@ module _ (a b : List ℕ) (d : DifferInIgnored authenticate a b) where
 
     pub reading_same : kept_reading m (reading_of a) ≡ kept_reading m (reading_of b)
     unfolding reading_of
-    reading_same = same.read_same authenticate a b (seen a) d Refused (rest m) fields_at (kept_fields m) (kept_reading m) (omega arith) (rest_kept m) fields_same
+    reading_same = same.read_same authenticate a b (seen a) d Err (rest m) fields_at (kept_fields m) (kept_reading m) (omega arith) (rest_kept m) fields_same
 
   whole_reading : SameMaxLen authenticate a b → reading_of a ≡ reading_of b
   whole_reading x = sym (as_it_is (reading_of a)) ∙ reading_same true (λ e. x) ∙ as_it_is (reading_of b)
 
   -- the MIC goes by whether it is there
-  mic_of : (r : Reading) (s : List ℕ) → mic_bytes (kept_reading false r) s ≡ mic_bytes r s
-  mic_of (Taken x) s = refl
-  mic_of (Refused e) s = refl
+  mic_of : (r : Result Authenticate Refusal) (s : List ℕ) → mic_bytes (kept_reading false r) s ≡ mic_bytes r s
+  mic_of (Ok x) s = refl
+  mic_of (Err e) s = refl
 
   mic_same : mic_bytes (reading_of a) a ≡ mic_bytes (reading_of b) b
   unfolding read_authenticate
   mic_same =
       go (reading_of a) refl ∙ sym (mic_of (reading_of a) b)
-      ∙ ap (λ (r : Reading). mic_bytes r b) (reading_same false bare_only) ∙ mic_of (reading_of b) b
+      ∙ ap (λ (r : Result Authenticate Refusal). mic_bytes r b) (reading_same false bare_only) ∙ mic_of (reading_of b) b
     where
-      go : (r : Reading) → reading_of a ≡ r → mic_bytes r a ≡ mic_bytes r b
-      go (Taken x) p = rw (taken_answer a x p) (at (mic_present (length a) (fields_at a (flags_at a 60))) refl) where
+      go : (r : Result Authenticate Refusal) → reading_of a ≡ r → mic_bytes r a ≡ mic_bytes r b
+      go (Ok x) p = rw (taken_answer a x p) (at (mic_present (length a) (fields_at a (flags_at a 60))) refl) where
         at : (m : Bool) → mic_present (length a) (fields_at a (flags_at a 60)) ≡ m → cond m (take 16 (drop 72 a)) (replicate 16 0) ≡ cond m (take 16 (drop 72 b)) (replicate 16 0)
         at true h = same_part a b d.length_same 72 16 (λ q l r. same.looked authenticate a b (seen a) d q (at_mic a q ((mic_there a).0 h) l r))
         at false h = refl
-      go (Refused e) p = refl
+      go (Err e) p = refl
 
 pub authenticate_ignored : AuthenticateIgnored
 unfolding read_authenticate kept

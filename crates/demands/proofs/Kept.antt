@@ -2,6 +2,7 @@
 pub mod AnswerKept
 pub mod CallKept
 pub mod CallFront
+use Rattle.std.specs.Prelude.{Result, Ok, Err, ⊤}
 use Prim.Native.Nat.{ℕ, ◌≤◌}
 use mathlib.Core.Path.{◌≡◌, refl, sym, subst}
 use mathlib.Core.Bool.{Bool, true, false}
@@ -12,13 +13,10 @@ use lib.ListN.{length, drop, length-append, length-drop}
 use lib.Seq.{drop-append_seam}
 use borrow.Author.Tests.{leb-true}
 use Rattle.wire.specs.declared.check.Checked.TheVariants.{Held}
-use Rattle.wire.specs.declared.check.Verdict.{Verdict}
-use Rattle.wire.specs.declared.check.Verdict.TheVariants.{Clear, Refused as Not}
 use Rattle.wire.specs.declared.refusal.Refusal.{Refusal}
 use Rattle.wire.specs.declared.refusal.Refusal.TheVariants.{NoStrings, TooLongToWrite, NoRoom}
 use Rattle.wire.specs.Check.{checked, after, on_clear}
 use Rattle.wire.proofs.Laws.{held_true}
-use Rattle.place.specs.declared.written.Written.TheVariants.{Length, Refused}
 use Rattle.place.specs.Written.{at_front, answered, out_after, size_holds, room_holds, bytes_hold, bytes_answer, bytes_after}
 use Rattle.nl_auth_flags.specs.declared.NlAuthFlags.{NlAuthFlags}
 use Rattle.nl_auth_flags.specs.Flags.{known, strings_hold}
@@ -34,22 +32,22 @@ module _ (bytes out : List ℕ) (room : length bytes ≤ length out) where
   pub front_rest : drop (length bytes) (at_front bytes out) ≡ drop (length bytes) out
   front_rest = drop-append_seam bytes (drop (length bytes) out)
 
-never : {A : Type 0} (e : Refusal) (n : ℕ) → Length n ≡ Refused e → A
+never : {A : Type 0} (e : Refusal) (n : ℕ) → ◌≡◌ {A = Result ℕ Refusal} (Ok n) (Err e) → A
 never e n h = absurd (let z : ◌≡◌ {A = ℕ} 0 1 = cc in omega arith)
 
-same_length : (m n : ℕ) → Length m ≡ Length n → m ≡ n
+same_length : (m n : ℕ) → ◌≡◌ {A = Result ℕ Refusal} (Ok m) (Ok n) → m ≡ n
 same_length m n h = cc
 
 -- every writing that goes by a verdict: what it writes has room where the verdict is clear
-pub by_verdict : (v : Verdict) (bytes out : List ℕ) → (v ≡ Clear → length bytes ≤ length out) →
+pub by_verdict : (v : Result ⊤ Refusal) (bytes out : List ℕ) → (v ≡ Ok tt → length bytes ≤ length out) →
     Kept (answered v bytes) out (out_after v bytes out)
-by_verdict Clear bytes out room =
+by_verdict (Ok tt) bytes out room =
     record {
       refused = λ e h. never e (length bytes) h;
       same_length = λ n h. front_length bytes out (room refl);
       rest = λ n h. subst (λ (k : ℕ). drop k (at_front bytes out) ≡ drop k out) (same_length (length bytes) n h) (front_rest bytes out (room refl));
     }
-by_verdict (Not d) bytes out room =
+by_verdict (Err d) bytes out room =
     record {
       refused = λ e h. refl;
       same_length = λ n h. never d n (sym h);
@@ -59,15 +57,15 @@ by_verdict (Not d) bytes out room =
 -- what a request that is written went through
 pub record RequestHolds (room : ℕ) (w : NlAuthFlags) (a b c d e : List ℕ) : Type 0 where
   pub strings : strings_hold w ≡ Held
-  pub strings_under : check_under w a b c d e ≡ Clear
+  pub strings_under : check_under w a b c d e ≡ Ok tt
   pub size : length (request_bytes w a b c d e) ≤ 65535
   pub room_there : length (request_bytes w a b c d e) ≤ room
 
-pub clear_both : (v x : Verdict) → on_clear Not v x ≡ Clear → (v ≡ Clear) × (x ≡ Clear)
-clear_both Clear x h = (refl, h)
-clear_both (Not e) x h = (cc, cc)
+pub clear_both : (v x : Result ⊤ Refusal) → on_clear Err v x ≡ Ok tt → (v ≡ Ok tt) × (x ≡ Ok tt)
+clear_both (Ok tt) x h = (refl, h)
+clear_both (Err e) x h = (cc, cc)
 
-pub request_holds : (room : ℕ) (w : NlAuthFlags) (a b c d e : List ℕ) → check_request room w a b c d e ≡ Clear → RequestHolds room w a b c d e
+pub request_holds : (room : ℕ) (w : NlAuthFlags) (a b c d e : List ℕ) → check_request room w a b c d e ≡ Ok tt → RequestHolds room w a b c d e
 unfolding check_request
 request_holds room w a b c d e h =
     let s = after_held (strings_hold w) NoStrings _ h in
@@ -91,12 +89,12 @@ pub nl_response_kept : NlResponseKept
 unfolding response_answer response_out
 nl_response_kept out = go (leb (length response_bytes) (length out)) refl where
   go : (t : Bool) → leb (length response_bytes) (length out) ≡ t →
-      Kept (after (checked t) (Refused NoRoom) (Length (length response_bytes))) out (after (checked t) out (at_front response_bytes out))
-  go true p = by_verdict Clear response_bytes out (λ h. leb-true (length response_bytes) (length out) p)
-  go false p = by_verdict (Not NoRoom) response_bytes out (λ h. absurd (let z : ◌≡◌ {A = ℕ} 0 1 = cc in omega arith))
+      Kept (after (checked t) (Err NoRoom) (Ok (length response_bytes))) out (after (checked t) out (at_front response_bytes out))
+  go true p = by_verdict (Ok tt) response_bytes out (λ h. leb-true (length response_bytes) (length out) p)
+  go false p = by_verdict (Err NoRoom) response_bytes out (λ h. absurd (let z : ◌≡◌ {A = ℕ} 0 1 = cc in omega arith))
 
 pub line_kept : LineKept
 unfolding bytes_answer bytes_after
 line_kept line out =
     by_verdict (bytes_hold line out) line out
-    (λ h. leb-true (length line) (length out) (held_true _ (after_held (room_holds (length line) (length out)) NoRoom Clear h).0))
+    (λ h. leb-true (length line) (length out) (held_true _ (after_held (room_holds (length line) (length out)) NoRoom (Ok tt) h).0))

@@ -5,6 +5,10 @@ pub mod Lines
 pub mod TakenShown
 pub mod LabelsShown
 pub mod NlShown
+use Rattle.std.specs.Prelude.{Result, Ok, Err}
+use Rattle.read_authenticate.specs.declared.Authenticate.{Authenticate}
+use Rattle.read_negotiate.specs.declared.Negotiate.{Negotiate}
+use Rattle.read_nl_auth.specs.declared.NlAuth.{NlAuth}
 use Prim.Native.Nat.{ℕ, zero, suc}
 use mathlib.Core.Path.{◌≡◌, refl, sym, ap, ◌∙◌, subst}
 use mathlib.Core.Logic.{◌⊎◌, inl, inr, ⊎_elim}
@@ -26,20 +30,12 @@ use Rattle.field.specs.Field.{field_at, field_bytes}
 use Rattle.head.specs.declared.Kind.{Kind}
 use Rattle.head.specs.declared.Kind.TheVariants.{Negotiate as AsNegotiate, Challenge as AsChallenge, Authenticate as AsAuthenticate}
 use Rattle.head.specs.Head.{signature_holds, read_head, kind_of}
-use Rattle.read_negotiate.specs.declared.Reading.{Reading as NegotiateReading}
-use Rattle.read_negotiate.specs.declared.Reading.TheVariants.{Taken as NegotiateTaken, Refused as NegotiateRefused}
 use Rattle.read_negotiate.specs.Negotiate.{fields_at, check_ends, check_begins, check_fields, read_negotiate}
-use Rattle.read_authenticate.specs.declared.Reading.{Reading}
-use Rattle.read_authenticate.specs.declared.Reading.TheVariants.{Taken, Refused}
 use Rattle.read_authenticate.specs.Authenticate.{read_authenticate}
 use Rattle.av_pairs.specs.AvPairs.{pairs_of}
 use Rattle.read_challenge.specs.declared.Challenge.{Challenge}
-use Rattle.read_challenge.specs.declared.Reading.{Reading as ChallengeReading}
-use Rattle.read_challenge.specs.declared.Reading.TheVariants.{Taken as ChallengeTaken, Refused as ChallengeRefused}
 use Rattle.read_challenge.specs.Challenge.{info_of, read_challenge}
 use Rattle.target_info.specs.TargetInfo.{timestamp_in}
-use Rattle.read_nl_auth.specs.declared.Reading.{Reading as NlReading}
-use Rattle.read_nl_auth.specs.declared.Reading.TheVariants.{Taken as NlTaken, Refused as NlRefused}
 use Rattle.read_nl_auth.specs.NlAuth.{read_nl_auth}
 use Rattle.line_refused.specs.Refused.{refused_line}
 use Rattle.line_negotiate.specs.Nego.{nego_names, nego_text}
@@ -65,22 +61,22 @@ use Rattle.demands.proofs.LineShows.NlShown.{nl_line_lem, nl_auth_line_shows}
 one_refused : (e : Refusal) → OneLine (refused_line e)
 one_refused e = one_line _ _ _ (refused_line_lem e)
 
-one_nego : (s : List ℕ) (r : NegotiateReading) → OneLine (nego_line s r)
-one_nego s (NegotiateTaken m) = one_line _ _ _ (nego_line_lem s m)
-one_nego s (NegotiateRefused e) = one_refused e
+one_nego : (s : List ℕ) (r : Result Negotiate Refusal) → OneLine (nego_line s r)
+one_nego s (Ok m) = one_line _ _ _ (nego_line_lem s m)
+one_nego s (Err e) = one_refused e
 
-one_chal : (s : List ℕ) (r : ChallengeReading) → OneLine (chal_line s r)
+one_chal : (s : List ℕ) (r : Result Challenge Refusal) → OneLine (chal_line s r)
 unfolding chal_text
-one_chal s (ChallengeTaken c) = one_line _ _ _ (chal_line_lem s c (length (pairs_of (info_of s c))) (timestamp_in (info_of s c)))
-one_chal s (ChallengeRefused e) = one_refused e
+one_chal s (Ok c) = one_line _ _ _ (chal_line_lem s c (length (pairs_of (info_of s c))) (timestamp_in (info_of s c)))
+one_chal s (Err e) = one_refused e
 
-one_auth : (s : List ℕ) (r : Reading) → OneLine (auth_line s r)
-one_auth s (Taken a) = one_line _ _ _ (auth_line_lem s a)
-one_auth s (Refused e) = one_refused e
+one_auth : (s : List ℕ) (r : Result Authenticate Refusal) → OneLine (auth_line s r)
+one_auth s (Ok a) = one_line _ _ _ (auth_line_lem s a)
+one_auth s (Err e) = one_refused e
 
-one_nl : (s : List ℕ) (r : NlReading) → OneLine (nl_line s r)
-one_nl s (NlTaken m) = one_line _ _ _ (nl_line_lem s m)
-one_nl s (NlRefused e) = one_refused e
+one_nl : (s : List ℕ) (r : Result NlAuth Refusal) → OneLine (nl_line s r)
+one_nl s (Ok m) = one_line _ _ _ (nl_line_lem s m)
+one_nl s (Err e) = one_refused e
 
 one_as : (k : Kind) (s : List ℕ) → OneLine (line_as k s)
 unfolding negotiate_line challenge_line authenticate_line
@@ -176,17 +172,17 @@ refused_read k s e h = (refused, subst (Opens refused) (sym (line_refused k s e 
 reads : (k : Kind) (s : List ℕ) → Read k s
 unfolding Read
 reads AsNegotiate s = go (read_negotiate s) refl where
-  go : (r : NegotiateReading) → read_negotiate s ≡ r → Read AsNegotiate s
-  go (NegotiateTaken m) h = (nego, each_form.as_nego s m h, negotiates m refl h)
-  go (NegotiateRefused e) h = refused_read AsNegotiate s e h
+  go : (r : Result Negotiate Refusal) → read_negotiate s ≡ r → Read AsNegotiate s
+  go (Ok m) h = (nego, each_form.as_nego s m h, negotiates m refl h)
+  go (Err e) h = refused_read AsNegotiate s e h
 reads AsChallenge s = go (read_challenge s).reading refl where
-  go : (r : ChallengeReading) → (read_challenge s).reading ≡ r → Read AsChallenge s
-  go (ChallengeTaken c) h = (chal, each_form.as_chal s c h, challenges c refl h)
-  go (ChallengeRefused e) h = refused_read AsChallenge s e h
+  go : (r : Result Challenge Refusal) → (read_challenge s).reading ≡ r → Read AsChallenge s
+  go (Ok c) h = (chal, each_form.as_chal s c h, challenges c refl h)
+  go (Err e) h = refused_read AsChallenge s e h
 reads AsAuthenticate s = go (read_authenticate s).reading refl where
-  go : (r : Reading) → (read_authenticate s).reading ≡ r → Read AsAuthenticate s
-  go (Taken a) h = (auth, each_form.as_auth s a h, authenticates a refl h)
-  go (Refused e) h = refused_read AsAuthenticate s e h
+  go : (r : Result Authenticate Refusal) → (read_authenticate s).reading ≡ r → Read AsAuthenticate s
+  go (Ok a) h = (auth, each_form.as_auth s a h, authenticates a refl h)
+  go (Err e) h = refused_read AsAuthenticate s e h
 
 -- a line that opens as that of a refusal is one's
 pub opens_refusal : (k : Kind) (s : List ℕ) → Opens refused (line_as k s) → (e : Refusal) × RefusedBy k s e
@@ -232,7 +228,7 @@ lines_show k l s t b d = (read_alike k l s t b d, λ w. line_of k l s t b d w.fo
 
 -- ---- NL_AUTH
 
-pub nl_refused : (s : List ℕ) (e : Refusal) → read_nl_auth s ≡ NlRefused e → nl_auth_line s ≡ refused_line e
+pub nl_refused : (s : List ℕ) (e : Refusal) → read_nl_auth s ≡ Err e → nl_auth_line s ≡ refused_line e
 unfolding nl_auth_line
 nl_refused s e h = simp h
 
@@ -242,14 +238,14 @@ NlRead s = (f : Form) × Opens f (nl_auth_line s) × NlReadFor s f
 nl_reads : (s : List ℕ) → NlRead s
 unfolding NlRead
 nl_reads s = go (read_nl_auth s) refl where
-  go : (r : NlReading) → read_nl_auth s ≡ r → NlRead s
-  go (NlTaken m) h = (nl, each_form.as_nl s m h, takes m h)
-  go (NlRefused e) h = (refused, subst (Opens refused) (sym (nl_refused s e h)) (opens_refused e), refuses_nl e h)
+  go : (r : Result NlAuth Refusal) → read_nl_auth s ≡ r → NlRead s
+  go (Ok m) h = (nl, each_form.as_nl s m h, takes m h)
+  go (Err e) h = (refused, subst (Opens refused) (sym (nl_refused s e h)) (opens_refused e), refuses_nl e h)
 
-pub nl_opens_refusal : (s : List ℕ) → Opens refused (nl_auth_line s) → (e : Refusal) × (read_nl_auth s ≡ NlRefused e)
+pub nl_opens_refusal : (s : List ℕ) → Opens refused (nl_auth_line s) → (e : Refusal) × (read_nl_auth s ≡ Err e)
 unfolding NlRead
 nl_opens_refusal s o = let x = nl_reads s in go (subst (NlReadFor s) (one_form x.0 refused (nl_auth_line s) x.1 o) x.2) where
-  go : NlReadFor s refused → (e : Refusal) × (read_nl_auth s ≡ NlRefused e)
+  go : NlReadFor s refused → (e : Refusal) × (read_nl_auth s ≡ Err e)
   go (refuses_nl e p) = (e, p)
 
 nl_alike_of : (s t : List ℕ) → Bytes s → Bytes t → nl_auth_line s ≡ nl_auth_line t → (f : Form) (x : NlReadFor s f) (y : NlReadFor t f) → NlAlike s t f x y
@@ -292,7 +288,7 @@ never_33 AsChallenge s e p h = go (((challenge_judged s (info_there s).0 (info_t
   go (in_fields z f) = f.fails
   go (in_list {q = q} n f z) = no_fault_33 (info_there s).0 q f.2
 
-never_33_nl : (s : List ℕ) (e : Refusal) → read_nl_auth s ≡ NlRefused e → number_of e ≡ 33 → ⊥
+never_33_nl : (s : List ℕ) (e : Refusal) → read_nl_auth s ≡ Err e → number_of e ≡ 33 → ⊥
 never_33_nl s e p h = (((nl_auth_judged s).refused 33 (field_of e) (place_of e)).0 (rw p (h, refl, refl))).0.fails
 
 -- so no line of a message is that of 33

@@ -1,6 +1,8 @@
 -- The MIC's calls: when there is an answer and what it is, that the two agree, and what they don't depend on.
 pub mod Ignored
 pub mod PutIn
+use Rattle.std.specs.Prelude.{Result, Ok, Err, ⊤}
+use Rattle.read_authenticate.specs.declared.Authenticate.{Authenticate}
 use Prim.Native.Nat.{ℕ, ◌+◌, ◌≤◌, ◌<◌}
 use mathlib.Core.Path.{◌≡◌, refl, sym, ap, ◌∙◌, subst}
 use mathlib.Core.Logic.{◌⊎◌, inl, inr, ⊎_elim, ◌↔◌}
@@ -11,18 +13,13 @@ use borrow.Author.Tests.{eqb-true, eqb-false, leb-true, leb-false, le-leb}
 use lib.Dec.{eqb, leb}
 use lib.ListN.{length, get_or, take, drop, length-take, length-drop}
 use lib.Seq.{ext_get_or, get_or-take, get_or-drop, take_all}
-use Rattle.wire.specs.declared.check.Verdict.{Verdict}
-use Rattle.wire.specs.declared.check.Verdict.TheVariants.{Clear, Refused as Not}
 use Rattle.wire.specs.declared.refusal.Refusal.{Refusal}
 use Rattle.wire.specs.declared.refusal.Refusal.TheVariants.{NoRoom, WrongSessionKey, NoMic}
 use Rattle.wire.specs.Check.{checked, after, on_clear}
 use Rattle.wire.specs.Number.{stands_at}
 use Rattle.wire.specs.Refusal.{number_of, field_of, place_of}
 use Rattle.head.proofs.Stands.{stands, stand}
-use Rattle.read_authenticate.specs.declared.Reading.{Reading as AuthenticateReading}
-use Rattle.read_authenticate.specs.declared.Reading.TheVariants.{Taken as AuthenticateTaken, Refused as AuthenticateRefused}
 use Rattle.read_authenticate.specs.Authenticate.{read_authenticate}
-use Rattle.mic.specs.declared.Checking.TheVariants.{Compared, Refused}
 use Rattle.head.specs.declared.Kind.TheVariants.{Negotiate, Challenge}
 use Rattle.verdict.specs.Verdict.{auth_verdict, read_as}
 use Rattle.mic.specs.Mic.{zeroed, mic_of, key_size_holds, authenticate_verdict, check_inputs, when_clear, computed_mic, check_mic}
@@ -70,13 +67,13 @@ module _ (size : ℕ) (nego chal info auth : List ℕ) (known : InfoBytes chal i
 
   auth_judged : Judged (authenticate_verdict (read_authenticate auth).reading) AuthHolds AuthFails
   auth_judged = go (read_authenticate auth).reading refl (authenticate_judged auth) where
-    go : (r : AuthenticateReading) → (read_authenticate auth).reading ≡ r →
+    go : (r : Result Authenticate Refusal) → (read_authenticate auth).reading ≡ r →
         Judged (auth_verdict r) (NoneFails (Fails authenticate auth)) (FirstFails (Fails authenticate auth)) → Judged (authenticate_verdict r) AuthHolds AuthFails
-    go (AuthenticateTaken a) e j =
-        judged_then Clear (after (checked a.mic_present) (Not NoMic) Clear) j
+    go (Ok a) e j =
+        judged_then (Ok tt) (after (checked a.mic_present) (Err NoMic) (Ok tt)) j
         (λ t. check_judged (MicThere authenticate auth) a.mic_present NoMic (authenticate_own auth a e).mic_present_is.0
         (λ p m. true_not_false (sym ((authenticate_own auth a e).mic_present_is.1 m) ∙ p)))
-    go (AuthenticateRefused d) e j = judged_then (Not d) Clear j (λ t. absurd t)
+    go (Err d) e j = judged_then (Err d) (Ok tt) j (λ t. absurd t)
 
   -- the key, and the messages in turn
   abbrev AllHolds : Type 0
@@ -91,8 +88,8 @@ module _ (size : ℕ) (nego chal info auth : List ℕ) (known : InfoBytes chal i
   in_turn : Judged (check_inputs size nego chal auth) AllHolds FirstFailed
   unfolding check_inputs
   in_turn =
-      subst (λ (v : Verdict). Judged v AllHolds FirstFailed) (as_verdict (key_size_holds size) WrongSessionKey _)
-      (judged_then (after (key_size_holds size) (Not WrongSessionKey) Clear) _ (check_judged (size ≡ 16) (eqb size 16) WrongSessionKey (eqb-true size 16) (eqb-false size 16)) (λ k.
+      subst (λ (v : Result ⊤ Refusal). Judged v AllHolds FirstFailed) (as_verdict (key_size_holds size) WrongSessionKey _)
+      (judged_then (after (key_size_holds size) (Err WrongSessionKey) (Ok tt)) _ (check_judged (size ≡ 16) (eqb size 16) WrongSessionKey (eqb-true size 16) (eqb-false size 16)) (λ k.
       judged_then (read_as Negotiate nego) _ (negotiate_judged nego) (λ n.
       judged_then (read_as Challenge chal) _ (challenge_judged chal info known) (λ c. auth_judged))))
 
@@ -168,26 +165,26 @@ mic_agree key nego chal auth =
     mic : List ℕ
     mic = mic_of key nego chal auth
 
-    refused_both : (v : Verdict) (b : Bool) (e : Refusal) → (on_clear Refused v (Compared b) ≡ Refused e) ↔ (v ≡ Not e)
-    refused_both Clear b e = (λ h. absurd (let z : ◌≡◌ {A = ℕ} 0 1 = cc in omega arith), λ h. absurd (let z : ◌≡◌ {A = ℕ} 0 1 = cc in omega arith))
-    refused_both (Not d) b e = (λ h. cc, λ h. cc)
+    refused_both : (v : Result ⊤ Refusal) (b : Bool) (e : Refusal) → (on_clear Err v (Ok b) ≡ Err e) ↔ (v ≡ Err e)
+    refused_both (Ok tt) b e = (λ h. absurd (let z : ◌≡◌ {A = ℕ} 0 1 = cc in omega arith), λ h. absurd (let z : ◌≡◌ {A = ℕ} 0 1 = cc in omega arith))
+    refused_both (Err d) b e = (λ h. cc, λ h. cc)
 
-    top_same : (v : Verdict) (b : Bool) → is_refused (outcome_number (handed_out v (when_clear v mic))) ≡ is_refused (checking_number (on_clear Refused v (Compared b)))
-    top_same Clear b = sym (not-refused b)
-    top_same (Not e) b = refl
+    top_same : (v : Result ⊤ Refusal) (b : Bool) → is_refused (outcome_number (handed_out v (when_clear v mic))) ≡ is_refused (checking_number (on_clear Err v (Ok b)))
+    top_same (Ok tt) b = sym (not-refused b)
+    top_same (Err e) b = refl
 
-    number_same : (v : Verdict) (b : Bool) → is_refused (checking_number (on_clear Refused v (Compared b))) ≡ 1 →
-        outcome_number (handed_out v (when_clear v mic)) ≡ checking_number (on_clear Refused v (Compared b))
-    number_same Clear b h = absurd (omega (arith, not-refused b, h))
-    number_same (Not e) b h = refl
+    number_same : (v : Result ⊤ Refusal) (b : Bool) → is_refused (checking_number (on_clear Err v (Ok b))) ≡ 1 →
+        outcome_number (handed_out v (when_clear v mic)) ≡ checking_number (on_clear Err v (Ok b))
+    number_same (Ok tt) b h = absurd (omega (arith, not-refused b, h))
+    number_same (Err e) b h = refl
 
-    yes_both : (v : Verdict) → check_inputs (length key) nego chal auth ≡ v →
-        (on_clear Refused v (Compared (stands_at auth 72 mic)) ≡ Compared true) ↔ ((v ≡ Clear) × (take 16 (drop 72 auth) ≡ when_clear v mic))
-    yes_both Clear e = (
+    yes_both : (v : Result ⊤ Refusal) → check_inputs (length key) nego chal auth ≡ v →
+        (on_clear Err v (Ok (stands_at auth 72 mic)) ≡ Ok true) ↔ ((v ≡ Ok tt) × (take 16 (drop 72 auth) ≡ when_clear v mic))
+    yes_both (Ok tt) e = (
       λ h. (refl, there_same auth mic (passed (length key) nego chal auth e).mic_inside (mic_length key nego chal auth) (let b : stands_at auth 72 mic ≡ true = cc in b)),
-      λ h. ap Compared (same_there auth mic (mic_length key nego chal auth) h.1),
+      λ h. ap Ok (same_there auth mic (mic_length key nego chal auth) h.1),
     )
-    yes_both (Not d) e = (λ h. absurd (let z : ◌≡◌ {A = ℕ} 0 1 = cc in omega arith), λ h. absurd (let q : Not d ≡ Clear = h.0 in let z : ◌≡◌ {A = ℕ} 0 1 = cc in omega arith))
+    yes_both (Err d) e = (λ h. absurd (let z : ◌≡◌ {A = ℕ} 0 1 = cc in omega arith), λ h. absurd (let q : Err d ≡ (Ok tt) = h.0 in let z : ◌≡◌ {A = ℕ} 0 1 = cc in omega arith))
 
 -- ---- what the verdict depends on
 
@@ -213,19 +210,19 @@ mic_blind key nego chal s t d =
 
 -- ---- refusals
 
-number_by : (v : Verdict) (a b : List ℕ) → outcome_number (handed_out v a) ≡ outcome_number (handed_out v b)
-number_by Clear a b = refl
-number_by (Not e) a b = refl
+number_by : (v : Result ⊤ Refusal) (a b : List ℕ) → outcome_number (handed_out v a) ≡ outcome_number (handed_out v b)
+number_by (Ok tt) a b = refl
+number_by (Err e) a b = refl
 
 -- the same of a check, where it is refused
-checked_by : (v : Verdict) (a b : Bool) → is_refused (checking_number (on_clear Refused v (Compared a))) ≡ is_refused (checking_number (on_clear Refused v (Compared b)))
-checked_by Clear a b = not-refused a ∙ sym (not-refused b)
-checked_by (Not e) a b = refl
+checked_by : (v : Result ⊤ Refusal) (a b : Bool) → is_refused (checking_number (on_clear Err v (Ok a))) ≡ is_refused (checking_number (on_clear Err v (Ok b)))
+checked_by (Ok tt) a b = not-refused a ∙ sym (not-refused b)
+checked_by (Err e) a b = refl
 
-refused_by : (v : Verdict) (a b : Bool) → is_refused (checking_number (on_clear Refused v (Compared a))) ≡ 1 →
-    checking_number (on_clear Refused v (Compared a)) ≡ checking_number (on_clear Refused v (Compared b))
-refused_by Clear a b h = absurd (omega (arith, not-refused a, h))
-refused_by (Not e) a b h = refl
+refused_by : (v : Result ⊤ Refusal) (a b : Bool) → is_refused (checking_number (on_clear Err v (Ok a))) ≡ 1 →
+    checking_number (on_clear Err v (Ok a)) ≡ checking_number (on_clear Err v (Ok b))
+refused_by (Ok tt) a b h = absurd (omega (arith, not-refused a, h))
+refused_by (Err e) a b h = refl
 
 -- both calls have the same refusals where the messages' checks have the same outcome
 pub same_refusals : (key nego chal s key' nego' chal' t : List ℕ) → check_inputs (length key) nego chal s ≡ check_inputs (length key') nego' chal' t →
@@ -241,14 +238,14 @@ same_refusals key nego chal s key' nego' chal' t v =
       checked = λ e. (λ h. (q.refused e).1 (sym v ∙ (p.refused e).0 h), λ h. (p.refused e).1 (v ∙ (q.refused e).0 h));
       from_c = λ room.
           ap (λ (x : ℕ). after (room_holds 16 room) (refusal_number NoRoom) x)
-          (ap (λ (w : Verdict). outcome_number (handed_out w (when_clear (check_inputs (length key) nego chal s) (mic_of key nego chal s)))) v
+          (ap (λ (w : Result ⊤ Refusal). outcome_number (handed_out w (when_clear (check_inputs (length key) nego chal s) (mic_of key nego chal s)))) v
           ∙ number_by (check_inputs (length key') nego' chal' t) _ _);
       check_refused =
           checked_by (check_inputs (length key) nego chal s) yes yes'
-          ∙ ap (λ (w : Verdict). is_refused (checking_number (on_clear Refused w (Compared yes')))) v;
+          ∙ ap (λ (w : Result ⊤ Refusal). is_refused (checking_number (on_clear Err w (Ok yes')))) v;
       check_from_c = λ h.
           refused_by (check_inputs (length key) nego chal s) yes yes' h
-          ∙ ap (λ (w : Verdict). checking_number (on_clear Refused w (Compared yes'))) v;
+          ∙ ap (λ (w : Result ⊤ Refusal). checking_number (on_clear Err w (Ok yes'))) v;
     }
 
 pub mic_secret : MicSecret
@@ -267,25 +264,25 @@ mic_decodes room key nego chal auth =
     mic : List ℕ
     mic = mic_of key nego chal auth
 
-    go : (v : Verdict) → DecodesOutcome (call_number 16 (handed_out v (when_clear v mic)) room) (handed_out v (when_clear v mic)) →
+    go : (v : Result ⊤ Refusal) → DecodesOutcome (call_number 16 (handed_out v (when_clear v mic)) room) (handed_out v (when_clear v mic)) →
         DecodesVerdict (call_number 16 (handed_out v (when_clear v mic)) room) v
-    go Clear w = w
-    go (Not e) w = w
+    go (Ok tt) w = w
+    go (Err e) w = w
 
 pub check_mic_decodes : CheckMicDecodes
 unfolding check_mic
 check_mic_decodes key nego chal auth =
     go (check_inputs (length key) nego chal auth) (stands_at auth 72 (mic_of key nego chal auth)) (mic_small (length key) nego chal auth)
   where
-    go : (v : Verdict) (b : Bool) → SmallV v → DecodesChecking (checking_number (on_clear Refused v (Compared b))) (on_clear Refused v (Compared b))
-    go Clear true w = decodes_length 1 (omega arith)
-    go Clear false w = decodes_length 0 (omega arith)
-    go (Not e) b w = decodes_refusal e w
+    go : (v : Result ⊤ Refusal) (b : Bool) → SmallV v → DecodesChecking (checking_number (on_clear Err v (Ok b))) (on_clear Err v (Ok b))
+    go (Ok tt) true w = decodes_length 1 (omega arith)
+    go (Ok tt) false w = decodes_length 0 (omega arith)
+    go (Err e) b w = decodes_refusal e w
 
 -- ---- kept
 
 -- no message is refused 33
-not-33 : (n : ℕ) (nego chal auth : List ℕ) (e : Refusal) → check_inputs n nego chal auth ≡ Not e → number_of e ≡ 33 → ⊥
+not-33 : (n : ℕ) (nego chal auth : List ℕ) (e : Refusal) → check_inputs n nego chal auth ≡ Err e → number_of e ≡ 33 → ⊥
 not-33 n nego chal auth e h = go (info_there chal) where
   go : (b : List ℕ) × InfoBytes chal b → number_of e ≡ 33 → ⊥
   go i = fails_otherwise (((all_judged n nego chal i.0 auth i.1).refused (number_of e) (field_of e) (place_of e)).0 (rw h (refl, refl, refl))) where
@@ -307,7 +304,7 @@ mic_kept key nego chal auth out = go (leb 16 (length out)) refl (check_inputs (l
       × (16 ≤ length out → DecodesVerdict (mic_number (length out) key nego chal auth) (computed_mic key nego chal auth).verdict)
   told = mic_decodes (length out) key nego chal auth
 
-  unwritten : (d : Refusal) → 16 ≤ length out → check_inputs (length key) nego chal auth ≡ Not d →
+  unwritten : (d : Refusal) → 16 ≤ length out → check_inputs (length key) nego chal auth ≡ Err d →
       call_out 16 (mic_outcome (computed_mic key nego chal auth)) out ≡ out → MicUnwritten key nego chal auth out d
   unwritten d l h same =
       let t : DecodesRefusal (mic_number (length out) key nego chal auth) d = subst (DecodesVerdict (mic_number (length out) key nego chal auth)) h (told.1 l) in
@@ -318,15 +315,15 @@ mic_kept key nego chal auth out = go (leb 16 (length out)) refl (check_inputs (l
         no_room = (λ q. absurd (not-33 (length key) nego chal auth d h (sym t.number ∙ q)), λ m. absurd (omega arith));
       }
 
-  go : (b : Bool) → leb 16 (length out) ≡ b → (v : Verdict) → check_inputs (length key) nego chal auth ≡ v →
-      ((mic_number (length out) key nego chal auth ≡ 0) × ((computed_mic key nego chal auth).verdict ≡ Clear)
+  go : (b : Bool) → leb 16 (length out) ≡ b → (v : Result ⊤ Refusal) → check_inputs (length key) nego chal auth ≡ v →
+      ((mic_number (length out) key nego chal auth ≡ 0) × ((computed_mic key nego chal auth).verdict ≡ Ok tt)
       × Front (computed_mic key nego chal auth).mic out (call_out 16 (mic_outcome (computed_mic key nego chal auth)) out))
       ⊎ ((e : Refusal) × MicUnwritten key nego chal auth out e)
-  go true e Clear h =
+  go true e (Ok tt) h =
       let l = leb-true 16 (length out) e in
       let t : DecodesLength (mic_number (length out) key nego chal auth) 0 = subst (DecodesVerdict (mic_number (length out) key nego chal auth)) h (told.1 l) in
       inl (t.is_length, h, simp (e, h) (at_front_lem mic out (omega (arith, l, mic_length key nego chal auth))))
-  go true e (Not d) h = inr (d, unwritten d (leb-true 16 (length out) e) h (simp (e, h)))
+  go true e (Err d) h = inr (d, unwritten d (leb-true 16 (length out) e) h (simp (e, h)))
   go false e v h =
       let l = leb-false 16 (length out) e in
       inr (

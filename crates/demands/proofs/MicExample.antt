@@ -1,4 +1,5 @@
 -- A sign-in's MIC, computed from the definitions.
+use Rattle.std.specs.Prelude.{Ok}
 use Prim.Native.Nat.{ℕ, ◌≤◌, ◌<◌}
 use mathlib.Core.Path.{◌≡◌, refl, sym}
 use mathlib.Core.Logic.{◌⊎◌, inl, inr}
@@ -8,7 +9,6 @@ use lib.Dec.{eqb}
 use lib.ListN.{get_or}
 use lib.Seq.{get_or-set_other}
 use borrow.Author.Tests.{eqb-true, eqb-false}
-use Rattle.wire.specs.declared.check.Verdict.TheVariants.{Clear}
 use Rattle.field.specs.Field.{field_at, field_bytes}
 use Rattle.head.specs.Head.{signature_holds, read_head}
 use Rattle.read_negotiate.specs.Negotiate.{fields_at as negotiate_fields_at, check_ends as negotiate_ends, check_begins as negotiate_begins, check_fields as negotiate_checks, read_negotiate}
@@ -19,7 +19,6 @@ use Rattle.md5_digest.specs.Words.{sines}
 use Rattle.md5_digest.specs.Block.{step, stepped_by, turns, round, added, block_taken}
 use Rattle.md5_digest.specs.Digest.{padding, start, word_bytes, md5}
 use Rattle.hmac_md5.specs.Hmac.{filled_out, key_block, hmac}
-use Rattle.mic.specs.declared.Checking.TheVariants.{Compared}
 use Rattle.mic.specs.Mic.{zeroed, mic_of, check_inputs, computed_mic, check_mic}
 use Rattle.demands.specs.TakenExactly.{InfoBytes}
 use Rattle.demands.specs.Mic.{DifferInMic}
@@ -41,7 +40,7 @@ bytes_of_other =
     }
 
 -- the three readings, and those with another challenge and another MIC
-clear : (check_inputs 16 nego chal auth ≡ Clear) × (check_inputs 16 nego other_chal auth ≡ Clear) × (check_inputs 16 nego chal other_auth ≡ Clear)
+clear : (check_inputs 16 nego chal auth ≡ Ok tt) × (check_inputs 16 nego other_chal auth ≡ Ok tt) × (check_inputs 16 nego chal other_auth ≡ Ok tt)
 unfolding check_inputs read_negotiate negotiate_fields_at negotiate_ends negotiate_begins negotiate_checks read_head signature_holds field_at field_bytes read_challenge challenge_reading_of check_info fields_of challenge_fields_at challenge_ends challenge_begins challenge_names challenge_checks check_pairs step_at pair_of left read_authenticate reading_of fields_at check_ends check_begins check_names check_shared check_fields mic_present
 clear = (refl, refl, refl)
 
@@ -49,7 +48,7 @@ worked_out : mic_of key nego chal auth ≡ mic
 unfolding sines step stepped_by turns round added block_taken padding start word_bytes md5 filled_out key_block hmac zeroed mic_of
 worked_out = refl
 
-no : (check_mic key nego other_chal auth ≡ Compared false) × (check_mic key nego chal other_auth ≡ Compared false)
+no : (check_mic key nego other_chal auth ≡ Ok false) × (check_mic key nego chal other_auth ≡ Ok false)
 unfolding sines step stepped_by turns round added block_taken padding start word_bytes md5 filled_out key_block hmac zeroed mic_of check_mic
 no = (rw clear.1 refl, rw clear.2 refl)
 

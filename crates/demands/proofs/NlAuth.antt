@@ -1,4 +1,6 @@
 -- NL_AUTH is taken exactly when every check holds, and its strings are its own.
+use Rattle.std.specs.Prelude.{Result, Ok, Err, Some, None}
+use Rattle.read_nl_auth.specs.declared.NlAuth.{NlAuth}
 use Prim.Native.Nat.{ℕ, zero, suc, ◌+◌, ◌-◌, ◌/◌, ◌%◌, ◌≤◌, ◌<◌}
 use mathlib.Core.Path.{◌≡◌, refl, sym, ap, ◌∙◌, subst}
 use mathlib.Core.Logic.{◌⊎◌, inl, inr, ⊎_elim}
@@ -17,16 +19,10 @@ use Rattle.wire.specs.Check.{checked}
 use Rattle.wire.specs.Number.{u32_at}
 use Rattle.wire.specs.Refusal.{number_of, field_of}
 use Rattle.wire.proofs.Bools.{and_left, and_right, and_both}
-use Rattle.read_nl_auth.specs.declared.Reading.{Reading}
-use Rattle.read_nl_auth.specs.declared.Reading.TheVariants.{Taken, Refused}
 use Rattle.read_nl_auth.specs.declared.string.NlString.{NlString}
-use Rattle.read_nl_auth.specs.declared.string.Scan.TheVariants.{Found, Missing}
-use Rattle.read_nl_auth.specs.declared.name.NameScan.TheVariants.{Found as Named, Refused as Not}
 use Rattle.read_dns_name.specs.declared.Fault.{Fault}
 use Rattle.read_dns_name.specs.declared.Fault.TheVariants.{CutShort, WrongTopBits, PlaceNotBefore, TooManyJumps, NameTooLong}
 use Rattle.read_dns_name.specs.declared.Name.{Name}
-use Rattle.read_dns_name.specs.declared.Reading.{Reading as NameReading}
-use Rattle.read_dns_name.specs.declared.Reading.TheVariants.{Taken as Read, Refused as Faulty}
 use Rattle.read_dns_name.specs.DnsName.{read_name, number_of as fault_number}
 use Rattle.read_dns_name.proofs.Exact.{taken, refused}
 use Rattle.read_nl_auth.proofs.Names.{own_bytes_lem}
@@ -256,11 +252,11 @@ module _ (s : List ℕ) where
           let l = ltb-false k 18 p in
           no_row k i (λ e. omega arith) (λ e. omega arith) (λ e. omega arith) (λ e. omega arith) (λ e. omega arith) (λ e. omega arith) (λ e. omega arith) h
 
-  abbrev pub Judged : Reading → Type 0
-  Judged (Taken m) =
+  abbrev pub Judged : Result NlAuth Refusal → Type 0
+  Judged (Ok m) =
       ((n i : ℕ) → NlFails s n i → ⊥)
       × (((type_of s ≡ 0) × OwnRequest s m) ⊎ ((type_of s ≡ 1) × OwnResponse s m))
-  Judged (Refused e) = NlFirst s (number_of e) (field_of e)
+  Judged (Err e) = NlFirst s (number_of e) (field_of e)
 
   -- string i of a request: where it stands, and what is known after it
   module _ (t0 : type_of s ≡ 0) (long : 8 ≤ length s) (i : ℕ) (is is' : List ℕ) (at : ℕ) (h1 : 1 ≤ i) (h5 : i ≤ 5)
@@ -292,10 +288,10 @@ module _ (s : List ℕ) where
     abbrev here : NlString
     here = record { offset = at; len = string_length (drop at s); jumps = 0 }
 
-    string : i ≤ 2 → (b : Bool) (e : Refusal) (x : NlString → ℕ → Reading) →
+    string : i ≤ 2 → (b : Bool) (e : Refusal) (x : NlString → ℕ → Result NlAuth Refusal) →
         (b ≡ true → BitSet s (mask_of i)) → (b ≡ false → BitSet s (mask_of i) → ⊥) → e ≡ Unterminated i →
         ((f : NlString) (next : ℕ) → OwnString s i f → Free StepFails 15 (i + 1) → Strings s is' 8 next → Judged (x f next)) →
-        Judged (on_found (string_under b s at) (Refused e) x)
+        Judged (on_found (string_under b s at) (Err e) x)
     unfolding string_under string_at
     string i2 b e x on off is-e rest = go b on off where
       found : (z : ZeroAt s at (at + string_length (drop at s))) → BitSet s (mask_of i) → Judged (x here (at + string_length (drop at s) + 1))
@@ -319,9 +315,9 @@ module _ (s : List ℕ) where
           k.0 k.1
 
       go : (c : Bool) → (c ≡ true → BitSet s (mask_of i)) → (c ≡ false → BitSet s (mask_of i) → ⊥) →
-          Judged (on_found (cond c (cond (holds_zero (drop at s)) (Found here (at + string_length (drop at s) + 1)) Missing) (Found no_string at)) (Refused e) x)
+          Judged (on_found (cond c (cond (holds_zero (drop at s)) (Some (here, (at + string_length (drop at s) + 1))) None) (Some (no_string, at))) (Err e) x)
       go true y n = by (holds_zero (drop at s)) refl where
-        by : (t : Bool) → holds_zero (drop at s) ≡ t → Judged (on_found (cond t (Found here (at + string_length (drop at s) + 1)) Missing) (Refused e) x)
+        by : (t : Bool) → holds_zero (drop at s) ≡ t → Judged (on_found (cond t (Some (here, (at + string_length (drop at s) + 1))) None) (Err e) x)
         by true p = found (zero_found at at_behind.1 p) (y refl)
         by false p = rw is-e (raise 15 i free (fails 15 (y refl) (no_zero_lem i2 refl (zero_missing at p))))
       go false y n =
@@ -330,12 +326,12 @@ module _ (s : List ℕ) where
           (over (n refl)).0 (over (n refl)).1
 
     -- C, D and E
-    named : 3 ≤ i → (b : Bool) (x : NlString → ℕ → Reading) → (b ≡ true → BitSet s (mask_of i)) → (b ≡ false → BitSet s (mask_of i) → ⊥) →
+    named : 3 ≤ i → (b : Bool) (x : NlString → ℕ → Result NlAuth Refusal) → (b ≡ true → BitSet s (mask_of i)) → (b ≡ false → BitSet s (mask_of i) → ⊥) →
         ((f : NlString) (next : ℕ) → OwnName s i f → Free StepFails 15 (i + 1) → Strings s is' 8 next → Judged (x f next)) →
         Judged (on_named (name_under b s at i) x)
     unfolding name_under name_at
     named i3 b x on off rest = go b on off where
-      found : (m : Name) → read_name (drop 8 s) (at - 8) ≡ Read m → BitSet s (mask_of i) → Judged (x (name_string at m) (8 + m.next))
+      found : (m : Name) → read_name (drop 8 s) (at - 8) ≡ Ok m → BitSet s (mask_of i) → Judged (x (name_string at m) (8 + m.next))
       found m e set =
           let w = taken (drop 8 s) (at - 8) m e in
           let k = passed (8 + m.next) set (name i3 w refl) in
@@ -355,9 +351,9 @@ module _ (s : List ℕ) where
           })
           k.0 k.1
 
-      faulty : (e : Fault) → read_name (drop 8 s) (at - 8) ≡ Faulty e → BitSet s (mask_of i) → Judged (Refused (refusal_in e i))
+      faulty : (e : Fault) → read_name (drop 8 s) (at - 8) ≡ Err e → BitSet s (mask_of i) → Judged (Err (refusal_in e i))
       faulty e h set = by e (in_name i3 (refused (drop 8 s) (at - 8) e h)) where
-        by : (f : Fault) → FaultIn s i at (fault_number f) → Judged (Refused (refusal_in f i))
+        by : (f : Fault) → FaultIn s i at (fault_number f) → Judged (Err (refusal_in f i))
         by CutShort w = raise 15 i free (fails 15 set w)
         by WrongTopBits w = raise 50 i free (fails 50 set w)
         by PlaceNotBefore w = raise 51 i free (fails 51 set w)
@@ -365,12 +361,12 @@ module _ (s : List ℕ) where
         by NameTooLong w = raise 53 i free (fails 53 set w)
 
       go : (c : Bool) → (c ≡ true → BitSet s (mask_of i)) → (c ≡ false → BitSet s (mask_of i) → ⊥) →
-          Judged (on_named (cond c (on_name (read_name (drop 8 s) (at - 8)) (λ m. Named (name_string at m) (8 + m.next)) (λ e. Not (refusal_in e i))) (Named no_string at)) x)
+          Judged (on_named (cond c (on_name (read_name (drop 8 s) (at - 8)) (λ m. (Ok ((name_string at m), (8 + m.next)))) (λ e. Err (refusal_in e i))) (Ok (no_string, at))) x)
       go true y n = by (read_name (drop 8 s) (at - 8)) refl where
-        by : (r : NameReading) → read_name (drop 8 s) (at - 8) ≡ r →
-            Judged (on_named (on_name r (λ m. Named (name_string at m) (8 + m.next)) (λ e. Not (refusal_in e i))) x)
-        by (Read m) p = found m p (y refl)
-        by (Faulty e) p = faulty e p (y refl)
+        by : (r : Result Name Fault) → read_name (drop 8 s) (at - 8) ≡ r →
+            Judged (on_named (on_name r (λ m. (Ok ((name_string at m), (8 + m.next)))) (λ e. Err (refusal_in e i))) x)
+        by (Ok m) p = found m p (y refl)
+        by (Err e) p = faulty e p (y refl)
       go false y n =
           rest no_string at
           (record { there = λ h. absurd (n refl h); none = λ h. (refl, refl, refl, own_bytes_lem s no_string (omega arith)) })
@@ -522,9 +518,9 @@ nl_auth_judged s =
     one : (m j o n i p : ℕ) → FirstAt s m j o → FirstAt s n i p → (m ≡ n) × (j ≡ i) × (o ≡ p)
     one m j o n i p f g = let x = only_one s m j n i f.0 g.0 in (x.0, x.1, f.1 ∙ sym g.1)
 
-    go : (r : Reading) → read_nl_auth s ≡ r → Judged s r → By (NoneFails (NlFails s)) (FirstAt s) (nl_verdict r)
-    go (Taken m) e j = j.0
-    go (Refused d) e j = (j, nl_auth_placeless s (read_nl_auth s) d refl e)
+    go : (r : Result NlAuth Refusal) → read_nl_auth s ≡ r → Judged s r → By (NoneFails (NlFails s)) (FirstAt s) (nl_verdict r)
+    go (Ok m) e j = j.0
+    go (Err d) e j = (j, nl_auth_placeless s (read_nl_auth s) d refl e)
 
 pub nl_auth_own : NlAuthOwn
 nl_auth_own s m h = (subst (Judged s) h (judged s)).1

@@ -1,44 +1,27 @@
 -- The numbers that a C caller gets are the message's own.
+use Rattle.std.specs.Prelude.{Result, Option, Ok, Err, Some, None, ⊤}
+use Rattle.av_pairs.specs.declared.AvPair.{AvPair}
+use Rattle.read_authenticate.specs.declared.Authenticate.{Authenticate}
+use Rattle.read_challenge.specs.declared.Challenge.{Challenge}
+use Rattle.read_negotiate.specs.declared.Negotiate.{Negotiate}
+use Rattle.respond.specs.declared.decision.Decision.{Decision}
+use Rattle.target_info.specs.declared.ServerNames.{ServerNames}
+use Rattle.wire.specs.declared.refusal.Refusal.{Refusal}
 use Prim.Native.Nat.{ℕ, ◌+◌}
 use mathlib.Core.Path.{◌≡◌, refl, sym, ◌∙◌, subst}
 use mathlib.Core.Logic.{inl, inr, ⊎_elim, ◌↔◌}
 use mathlib.Core.Bool.{Bool, true, false}
 use mathlib.Core.List.{List, ◌∷◌}
 use lib.ListN.{replicate}
-use Rattle.wire.specs.declared.check.Verdict.{Verdict}
-use Rattle.wire.specs.declared.check.Verdict.TheVariants.{Clear, Refused as Not}
 use Rattle.field.specs.declared.Field.{Field}
-use Rattle.read_authenticate.specs.declared.Reading.{Reading}
-use Rattle.read_authenticate.specs.declared.Reading.TheVariants.{Taken, Refused}
 use Rattle.read_authenticate.specs.Authenticate.{read_authenticate}
-use Rattle.av_pairs.specs.declared.Count.{Count}
-use Rattle.av_pairs.specs.declared.Count.TheVariants.{Pairs, Refused as Uncounted}
-use Rattle.av_pairs.specs.declared.Found.TheVariants.{At, Nothing}
-use Rattle.av_pairs.specs.declared.Step.{Step}
-use Rattle.av_pairs.specs.declared.Step.TheVariants.{Pair, End, Refused as Faulty}
 use Rattle.av_pairs.specs.AvPairs.{count_pairs, ask_at}
-use Rattle.read_challenge.specs.declared.Reading.{Reading as ChallengeReading}
-use Rattle.read_challenge.specs.declared.Reading.TheVariants.{Taken as ChallengeTaken, Refused as ChallengeRefused}
-use Rattle.read_challenge.specs.declared.ServerNamesReading.{ServerNamesReading}
-use Rattle.read_challenge.specs.declared.ServerNamesReading.TheVariants.{Taken as NamesTaken, Refused as NamesRefused}
-use Rattle.read_challenge.specs.declared.TimestampReading.{TimestampReading}
-use Rattle.read_challenge.specs.declared.TimestampReading.TheVariants.{Taken as TimeTaken, Refused as TimeRefused}
 use Rattle.read_challenge.specs.Challenge.{read_challenge, timestamp_of, server_names_of}
-use Rattle.target_info.specs.declared.Search.{Search}
-use Rattle.target_info.specs.declared.Search.TheVariants.{Done, Refused as Unsearched}
-use Rattle.target_info.specs.declared.Timestamp.{Timestamp}
-use Rattle.target_info.specs.declared.Timestamp.TheVariants.{Time, Nothing as NoTime}
 use Rattle.target_info.specs.TargetInfo.{find_pair}
-use Rattle.read_negotiate.specs.declared.Reading.{Reading as NegotiateReading}
-use Rattle.read_negotiate.specs.declared.Reading.TheVariants.{Taken as NegotiateTaken, Refused as NegotiateRefused}
 use Rattle.read_negotiate.specs.Negotiate.{read_negotiate}
 use Rattle.read_nl_auth.specs.declared.NlAuth.{NlAuth}
-use Rattle.read_nl_auth.specs.declared.Reading.{Reading as NlReading}
-use Rattle.read_nl_auth.specs.declared.Reading.TheVariants.{Taken as NlTaken, Refused as NlRefused}
 use Rattle.read_nl_auth.specs.declared.string.NlString.{NlString}
 use Rattle.read_nl_auth.specs.NlAuth.{labels_of, read_nl_auth}
-use Rattle.respond.specs.declared.decision.Decided.{Decided}
-use Rattle.respond.specs.declared.decision.Decided.TheVariants.{Taken as Decides, Refused as Declines}
 use Rattle.respond.specs.Decision.{decision_on}
 use Rattle.mic.specs.Mic.{computed_mic}
 use Rattle.c_number.specs.Number.{bit}
@@ -106,7 +89,7 @@ name_numbers {s} x o at len jumps =
       none = λ clear. (at ∙ (o.none clear).0, len ∙ (o.none clear).1, jumps ∙ (o.none clear).2);
     }
 
-nl_numbers : (s : List ℕ) (m : NlAuth) → read_nl_auth s ≡ NlTaken m → NlAuthNumbers s (nl_auth_numbers m)
+nl_numbers : (s : List ℕ) (m : NlAuth) → read_nl_auth s ≡ Ok m → NlAuthNumbers s (nl_auth_numbers m)
 unfolding nl_auth_numbers
 nl_numbers s m h = ⊎_elim (λ r. inl (r.0, request r.1)) (λ r. inr (r.0, response r.1)) (nl_auth_own s m h) where
   request : OwnRequest s m → RequestNumbers s (nl_auth_numbers m)
@@ -127,69 +110,69 @@ nl_numbers s m h = ⊎_elim (λ r. inl (r.0, request r.1)) (λ r. inr (r.0, resp
 say : (c : Call) → OnNumbers (NumbersSay c) (outcome c)
 unfolding negotiate_numbers timestamp_numbers server_names_numbers found_numbers pair_numbers decision_numbers
 say (read_negotiate_call s) = go (read_negotiate s) refl where
-  go : (r : NegotiateReading) → read_negotiate s ≡ r → OnNumbers (NumbersSay (read_negotiate_call s)) (negotiate_outcome r)
-  go (NegotiateTaken m) h =
+  go : (r : Result Negotiate Refusal) → read_negotiate s ≡ r → OnNumbers (NumbersSay (read_negotiate_call s)) (negotiate_outcome r)
+  go (Ok m) h =
       let o = negotiate_own s m h in
       record {
         flags = o.flags;
         domain = field_numbers m.fields.domain o.domain refl refl refl;
         workstation = field_numbers m.fields.workstation o.workstation refl refl refl;
       }
-  go (NegotiateRefused e) h = tt
+  go (Err e) h = tt
 say (read_timestamp s) = go (timestamp_of s) refl where
-  go : (r : TimestampReading) → timestamp_of s ≡ r → OnNumbers (NumbersSay (read_timestamp s)) (timestamp_outcome r)
-  go (TimeTaken (Time t)) h = λ b info. inl (refl, timestamp_own s b info t h)
-  go (TimeTaken NoTime) h = λ b info. inr (refl, refl, λ p. no_timestamp_there s b info h p.0 p.1)
-  go (TimeRefused e) h = tt
+  go : (r : Result (Option ℕ) Refusal) → timestamp_of s ≡ r → OnNumbers (NumbersSay (read_timestamp s)) (timestamp_outcome r)
+  go (Ok (Some t)) h = λ b info. inl (refl, timestamp_own s b info t h)
+  go (Ok None) h = λ b info. inr (refl, refl, λ p. no_timestamp_there s b info h p.0 p.1)
+  go (Err e) h = tt
 say (read_server_names s) = go (server_names_of s) refl where
-  go : (r : ServerNamesReading) → server_names_of s ≡ r → OnNumbers (NumbersSay (read_server_names s)) (server_names_outcome r)
-  go (NamesTaken n) h = λ b info.
+  go : (r : Result ServerNames Refusal) → server_names_of s ≡ r → OnNumbers (NumbersSay (read_server_names s)) (server_names_outcome r)
+  go (Ok n) h = λ b info.
       let o = server_names_own s b info n h in
       (yes_or_no n.nb_computer_name _ o.0, yes_or_no n.nb_domain_name _ o.1)
-  go (NamesRefused e) h = tt
+  go (Err e) h = tt
 say (read_nl_auth_call s) = go (read_nl_auth s) refl where
-  go : (r : NlReading) → read_nl_auth s ≡ r → OnNumbers (NumbersSay (read_nl_auth_call s)) (nl_auth_outcome r)
-  go (NlTaken m) h = nl_numbers s m h
-  go (NlRefused e) h = tt
+  go : (r : Result NlAuth Refusal) → read_nl_auth s ≡ r → OnNumbers (NumbersSay (read_nl_auth_call s)) (nl_auth_outcome r)
+  go (Ok m) h = nl_numbers s m h
+  go (Err e) h = tt
 say (count_pairs_call s) = go (count_pairs s) refl where
-  go : (r : Count) → count_pairs s ≡ r → OnNumbers (NumbersSay (count_pairs_call s)) (count_outcome r)
-  go (Pairs n) h = (pairs_taken s n).0 h
-  go (Uncounted e) h = tt
+  go : (r : Result ℕ Refusal) → count_pairs s ≡ r → OnNumbers (NumbersSay (count_pairs_call s)) (count_outcome r)
+  go (Ok n) h = (pairs_taken s n).0 h
+  go (Err e) h = tt
 say (find_pair_call s id) = go (find_pair (record { id = id }) s) refl where
-  go : (r : Search) → find_pair (record { id = id }) s ≡ r → OnNumbers (NumbersSay (find_pair_call s id)) (search_outcome r)
-  go (Done (At p)) h = let o = found_own s (record { id = id }) p h in inl (refl, (o.place, o.first, o.value, o.size))
-  go (Done Nothing) h = inr (refl, refl, refl, λ t. nothing_there s (record { id = id }) h t.0 t.1)
-  go (Unsearched e) h = tt
+  go : (r : Result (Option AvPair) Refusal) → find_pair (record { id = id }) s ≡ r → OnNumbers (NumbersSay (find_pair_call s id)) (search_outcome r)
+  go (Ok (Some p)) h = let o = found_own s (record { id = id }) p h in inl (refl, (o.place, o.first, o.value, o.size))
+  go (Ok None) h = inr (refl, refl, refl, λ t. nothing_there s (record { id = id }) h t.0 t.1)
+  go (Err e) h = tt
 say (next_pair s at) = go (ask_at s at).step refl where
   w : AskedAt s at (ask_at s at)
   w = asking_gives s at
 
-  go : (r : Step) → (ask_at s at).step ≡ r → OnNumbers (NumbersSay (next_pair s at)) (step_outcome r (ask_at s at).next)
-  go (Pair p) h =
+  go : (r : Result (Option AvPair) Refusal) → (ask_at s at).step ≡ r → OnNumbers (NumbersSay (next_pair s at)) (step_outcome r (ask_at s at).next)
+  go (Ok (Some p)) h =
       let i = (w.pair p).0 h in
       inl (i.there, record { there = refl; id = i.id; value = i.value; size = i.size; next = w.onward i.there })
-  go End h = let e = w.end.0 h in inr (e, simp (w.stays (λ p. pair_or_stop s at p e)))
-  go (Faulty e) h = tt
+  go (Ok None) h = let e = w.end.0 h in inr (e, simp (w.stays (λ p. pair_or_stop s at p e)))
+  go (Err e) h = tt
 say (decide settings s) = go (decision_on (settings_of settings) s) refl where
-  stamp : (b : List ℕ) (flags : ℕ) (t : Timestamp) → TimestampIs b t →
+  stamp : (b : List ℕ) (flags : ℕ) (t : Option ℕ) → TimestampIs b t →
       TimestampNumbers b (number_at (decision_numbers flags t) 1) (number_at (decision_numbers flags t) 2)
-  stamp b flags (Time t) w = inl (refl, w)
-  stamp b flags NoTime w = inr (refl, refl, w)
+  stamp b flags (Some t) w = inl (refl, w)
+  stamp b flags None w = inr (refl, refl, w)
 
-  front : (flags : ℕ) (t : Timestamp) → number_at (decision_numbers flags t) 0 ≡ flags
-  front flags (Time t) = refl
-  front flags NoTime = refl
+  front : (flags : ℕ) (t : Option ℕ) → number_at (decision_numbers flags t) 0 ≡ flags
+  front flags (Some t) = refl
+  front flags None = refl
 
-  go : (r : Decided) → decision_on (settings_of settings) s ≡ r → OnNumbers (NumbersSay (decide settings s)) (decided_outcome r)
-  go (Decides d) h = λ b info.
+  go : (r : Result Decision Refusal) → decision_on (settings_of settings) s ≡ r → OnNumbers (NumbersSay (decide settings s)) (decided_outcome r)
+  go (Ok d) h = λ b info.
       let o = (decision_taken (settings_of settings) s b info d).0 h in
       (front d.flags.bits d.timestamp ∙ o.1, stamp b d.flags.bits d.timestamp o.2)
-  go (Declines e) h = tt
+  go (Err e) h = tt
 say (compute_mic key nego chal auth) = go (computed_mic key nego chal auth).verdict refl where
-  go : (v : Verdict) → (computed_mic key nego chal auth).verdict ≡ v →
+  go : (v : Result ⊤ Refusal) → (computed_mic key nego chal auth).verdict ≡ v →
       OnNumbers (NumbersSay (compute_mic key nego chal auth)) (handed_out v (computed_mic key nego chal auth).mic)
-  go Clear h = mic_is key nego chal auth h
-  go (Not e) h = tt
+  go (Ok tt) h = mic_is key nego chal auth h
+  go (Err e) h = tt
 
 pub call_numbers_own : CallNumbersOwn
 call_numbers_own c xs h = subst (OnNumbers (NumbersSay c)) h (say c)
@@ -197,9 +180,9 @@ call_numbers_own c xs h = subst (OnNumbers (NumbersSay c)) h (say c)
 two_say : (c : TwoArrayCall) → OnNumbers (λ xs. TwoArraysSay c xs (bytes_beside c)) (two_array_outcome c)
 unfolding authenticate_numbers challenge_numbers
 two_say (read_authenticate_call s) = go (read_authenticate s).reading refl where
-  go : (r : Reading) → (read_authenticate s).reading ≡ r →
+  go : (r : Result Authenticate Refusal) → (read_authenticate s).reading ≡ r →
       OnNumbers (λ xs. TwoArraysSay (read_authenticate_call s) xs (bytes_beside (read_authenticate_call s))) (authenticate_outcome r)
-  go (Taken a) h =
+  go (Ok a) h =
       let o = authenticate_own s a h in
       record {
         flags = o.flags;
@@ -213,11 +196,11 @@ two_say (read_authenticate_call s) = go (read_authenticate s).reading refl where
         mic_bytes_is = o.mic_bytes_is;
         mic_zeros = o.mic_zeros;
       }
-  go (Refused e) h = tt
+  go (Err e) h = tt
 two_say (read_challenge_call s) = go (read_challenge s).reading refl where
-  go : (r : ChallengeReading) → (read_challenge s).reading ≡ r →
+  go : (r : Result Challenge Refusal) → (read_challenge s).reading ≡ r →
       OnNumbers (λ xs. TwoArraysSay (read_challenge_call s) xs (bytes_beside (read_challenge_call s))) (challenge_outcome r)
-  go (ChallengeTaken c) h =
+  go (Ok c) h =
       let o = challenge_own s c h in
       record {
         flags = o.flags;
@@ -225,53 +208,53 @@ two_say (read_challenge_call s) = go (read_challenge s).reading refl where
         target_info_is = field_numbers c.fields.target_info o.target_info_is refl refl refl;
         server_challenge_is = o.server_challenge_is;
       }
-  go (ChallengeRefused e) h = tt
+  go (Err e) h = tt
 
 pub two_array_numbers_own : TwoArrayNumbersOwn
 two_array_numbers_own c xs h = subst (OnNumbers (λ xs. TwoArraysSay c xs (bytes_beside c))) h (two_say c)
 
 -- ---- taken and refused from C as what is read, searched, asked or decided there
 
-nego_judged : (r : NegotiateReading) → outcome_verdict (negotiate_outcome r) ≡ nego_verdict r
-nego_judged (NegotiateTaken m) = refl
-nego_judged (NegotiateRefused e) = refl
+nego_judged : (r : Result Negotiate Refusal) → outcome_verdict (negotiate_outcome r) ≡ nego_verdict r
+nego_judged (Ok m) = refl
+nego_judged (Err e) = refl
 
-chal_judged : (r : ChallengeReading) → outcome_verdict (challenge_outcome r) ≡ chal_verdict r
-chal_judged (ChallengeTaken c) = refl
-chal_judged (ChallengeRefused e) = refl
+chal_judged : (r : Result Challenge Refusal) → outcome_verdict (challenge_outcome r) ≡ chal_verdict r
+chal_judged (Ok c) = refl
+chal_judged (Err e) = refl
 
-auth_judged : (r : Reading) → outcome_verdict (authenticate_outcome r) ≡ auth_verdict r
-auth_judged (Taken a) = refl
-auth_judged (Refused e) = refl
+auth_judged : (r : Result Authenticate Refusal) → outcome_verdict (authenticate_outcome r) ≡ auth_verdict r
+auth_judged (Ok a) = refl
+auth_judged (Err e) = refl
 
-nl_judged : (r : NlReading) → outcome_verdict (nl_auth_outcome r) ≡ nl_verdict r
-nl_judged (NlTaken m) = refl
-nl_judged (NlRefused e) = refl
+nl_judged : (r : Result NlAuth Refusal) → outcome_verdict (nl_auth_outcome r) ≡ nl_verdict r
+nl_judged (Ok m) = refl
+nl_judged (Err e) = refl
 
-timestamp_judged : (r : TimestampReading) → outcome_verdict (timestamp_outcome r) ≡ timestamp_verdict r
-timestamp_judged (TimeTaken t) = refl
-timestamp_judged (TimeRefused e) = refl
+timestamp_judged : (r : Result (Option ℕ) Refusal) → outcome_verdict (timestamp_outcome r) ≡ timestamp_verdict r
+timestamp_judged (Ok t) = refl
+timestamp_judged (Err e) = refl
 
-names_judged : (r : ServerNamesReading) → outcome_verdict (server_names_outcome r) ≡ server_names_verdict r
-names_judged (NamesTaken names) = refl
-names_judged (NamesRefused e) = refl
+names_judged : (r : Result ServerNames Refusal) → outcome_verdict (server_names_outcome r) ≡ server_names_verdict r
+names_judged (Ok names) = refl
+names_judged (Err e) = refl
 
-count_judged : (r : Count) → outcome_verdict (count_outcome r) ≡ count_verdict r
-count_judged (Pairs n) = refl
-count_judged (Uncounted e) = refl
+count_judged : (r : Result ℕ Refusal) → outcome_verdict (count_outcome r) ≡ count_verdict r
+count_judged (Ok n) = refl
+count_judged (Err e) = refl
 
-found_judged : (r : Search) → outcome_verdict (search_outcome r) ≡ search_verdict r
-found_judged (Done f) = refl
-found_judged (Unsearched e) = refl
+found_judged : (r : Result (Option AvPair) Refusal) → outcome_verdict (search_outcome r) ≡ search_verdict r
+found_judged (Ok f) = refl
+found_judged (Err e) = refl
 
-asked_judged : (r : Step) (next : ℕ) → outcome_verdict (step_outcome r next) ≡ step_verdict r
-asked_judged (Pair p) next = refl
-asked_judged End next = refl
-asked_judged (Faulty e) next = refl
+asked_judged : (r : Result (Option AvPair) Refusal) (next : ℕ) → outcome_verdict (step_outcome r next) ≡ step_verdict r
+asked_judged (Ok (Some p)) next = refl
+asked_judged (Ok None) next = refl
+asked_judged (Err e) next = refl
 
-decided_judged : (r : Decided) → outcome_verdict (decided_outcome r) ≡ decided_verdict r
-decided_judged (Decides d) = refl
-decided_judged (Declines e) = refl
+decided_judged : (r : Result Decision Refusal) → outcome_verdict (decided_outcome r) ≡ decided_verdict r
+decided_judged (Ok d) = refl
+decided_judged (Err e) = refl
 
 pub readings_from_c : ReadingsFromC
 readings_from_c s =

@@ -1,6 +1,8 @@
 -- Each field handed out is that field's own bytes.
 pub mod ChallengeOwn
 pub mod Found
+use Rattle.std.specs.Prelude.{Result, Ok}
+use Rattle.wire.specs.declared.refusal.Refusal.{Refusal}
 use Prim.Native.Nat.{ℕ, zero, suc, ◌+◌, ◌≤◌, ◌<◌}
 use mathlib.Core.Path.{◌≡◌, refl, sym, ap, ◌∙◌, subst}
 use mathlib.Core.Bool.{Bool, true, false, cond}
@@ -13,8 +15,6 @@ use Rattle.field.specs.Field.{is_empty, field_bytes}
 use Rattle.head.specs.Head.{flags_at}
 use Rattle.field.proofs.Fields.{own_bytes_lem, no_bytes}
 use Rattle.read_authenticate.specs.declared.Authenticate.{Authenticate}
-use Rattle.read_authenticate.specs.declared.Reading.{Reading}
-use Rattle.read_authenticate.specs.declared.Reading.TheVariants.{Taken}
 use Rattle.read_authenticate.specs.Authenticate.{fields_at, mic_present, mic_bytes, read_authenticate}
 use Rattle.read_nl_auth.specs.NlAuth.{string_bytes}
 use Rattle.read_authenticate.proofs.Laws.{taken_by}
@@ -59,7 +59,7 @@ module _ (k : Format) (s : List ℕ) (i : ℕ) (f : Field) (w : Stands k s i f) 
         go h = omega (arith, h)
 
 -- what a taken message is answered with
-pub taken_answer : (s : List ℕ) (a : Authenticate) → (read_authenticate s).reading ≡ Taken a →
+pub taken_answer : (s : List ℕ) (a : Authenticate) → (read_authenticate s).reading ≡ Ok a →
     a ≡ record { flags = flags_at s 60; fields = fields_at s (flags_at s 60); mic_present = mic_present (length s) (fields_at s (flags_at s 60)) }
 unfolding read_authenticate
 taken_answer s a h =
@@ -67,7 +67,7 @@ taken_answer s a h =
     t.answer ∙ simp (subst (JudgedH authenticate s) t.head (head_judged authenticate s (omega arith))).0
 
 -- a taken message fails no check
-pub none_fails : (s : List ℕ) (a : Authenticate) → (read_authenticate s).reading ≡ Taken a → (n i : ℕ) → Fails authenticate s n i → ⊥
+pub none_fails : (s : List ℕ) (a : Authenticate) → (read_authenticate s).reading ≡ Ok a → (n i : ℕ) → Fails authenticate s n i → ⊥
 none_fails s a h = (authenticate_judged s).taken.0 (rw h tt)
 
 not_there : (s : List ℕ) → (mic_present (length s) (fields_at s (flags_at s 60)) ≡ true → ⊥) → mic_present (length s) (fields_at s (flags_at s 60)) ≡ false
@@ -77,7 +77,7 @@ not_there s h = go (mic_present (length s) (fields_at s (flags_at s 60))) refl w
   go false p = p
 
 -- the MIC's bytes of a taken message, by whether it is there
-mic_is : (s : List ℕ) (a : Authenticate) → (read_authenticate s).reading ≡ Taken a →
+mic_is : (s : List ℕ) (a : Authenticate) → (read_authenticate s).reading ≡ Ok a →
     (b : Bool) → mic_present (length s) (fields_at s (flags_at s 60)) ≡ b →
     (read_authenticate s).mic ≡ cond b (take 16 (drop 72 s)) (replicate 16 0)
 unfolding read_authenticate
@@ -103,7 +103,7 @@ authenticate_own s a h =
 
 pub authenticate_refused_mic : AuthenticateRefusedMic
 unfolding read_authenticate
-authenticate_refused_mic s e h = ap (λ (r : Reading). mic_bytes r s) h
+authenticate_refused_mic s e h = ap (λ (r : Result Authenticate Refusal). mic_bytes r s) h
 
 -- a field that holds these bytes hands them out, also where they are none
 pub own_same : (k : Format) (M : List ℕ) (i : ℕ) (g : Field) (x : List ℕ) → OwnField k M i g → (0 < len_of k M i → Nonempty k M i) →

@@ -1,4 +1,7 @@
 -- A pair list is taken exactly when it is well-formed, and refused by its earliest fault.
+use Rattle.std.specs.Prelude.{Result, Option, Ok, Err, Some, None, ⊤}
+use Rattle.av_pairs.specs.declared.AvPair.{AvPair}
+use Rattle.wire.specs.declared.refusal.Refusal.{Refusal}
 use Prim.Native.Nat.{ℕ, zero, suc, ◌+◌, ◌-◌, ◌%◌, ◌≤◌, ◌<◌}
 use mathlib.Core.Path.{◌≡◌, refl, sym, ap, ◌∙◌, subst}
 use mathlib.Core.Logic.{◌⊎◌, inl, inr, ⊎_elim, ◌↔◌}
@@ -9,16 +12,10 @@ use lib.Dec.{eqb}
 use lib.ListN.{length}
 use borrow.Author.Tests.{leb-true, leb-false, eqb-true, eqb-false, eq-eqb, ne_eqb}
 use Rattle.av_id.specs.declared.AvId.{AvId}
-use Rattle.wire.specs.declared.check.Verdict.{Verdict}
-use Rattle.wire.specs.declared.check.Verdict.TheVariants.{Clear, Refused as Not}
 use Rattle.wire.proofs.Laws.{held_true}
 use Rattle.av_id.specs.AvId.{is_end, is_text, size_allowed, implies}
 use Rattle.wire.specs.Check.{on_clear}
 use Rattle.wire.specs.Refusal.{number_of, field_of, place_of}
-use Rattle.av_pairs.specs.declared.Step.{Step}
-use Rattle.av_pairs.specs.declared.Step.TheVariants.{Pair, End, Refused}
-use Rattle.av_pairs.specs.declared.Count.{Count}
-use Rattle.av_pairs.specs.declared.Count.TheVariants.{Pairs, Refused as Uncounted}
 use Rattle.av_pairs.specs.AvPairs.{left, id_at, pair_of, step_at, end_of, on_step, pairs_from, stop_from, pairs_of, check_pairs, count_pairs}
 use Rattle.demands.specs.PairList.{id_of, size_of, next_of, SizeAllowed, PairAt, EndAt, WellFormed, end, pair, Holds, empty, listed, Fails10, Fails11, Fails12, FaultAt, fault10, fault11, fault12, fault13, FirstFault, FirstWith, this, next, here, later, ListFails}
 use Rattle.demands.specs.TakenExactly.{RefusedWith, count_verdict, PairsTaken, PairsRefused}
@@ -99,10 +96,10 @@ module _ (a : AvId) (n : ℕ) where
       (to_imply (eqb a.id 10) (eqb n 16) (λ e. eq-eqb n 16 (w.bindings (eqb-true a.id 10 e))))
 
 -- what a step is: a pair, the end, or the fault at its place
-abbrev pub JudgedS : List ℕ → ℕ → Step → Type 0
-JudgedS s at (Pair p) = PairAt s at × (p ≡ record { id = id_at s at; at = at + 4; len = size_of s at })
-JudgedS s at End = EndAt s at
-JudgedS s at (Refused e) = FaultAt s at (number_of e) × (field_of e ≡ 2) × (place_of e ≡ at)
+abbrev pub JudgedS : List ℕ → ℕ → Result (Option AvPair) Refusal → Type 0
+JudgedS s at (Ok (Some p)) = PairAt s at × (p ≡ record { id = id_at s at; at = at + 4; len = size_of s at })
+JudgedS s at (Ok None) = EndAt s at
+JudgedS s at (Err e) = FaultAt s at (number_of e) × (field_of e ≡ 2) × (place_of e ≡ at)
 
 module _ (s : List ℕ) (at : ℕ) where
   not-both : (a b : Bool) → (a && b) ≡ false → (a ≡ false) ⊎ (b ≡ false)
@@ -171,49 +168,49 @@ module _ (s : List ℕ) (at : ℕ) where
 
       last : (e : Bool) → eqb (id_of s at) 0 ≡ e → implies (is_end (id_at s at)) (eqb (size_of s at) 0 && eqb (left s at) 4) ≡ true →
           next_of s at ≤ length s → SizeAllowed (id_of s at) (size_of s at) →
-          JudgedS s at (cond e End (Pair (record { id = id_at s at; at = at + 4; len = size_of s at })))
+          JudgedS s at (cond e (Ok None) (Ok (Some (record { id = id_at s at; at = at + 4; len = size_of s at }))))
       last true p h w z = end_held h (eqb-true (id_of s at) 0 p)
       last false p h w z = (record { whole = w; not_end = eqb-false (id_of s at) 0 p; size = z }, refl)
 
 -- a list from a place on, in steps
-abbrev JudgedL : List ℕ → ℕ → ℕ → Verdict → Type 0
-JudgedL s at n Clear = WellFormed s at n
-JudgedL s at n (Not e) = FirstFault s (number_of e) (place_of e) at × (field_of e ≡ 2)
+abbrev JudgedL : List ℕ → ℕ → ℕ → Result ⊤ Refusal → Type 0
+JudgedL s at n (Ok tt) = WellFormed s at n
+JudgedL s at n (Err e) = FirstFault s (number_of e) (place_of e) at × (field_of e ≡ 2)
 
-one_more : (s : List ℕ) (at n : ℕ) (v : Verdict) → PairAt s at → JudgedL s (next_of s at) n v → JudgedL s at (suc n) v
-one_more s at n Clear w j = let e : suc n ≡ n + 1 = omega arith in pair {n = suc n} {m = n} w e j
-one_more s at n (Not e) w j = (later w j.0, j.1)
+one_more : (s : List ℕ) (at n : ℕ) (v : Result ⊤ Refusal) → PairAt s at → JudgedL s (next_of s at) n v → JudgedL s at (suc n) v
+one_more s at n (Ok tt) w j = let e : suc n ≡ n + 1 = omega arith in pair {n = suc n} {m = n} w e j
+one_more s at n (Err e) w j = (later w j.0, j.1)
 
 list_judged : (k : ℕ) (s : List ℕ) (at : ℕ) → 0 < length s → length s - at < k → JudgedL s at (length (pairs_from k s at)) (stop_from k s at)
 list_judged zero s at h l = absurd (omega arith)
 list_judged (suc k) s at h l = go (step_at s at) (step_judged s at h) (λ f. list_judged k s (next_of s at) h f) where
-  go : (x : Step) → JudgedS s at x →
+  go : (x : Result (Option AvPair) Refusal) → JudgedS s at x →
       (length s - next_of s at < k → JudgedL s (next_of s at) (length (pairs_from k s (next_of s at))) (stop_from k s (next_of s at))) →
       JudgedL s at (length (on_step x (λ p. p ∷ pairs_from k s (end_of p)) (λ v. []))) (on_step x (λ p. stop_from k s (end_of p)) (λ v. v))
-  go (Pair p) j rest =
+  go (Ok (Some p)) j rest =
       rw j.1
       (one_more s at (length (pairs_from k s (next_of s at))) (stop_from k s (next_of s at)) j.0 (rest (omega (arith, j.0.whole))))
-  go End j rest = end j refl
-  go (Refused e) j rest = (here j.2 j.0, j.1)
+  go (Ok None) j rest = end j refl
+  go (Err e) j rest = (here j.2 j.0, j.1)
 
 -- an empty list is at its end
-pub empty_step : (s : List ℕ) (at : ℕ) → length s ≡ 0 → step_at s at ≡ End
+pub empty_step : (s : List ℕ) (at : ℕ) → length s ≡ 0 → step_at s at ≡ Ok None
 unfolding step_at
 empty_step s at e = simp (eq-eqb (length s) 0 e)
 
 -- the whole list
-abbrev pub JudgedC : List ℕ → Count → Type 0
-JudgedC s (Pairs n) = Holds s n
-JudgedC s (Uncounted e) = (0 < length s) × (field_of e ≡ 2) × FirstFault s (number_of e) (place_of e) 0
+abbrev pub JudgedC : List ℕ → Result ℕ Refusal → Type 0
+JudgedC s (Ok n) = Holds s n
+JudgedC s (Err e) = (0 < length s) × (field_of e ≡ 2) × FirstFault s (number_of e) (place_of e) 0
 
 pub count_judged : (s : List ℕ) → JudgedC s (count_pairs s)
 unfolding count_pairs check_pairs pairs_of
 count_judged s = go (length s) refl where
-  of_list : (n : ℕ) (v : Verdict) → 0 < length s → JudgedL s 0 n v → JudgedC s (on_clear Uncounted v (Pairs n))
-  of_list n Clear h j = listed h j
-  of_list n (Not e) h j = (h, j.1, j.0)
+  of_list : (n : ℕ) (v : Result ⊤ Refusal) → 0 < length s → JudgedL s 0 n v → JudgedC s (on_clear Err v (Ok n))
+  of_list n (Ok tt) h j = listed h j
+  of_list n (Err e) h j = (h, j.1, j.0)
 
-  go : (k : ℕ) → length s ≡ k → JudgedC s (on_clear Uncounted (stop_from (suc (length s)) s 0) (Pairs (length (pairs_from (suc (length s)) s 0))))
+  go : (k : ℕ) → length s ≡ k → JudgedC s (on_clear Err (stop_from (suc (length s)) s 0) (Ok (length (pairs_from (suc (length s)) s 0))))
   go zero p = simp (empty_step s 0 p) (empty p refl)
   go (suc k) p =
       of_list (length (pairs_from (suc (length s)) s 0)) (stop_from (suc (length s)) s 0) (omega arith)
@@ -307,15 +304,15 @@ one_place s id p q at (next x i f) (next y j g) = one_place s id p q (next_of s 
 
 pub pairs_taken : PairsTaken
 pairs_taken s n = (λ e. subst (JudgedC s) e (count_judged s), λ h. go (count_pairs s) (count_judged s) h) where
-  go : (c : Count) → JudgedC s c → Holds s n → c ≡ Pairs n
-  go (Pairs m) j h = ap Pairs (one_holds s m n j h)
-  go (Uncounted e) j h = absurd (holds_or_fault s n (number_of e) (place_of e) h j.0 j.2)
+  go : (c : Result ℕ Refusal) → JudgedC s c → Holds s n → c ≡ Ok n
+  go (Ok m) j h = ap Ok (one_holds s m n j h)
+  go (Err e) j h = absurd (holds_or_fault s n (number_of e) (place_of e) h j.0 j.2)
 
 pub pairs_refused : PairsRefused
 pairs_refused s n i p = go (count_pairs s) (count_judged s) where
-  go : (c : Count) → JudgedC s c → RefusedWith (count_verdict c) n i p ↔ ListFails s n i p
-  go (Pairs m) j = (λ t. absurd t, λ f. holds_or_fault s m n p j f.0 f.2)
-  go (Uncounted e) j = (
+  go : (c : Result ℕ Refusal) → JudgedC s c → RefusedWith (count_verdict c) n i p ↔ ListFails s n i p
+  go (Ok m) j = (λ t. absurd t, λ f. holds_or_fault s m n p j f.0 f.2)
+  go (Err e) j = (
     λ t. (j.0, sym t.1 ∙ j.1, fault_is s t.0 t.2 j.2),
     λ f. let one = one_first s j.2 f.2 in (one.0, j.1 ∙ sym f.1, one.1),
   )

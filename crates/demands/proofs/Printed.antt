@@ -1,4 +1,5 @@
 -- What a program prints: the line where it has room, and else that of 33, which has.
+use Rattle.std.specs.Prelude.{Ok}
 use Prim.Native.Nat.{ℕ, ◌≤◌, ◌<◌}
 use mathlib.Core.Path.{◌≡◌, refl}
 use mathlib.Core.Bool.{Bool, true, false}
@@ -8,7 +9,6 @@ use lib.ListN.{length}
 use borrow.Author.Tests.{leb-true, leb-false, le-leb, lt-leb}
 use Rattle.wire.specs.Text.{ascii}
 use Rattle.wire.specs.declared.refusal.Refusal.TheVariants.{NoRoom}
-use Rattle.place.specs.declared.written.Written.TheVariants.{Length}
 use Rattle.place.specs.Written.{bytes_answer}
 use Rattle.line_words.specs.Digits.{hex_digit, decimal_size, decimal}
 use Rattle.line_words.specs.Words.{number_word}
@@ -22,7 +22,7 @@ unfolding refused_line refused_text refused_end number_word decimal decimal_size
 refused_33 = refl
 
 -- a line that has room is answered with its length
-has_room : (line out : List ℕ) → length line ≤ length out → bytes_answer line out ≡ Length (length line)
+has_room : (line out : List ℕ) → length line ≤ length out → bytes_answer line out ≡ Ok (length line)
 unfolding bytes_answer
 has_room line out h = simp (le-leb (length line) (length out) h)
 
@@ -35,9 +35,9 @@ module _ (line out : List ℕ) where
   unfolding shown_line
   shows_33 h = simp (lt-leb (length line) (length out) h) refused_33
 
-  shows_some : 24 ≤ length out → bytes_answer (shown_line line out) out ≡ Length (length (shown_line line out))
+  shows_some : 24 ≤ length out → bytes_answer (shown_line line out) out ≡ Ok (length (shown_line line out))
   shows_some h = go (leb (length line) (length out)) refl where
-    go : (b : Bool) → leb (length line) (length out) ≡ b → bytes_answer (shown_line line out) out ≡ Length (length (shown_line line out))
+    go : (b : Bool) → leb (length line) (length out) ≡ b → bytes_answer (shown_line line out) out ≡ Ok (length (shown_line line out))
     go true e =
         let l : length line ≤ length out = leb-true (length line) (length out) e in
         has_room (shown_line line out) out (simp (shows_whole l) l)

@@ -2,6 +2,10 @@
 pub mod WriteBack
 pub mod NegotiateBack
 pub mod Sent
+use Rattle.std.specs.Prelude.{Result, Ok, Err, Some, ⊤}
+use Rattle.read_dns_name.specs.declared.Fault.{Fault}
+use Rattle.read_dns_name.specs.declared.Name.{Name}
+use Rattle.wire.specs.declared.refusal.Refusal.{Refusal}
 use Prim.Native.Nat.{ℕ, zero, suc, ◌+◌, ◌-◌, ◌/◌, ◌%◌, ◌≤◌}
 use mathlib.Core.Path.{◌≡◌, refl, sym, ap, ◌∙◌, subst}
 use mathlib.Core.Bool.{Bool, true, false, not, cond}
@@ -12,26 +16,18 @@ use lib.ListN.{length, take, drop, length-append, length-drop}
 use lib.Seq.{take-append_seam, drop-append_seam, drop-append-le}
 use borrow.Author.Tests.{ltb-false, lt-ltb, le-ltb, le-leb, eq-eqb}
 use Rattle.wire.specs.declared.check.Checked.TheVariants.{Held}
-use Rattle.wire.specs.declared.check.Verdict.{Verdict}
-use Rattle.wire.specs.declared.check.Verdict.TheVariants.{Clear, Refused as Not}
 use Rattle.wire.proofs.Laws.{held_true}
 use Rattle.wire.specs.declared.refusal.Refusal.TheVariants.{NoRoom, ZeroInString, WrongLabel, NameTooLong}
 use Rattle.wire.specs.Check.{checked, after}
 use Rattle.wire.specs.Number.{u32_at}
 use Rattle.read_nl_auth.proofs.Names.{own_bytes_lem}
-use Rattle.place.specs.declared.written.Written.TheVariants.{Length, Refused as Unwritten}
 use Rattle.place.specs.Place.{le16, le32}
 use Rattle.place.specs.Written.{at_front, answered, out_after}
 use Rattle.place.proofs.Numbers.{length-le32, back32}
 use Rattle.nl_auth_flags.specs.declared.NlAuthFlags.{NlAuthFlags}
 use Rattle.read_nl_auth.specs.declared.NlAuth.{NlAuth}
-use Rattle.read_nl_auth.specs.declared.Reading.TheVariants.{Taken}
 use Rattle.read_nl_auth.specs.declared.string.NlString.{NlString}
-use Rattle.read_nl_auth.specs.declared.string.Scan.TheVariants.{Found}
-use Rattle.read_nl_auth.specs.declared.name.NameScan.TheVariants.{Found as Named, Refused as NotNamed}
 use Rattle.line_nl_string.specs.StringText.{utf8_text}
-use Rattle.read_dns_name.specs.declared.Reading.{Reading as NameReading}
-use Rattle.read_dns_name.specs.declared.Reading.TheVariants.{Taken as Read}
 use Rattle.read_dns_name.specs.DnsName.{read_name, labels_at}
 use Rattle.line_dns_name.specs.DnsNameText.{dns_name_text as dns_text}
 use Rattle.write_dns_name.specs.Writing.{split_labels, name_bytes, text_holds, coded_holds}
@@ -63,7 +59,7 @@ string_for b at x = cond b (record { offset = at; len = length x; jumps = 0 }) n
 
 module _ (s pre x rest : List ℕ) where
   found : s ≡ pre ++ (zero_terminated x ++ rest) → holds_zero x ≡ false →
-      string_at s (length pre) ≡ Found (record { offset = length pre; len = length x; jumps = 0 }) (length (pre ++ zero_terminated x))
+      string_at s (length pre) ≡ (Some ((record { offset = length pre; len = length x; jumps = 0 }), (length (pre ++ zero_terminated x))))
   unfolding string_at zero_terminated
   found e h =
       let buffer : drop (length pre) s ≡ (x ++ (0 ∷ [])) ++ rest = ap (λ (l : List ℕ). drop (length pre) l) e ∙ drop-append_seam pre ((x ++ (0 ∷ [])) ++ rest) in
@@ -84,7 +80,7 @@ append-none [] = refl
 append-none (x ∷ xs) = ap (λ (l : List ℕ). x ∷ l) (append-none xs)
 
 scan : (s pre x rest : List ℕ) (b : Bool) → s ≡ pre ++ (bytes_under b x ++ rest) → (b ≡ true → holds_zero x ≡ false) →
-    string_under b s (length pre) ≡ Found (string_for b (length pre) x) (length (pre ++ bytes_under b x))
+    string_under b s (length pre) ≡ (Some ((string_for b (length pre) x), (length (pre ++ bytes_under b x))))
 unfolding string_under bytes_under
 scan s pre x rest true e h = found s pre x rest e (h refl)
 scan s pre x rest false e h = simp append-none
@@ -107,9 +103,9 @@ module _ (s pre x rest : List ℕ) (e : s ≡ pre ++ (name_bytes x ++ rest)) (l 
   place : length (drop 8 pre) ≡ length pre - 8
   place = length-drop 8 pre
 
-  name_read : read_name (drop 8 s) (length pre - 8) ≡ Read (record { jumps = 0; next = length pre - 8 + length (name_bytes x) })
+  name_read : read_name (drop 8 s) (length pre - 8) ≡ Ok (record { jumps = 0; next = length pre - 8 + length (name_bytes x) })
   name_read =
-      subst (λ (n : ℕ). read_name (drop 8 s) n ≡ Read (record { jumps = 0; next = n + length (name_bytes x) })) place
+      subst (λ (n : ℕ). read_name (drop 8 s) n ≡ Ok (record { jumps = 0; next = n + length (name_bytes x) })) place
       (ap (λ (k : List ℕ). read_name k (length (drop 8 pre))) buffer ∙ (name_back x (drop 8 pre) rest h g).0)
 
   name_labels : labels_at (drop 8 s) (length pre - 8) ≡ split_labels x
@@ -117,18 +113,18 @@ module _ (s pre x rest : List ℕ) (e : s ≡ pre ++ (name_bytes x ++ rest)) (l 
       subst (λ (n : ℕ). labels_at (drop 8 s) n ≡ split_labels x) place
       (ap (λ (k : List ℕ). labels_at k (length (drop 8 pre))) buffer ∙ (name_back x (drop 8 pre) rest h g).1)
 
-  name_found : (i : ℕ) → name_at s (length pre) i ≡ Named (record { offset = length pre; len = length (name_bytes x); jumps = 0 }) (length (pre ++ name_bytes x))
+  name_found : (i : ℕ) → name_at s (length pre) i ≡ (Ok ((record { offset = length pre; len = length (name_bytes x); jumps = 0 }), (length (pre ++ name_bytes x))))
   unfolding name_at
   name_found i =
       let len : 8 + (length pre - 8 + length (name_bytes x)) - length pre ≡ length (name_bytes x) = omega arith in
       let next : 8 + (length pre - 8 + length (name_bytes x)) ≡ length (pre ++ name_bytes x) = simp length-append (omega arith) in
-      ap (λ (r : NameReading). on_name r (λ m. Named (name_string (length pre) m) (8 + m.next)) (λ f. NotNamed (refusal_in f i))) name_read
-      ∙ ap (λ (n : ℕ). Named (record { offset = length pre; len = n; jumps = 0 }) (8 + (length pre - 8 + length (name_bytes x)))) len
-      ∙ ap (λ (n : ℕ). Named (record { offset = length pre; len = length (name_bytes x); jumps = 0 }) n) next
+      ap (λ (r : Result Name Fault). on_name r (λ m. (Ok ((name_string (length pre) m), (8 + m.next)))) (λ f. Err (refusal_in f i))) name_read
+      ∙ ap (λ (n : ℕ). (Ok ((record { offset = length pre; len = n; jumps = 0 }), (8 + (length pre - 8 + length (name_bytes x)))))) len
+      ∙ ap (λ (n : ℕ). (Ok ((record { offset = length pre; len = length (name_bytes x); jumps = 0 }), n))) next
 
 name_scan : (s pre x rest : List ℕ) (b : Bool) (i : ℕ) → s ≡ pre ++ (name_bytes_under b x ++ rest) → 8 ≤ length pre →
     text_holds (under b x) ≡ Held → coded_holds (under b x) ≡ Held →
-    read_under b s (length pre) i ≡ Named (name_for b (length pre) x) (length (pre ++ name_bytes_under b x))
+    read_under b s (length pre) i ≡ (Ok ((name_for b (length pre) x), (length (pre ++ name_bytes_under b x))))
 unfolding read_under name_bytes_under under
 name_scan s pre x rest true i e l h g = name_found s pre x rest e l h g i
 name_scan s pre x rest false i e l h g = simp append-none
@@ -183,7 +179,7 @@ record Hold (a b c d e : List ℕ) : Type 0 where
   coded_d : coded_holds d ≡ Held
   coded_e : coded_holds e ≡ Held
 
-strings_hold_lem : (a b c d e : List ℕ) → check_strings a b c d e ≡ Clear → Hold a b c d e
+strings_hold_lem : (a b c d e : List ℕ) → check_strings a b c d e ≡ Ok tt → Hold a b c d e
 unfolding check_strings check_zeros check_labels check_coded
 strings_hold_lem a b c d e h =
     let z = clear_both (check_zeros a b c d e) _ h in
@@ -201,7 +197,7 @@ strings_hold_lem a b c d e h =
 abbrev StringsHold : NlAuthFlags → List ℕ → List ℕ → List ℕ → List ℕ → List ℕ → Type 0
 StringsHold w a b c d e = Hold (under (nb_domain w) a) (under (nb_computer w) b) (under (dns_domain w) c) (under (dns_host w) d) (under (utf8_computer w) e)
 
-under_hold : (w : NlAuthFlags) (a b c d e : List ℕ) → check_under w a b c d e ≡ Clear → StringsHold w a b c d e
+under_hold : (w : NlAuthFlags) (a b c d e : List ℕ) → check_under w a b c d e ≡ Ok tt → StringsHold w a b c d e
 unfolding check_under
 under_hold w a b c d e h = strings_hold_lem _ _ _ _ _ h
 
@@ -259,7 +255,7 @@ module _ (w : NlAuthFlags) (a b c d e : List ℕ) where
   -- the strings that are read are those that were written
   utf8_back : (fa fb : NlString) → StringsHold w a b c d e →
       read_utf8 w (request_bytes w a b c d e) fa fb (length (pre2 w a b)) ≡
-      Taken (record { message_type = 0; flags = w; strings = record { nb_domain = fa; nb_computer = fb; dns_domain = name_for (dns_domain w) (length (pre2 w a b)) c; dns_host = name_for (dns_host w) (length (pre3 w a b c)) d; utf8_computer = name_for (utf8_computer w) (length (pre4 w a b c d)) e } })
+      Ok (record { message_type = 0; flags = w; strings = record { nb_domain = fa; nb_computer = fb; dns_domain = name_for (dns_domain w) (length (pre2 w a b)) c; dns_host = name_for (dns_host w) (length (pre3 w a b c)) d; utf8_computer = name_for (utf8_computer w) (length (pre4 w a b c d)) e } })
   unfolding read_utf8
   utf8_back fa fb h =
       simp (
@@ -269,12 +265,12 @@ module _ (w : NlAuthFlags) (a b c d e : List ℕ) where
         eq-eqb (length (pre4 w a b c d ++ name_bytes_under (utf8_computer w) e)) (length (request_bytes w a b c d e)) (ap length (sym at5)),
       )
 
-  request_back : strings_hold w ≡ Held → StringsHold w a b c d e → read_request w (request_bytes w a b c d e) ≡ Taken (back w a b c d e)
+  request_back : strings_hold w ≡ Held → StringsHold w a b c d e → read_request w (request_bytes w a b c d e) ≡ Ok (back w a b c d e)
   unfolding read_request
   request_back held all =
       let s = request_bytes w a b c d e in
-      let s1 : string_under (nb_domain w) s 8 ≡ Found (string_for (nb_domain w) (length (type_and_flags 0 w)) a) (length (pre1 w a)) =
-      subst (λ (k : ℕ). string_under (nb_domain w) s k ≡ Found (string_for (nb_domain w) (length (type_and_flags 0 w)) a) (length (pre1 w a))) (head_long 0 w)
+      let s1 : string_under (nb_domain w) s 8 ≡ (Some ((string_for (nb_domain w) (length (type_and_flags 0 w)) a), (length (pre1 w a)))) =
+      subst (λ (k : ℕ). string_under (nb_domain w) s k ≡ (Some ((string_for (nb_domain w) (length (type_and_flags 0 w)) a), (length (pre1 w a))))) (head_long 0 w)
       (scan s (type_and_flags 0 w) a _ (nb_domain w) at0 (no_zero_lem (nb_domain w) a all.zero_a)) in
       simp (
         held,
@@ -297,18 +293,18 @@ module _ (w : NlAuthFlags) (a b c d e : List ℕ) where
 
   -- with bits A to E alone
   read_back : w.bits % 32 ≡ w.bits → strings_hold w ≡ Held → StringsHold w a b c d e → length (request_bytes w a b c d e) ≤ 65535 →
-      read_nl_auth (request_bytes w a b c d e) ≡ Taken (back w a b c d e)
+      read_nl_auth (request_bytes w a b c d e) ≡ Ok (back w a b c d e)
   unfolding read_nl_auth
   read_back low held all size =
       let w_same : flags_at (request_bytes w a b c d e) ≡ w = ap (λ (n : ℕ). record { bits = n }) (ap (λ (n : ℕ). n % 32) flags_back ∙ low) in
       simp (le-leb (length (request_bytes w a b c d e)) 65535 size, le-leb 8 (length (request_bytes w a b c d e)) long, type_back, w_same) (request_back held all)
 
 -- the bytes that were written are the whole message
-pub written_is : (v : Verdict) (bytes out : List ℕ) (n : ℕ) → answered v bytes ≡ Length n → (v ≡ Clear) × (take n (out_after v bytes out) ≡ bytes)
-written_is Clear bytes out n h = (refl, subst (λ (k : ℕ). take k (at_front bytes out) ≡ bytes) (same h) (take-append_seam bytes (drop (length bytes) out))) where
-  same : Length (length bytes) ≡ Length n → length bytes ≡ n
+pub written_is : (v : Result ⊤ Refusal) (bytes out : List ℕ) (n : ℕ) → answered v bytes ≡ Ok n → (v ≡ Ok tt) × (take n (out_after v bytes out) ≡ bytes)
+written_is (Ok tt) bytes out n h = (refl, subst (λ (k : ℕ). take k (at_front bytes out) ≡ bytes) (same h) (take-append_seam bytes (drop (length bytes) out))) where
+  same : ◌≡◌ {A = Result ℕ Refusal} (Ok (length bytes)) (Ok n) → length bytes ≡ n
   same p = cc
-written_is (Not e) bytes out n h = absurd (let z : ◌≡◌ {A = ℕ} 0 1 = cc in omega arith)
+written_is (Err e) bytes out n h = absurd (let z : ◌≡◌ {A = ℕ} 0 1 = cc in omega arith)
 
 pub nl_request_reads_back : NlRequestReadsBack
 unfolding request_answer request_out
@@ -337,12 +333,12 @@ nl_request_reads_back out flags a b c d e n h =
     bit m e q = ap (λ (k : ℕ). eqb k 1) e ∙ q
 
 -- a response that is written
-pub response_is : (out : List ℕ) (n : ℕ) → response_answer (length out) ≡ Length n → take n (response_out out) ≡ response_bytes
+pub response_is : (out : List ℕ) (n : ℕ) → response_answer (length out) ≡ Ok n → take n (response_out out) ≡ response_bytes
 unfolding response_answer response_out response_bytes type_and_flags le32 le16
 response_is out n h = go (leb 9 (length out)) h where
-  go : (t : Bool) → after (checked t) (Unwritten NoRoom) (Length 9) ≡ Length n → take n (after (checked t) out (at_front response_bytes out)) ≡ response_bytes
+  go : (t : Bool) → after (checked t) (Err NoRoom) (Ok 9) ≡ Ok n → take n (after (checked t) out (at_front response_bytes out)) ≡ response_bytes
   go true p = subst (λ (k : ℕ). take k (at_front response_bytes out) ≡ response_bytes) (same p) refl where
-    same : Length 9 ≡ Length n → 9 ≡ n
+    same : ◌≡◌ {A = Result ℕ Refusal} (Ok 9) (Ok n) → 9 ≡ n
     same q = cc
   go false p = absurd (let z : ◌≡◌ {A = ℕ} 0 1 = cc in omega arith)
 

@@ -1,4 +1,9 @@
 -- The line of a refused message, and what is printed for it.
+use Rattle.read_authenticate.specs.declared.Authenticate.{Authenticate as AuthenticateMessage}
+use Rattle.read_challenge.specs.declared.Challenge.{Challenge as ChallengeMessage}
+use Rattle.read_negotiate.specs.declared.Negotiate.{Negotiate as NegotiateMessage}
+use Rattle.std.specs.Prelude.{Result, Ok, Err}
+use Rattle.read_nl_auth.specs.declared.NlAuth.{NlAuth}
 use Prim.Native.Nat.{ℕ, ◌≤◌}
 use mathlib.Core.Path.{◌≡◌, refl, sym, ap, ◌∙◌, subst}
 use mathlib.Core.Logic.{◌⊎◌, inl, inr, ◌↔◌}
@@ -9,7 +14,6 @@ use lib.Dec.{leb}
 use lib.ListN.{length, length-append}
 use borrow.Author.Tests.{leb-true, leb-false}
 use Rattle.wire.specs.Text.{ascii}
-use Rattle.wire.specs.declared.check.Verdict.TheVariants.{Refused as Not}
 use Rattle.wire.specs.declared.refusal.Refusal.{Refusal}
 use Rattle.av_pairs.specs.AvPairs.{check_pairs, step_at, pair_of, left}
 use Rattle.field.specs.Field.{field_at, field_bytes}
@@ -19,18 +23,10 @@ use Rattle.line_words.specs.Words.{number_word}
 use Rattle.head.specs.declared.Kind.{Kind}
 use Rattle.head.specs.declared.Kind.TheVariants.{Negotiate, Challenge, Authenticate}
 use Rattle.head.specs.Head.{signature_holds, read_head, kind_of}
-use Rattle.read_negotiate.specs.declared.Reading.{Reading as NegoReading}
-use Rattle.read_negotiate.specs.declared.Reading.TheVariants.{Taken as NegoTaken, Refused as NegoRefused}
 use Rattle.read_negotiate.specs.Negotiate.{read_negotiate}
-use Rattle.read_challenge.specs.declared.Reading.{Reading as ChalReading}
-use Rattle.read_challenge.specs.declared.Reading.TheVariants.{Taken as ChalTaken, Refused as ChalRefused}
 use Rattle.read_challenge.specs.Challenge as C
 use Rattle.read_challenge.specs.Challenge.{read_challenge}
-use Rattle.read_authenticate.specs.declared.Reading.{Reading as AuthReading}
-use Rattle.read_authenticate.specs.declared.Reading.TheVariants.{Taken as AuthTaken, Refused as AuthRefused}
 use Rattle.read_authenticate.specs.Authenticate.{fields_at, check_ends, check_begins, check_names, check_shared, check_fields, mic_present, reading_of, read_authenticate}
-use Rattle.read_nl_auth.specs.declared.Reading.{Reading as NlReading}
-use Rattle.read_nl_auth.specs.declared.Reading.TheVariants.{Taken as NlTaken, Refused as NlRefused}
 use Rattle.read_nl_auth.specs.NlAuth.{read_nl_auth, read_request, string_under, string_at}
 use Rattle.verdict.specs.Verdict.{nego_verdict, chal_verdict, auth_verdict, read_as}
 use Rattle.line_refused.specs.Refused.{refused_end, refused_text, refused_line}
@@ -86,21 +82,21 @@ bytes_short n i p a b c = simp length-append (omega (arith, decimal_bound 1 n (o
 -- ---- the line of a refused message
 
 -- the refusal that a reading returns
-refused_by : (k : Kind) (s : List ℕ) (e : Refusal) → read_as k s ≡ Not e → RefusedBy k s e
+refused_by : (k : Kind) (s : List ℕ) (e : Refusal) → read_as k s ≡ Err e → RefusedBy k s e
 refused_by Negotiate s e h = go (read_negotiate s) h where
-  go : (r : NegoReading) → nego_verdict r ≡ Not e → r ≡ NegoRefused e
-  go (NegoTaken m) q = cc
-  go (NegoRefused d) q = cc
+  go : (r : Result NegotiateMessage Refusal) → nego_verdict r ≡ Err e → r ≡ Err e
+  go (Ok m) q = cc
+  go (Err d) q = cc
 refused_by Challenge s e h = go (read_challenge s).reading h where
-  go : (r : ChalReading) → chal_verdict r ≡ Not e → r ≡ ChalRefused e
-  go (ChalTaken c) q = cc
-  go (ChalRefused d) q = cc
+  go : (r : Result ChallengeMessage Refusal) → chal_verdict r ≡ Err e → r ≡ Err e
+  go (Ok c) q = cc
+  go (Err d) q = cc
 refused_by Authenticate s e h = go (read_authenticate s).reading h where
-  go : (r : AuthReading) → auth_verdict r ≡ Not e → r ≡ AuthRefused e
-  go (AuthTaken a) q = cc
-  go (AuthRefused d) q = cc
+  go : (r : Result AuthenticateMessage Refusal) → auth_verdict r ≡ Err e → r ≡ Err e
+  go (Ok a) q = cc
+  go (Err d) q = cc
 
-by_verdict : (k : Kind) (s : List ℕ) (e : Refusal) → RefusedBy k s e → read_as k s ≡ Not e
+by_verdict : (k : Kind) (s : List ℕ) (e : Refusal) → RefusedBy k s e → read_as k s ≡ Err e
 by_verdict Negotiate s e h = ap nego_verdict h
 by_verdict Challenge s e h = ap chal_verdict h
 by_verdict Authenticate s e h = ap auth_verdict h
@@ -122,11 +118,11 @@ said k s n i p = (line_said k s n i p, read_so k s n i p)
 
 -- ---- NL_AUTH
 
-nl_refused_by : (s : List ℕ) (n i p : ℕ) → NlRefusedAs s n i p → (e : Refusal) × (read_nl_auth s ≡ NlRefused e) × RefusalIs e n i p
+nl_refused_by : (s : List ℕ) (n i p : ℕ) → NlRefusedAs s n i p → (e : Refusal) × (read_nl_auth s ≡ Err e) × RefusalIs e n i p
 nl_refused_by s n i p = go (read_nl_auth s) where
-  go : (r : NlReading) → RefusedWith (nl_verdict r) n i p → (e : Refusal) × (r ≡ NlRefused e) × RefusalIs e n i p
-  go (NlTaken m) t = absurd t
-  go (NlRefused e) t = (e, refl, t)
+  go : (r : Result NlAuth Refusal) → RefusedWith (nl_verdict r) n i p → (e : Refusal) × (r ≡ Err e) × RefusalIs e n i p
+  go (Ok m) t = absurd t
+  go (Err e) t = (e, refl, t)
 
 nl_line_said : (s : List ℕ) (n i p : ℕ) → NlRefusedAs s n i p → nl_auth_line s ≡ refused_bytes n i p
 nl_line_said s n i p r =
@@ -155,7 +151,7 @@ as_short k s n i p r = let x = refused_not (read_as k s) n i p r in go k r x.0 (
   by : (e : Refusal) → RefusalIs e n i p → Small e → p ≤ 65535 → length (refused_bytes n i p) ≤ 28
   by e w small near = bytes_short n i p (omega (arith, number_small e, w.0)) (omega (arith, small, w.1)) near
 
-  of_challenge : (r : ChalReading) (e : Refusal) → r ≡ ChalRefused e → SmallC r → Small e
+  of_challenge : (r : Result ChallengeMessage Refusal) (e : Refusal) → r ≡ Err e → SmallC r → Small e
   of_challenge r e h w = rw h at w
 
   go : (k : Kind) → RefusedAs k s n i p → (e : Refusal) → RefusedBy k s e → RefusalIs e n i p → length (refused_bytes n i p) ≤ 28

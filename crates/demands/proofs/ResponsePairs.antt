@@ -1,5 +1,7 @@
 -- The pair list that goes back: what a call leaves, what the list holds, by what a call is refused, and what it keeps.
 pub mod PairsBack
+use Rattle.wire.specs.Check.{on_ok}
+use Rattle.std.specs.Prelude.{Result, Ok, Err, ⊤}
 use Prim.Native.Nat.{ℕ, zero, suc, ◌+◌, ◌%◌, ◌≤◌, ◌<◌}
 use mathlib.Core.Path.{◌≡◌, refl, sym, ap, ◌∙◌}
 use mathlib.Core.Bool.{Bool, true, false, cond}
@@ -12,18 +14,12 @@ use lib.Seq.{take-append_seam}
 use Rattle.av_pairs.specs.AvPairs.{id_at, Valued, values_of}
 use Rattle.av_pairs.proofs.Walks.{values_at, values_start}
 use Rattle.read_challenge.specs.declared.Challenge.{Challenge}
-use Rattle.read_challenge.specs.declared.Reading.{Reading}
-use Rattle.read_challenge.specs.declared.Reading.TheVariants.{Taken, Refused as Unread}
-use Rattle.read_challenge.specs.Challenge.{read_challenge, reading_of, on_taken, info_of}
-use Rattle.place.specs.declared.written.Written.{Written}
-use Rattle.place.specs.declared.written.Written.TheVariants.{Length, Refused}
+use Rattle.read_challenge.specs.Challenge.{read_challenge, reading_of, info_of}
 use Rattle.place.specs.Place.{le16}
 use Rattle.place.specs.Written.{answered, out_after, size_holds, room_holds}
 use Rattle.write_response_pairs.specs.ResponsePairs.{pair_with, left_out, kept, bits_due, adds_flags, pair_bytes, pairs_bytes, list_for, even_target_name, check_list, list_answer, list_out, write_answer, write_out}
 use Rattle.write_response_pairs.proofs.Fits.{length-pair}
 use Rattle.write_response_pairs.proofs.Sent.{list_empty, list_parts, list_size}
-use Rattle.wire.specs.declared.check.Verdict.{Verdict}
-use Rattle.wire.specs.declared.check.Verdict.TheVariants.{Clear, Refused as Not}
 use Rattle.wire.specs.declared.refusal.Refusal.{Refusal}
 use Rattle.wire.specs.declared.refusal.Refusal.TheVariants.{OddNameToWrite, TooLongToWrite, NoRoom}
 use Rattle.wire.specs.Refusal.{number_of, field_of, place_of}
@@ -57,12 +53,12 @@ pub record Sound (room : ℕ) (name : List ℕ) (size : ℕ) : Type 0 where
   pub short : size ≤ 65535
   pub fits : size ≤ room
 
-pub sound : (room : ℕ) (name : List ℕ) (size : ℕ) → check_list room name size ≡ Clear → Sound room name size
+pub sound : (room : ℕ) (name : List ℕ) (size : ℕ) → check_list room name size ≡ Ok tt → Sound room name size
 unfolding check_list
 sound room name size h =
     let a = after_held (even_target_name name) (OddNameToWrite 2) _ h in
     let z = after_held (size_holds size) TooLongToWrite _ a.1 in
-    let r = after_held (room_holds size room) NoRoom Clear z.1 in
+    let r = after_held (room_holds size room) NoRoom (Ok tt) z.1 in
     record {
       even = eqb-true (length name % 2) 0 (held_true _ a.0);
       short = leb-true size 65535 (held_true _ z.0);
@@ -77,30 +73,30 @@ record Left (out s b name bind : List ℕ) (mark : Bool) (n : ℕ) : Type 0 wher
   even : length name % 2 ≡ 0
   list : take n (write_out out s name mark bind) ≡ list_for b name mark bind
 
-left : (out s b name bind : List ℕ) (mark : Bool) (n : ℕ) → InfoBytes s b → write_answer (length out) s name mark bind ≡ Length n → Left out s b name bind mark n
+left : (out s b name bind : List ℕ) (mark : Bool) (n : ℕ) → InfoBytes s b → write_answer (length out) s name mark bind ≡ Ok n → Left out s b name bind mark n
 unfolding write_answer write_out list_answer list_out read_challenge
 left out s b name bind mark n info h = go (reading_of s) refl (reading.judged s b info) h where
   L : List ℕ
   L = list_for b name mark bind
 
-  checks : Verdict
+  checks : Result ⊤ Refusal
   checks = check_list (length out) name (length L)
 
-  pick : (c : Challenge) → reading_of s ≡ Taken c → ChallengeHolds s b → info_of s c ≡ b → (v : Verdict) → checks ≡ v → answered v L ≡ Length n → Left out s b name bind mark n
-  pick c e j i Clear y p =
+  pick : (c : Challenge) → reading_of s ≡ Ok c → ChallengeHolds s b → info_of s c ≡ b → (v : Result ⊤ Refusal) → checks ≡ v → answered v L ≡ Ok n → Left out s b name bind mark n
+  pick c e j i (Ok tt) y p =
       let m : n ≡ length L = cc in
       record {
         holds = j;
         even = (sound (length out) name (length L) y).even;
         list = simp (e, i, y, m, take-append_seam);
       }
-  pick c e j i (Not f) y p = absurd (let z : ◌≡◌ {A = ℕ} 0 1 = cc in omega arith)
+  pick c e j i (Err f) y p = absurd (let z : ◌≡◌ {A = ℕ} 0 1 = cc in omega arith)
 
-  go : (r : Reading) → reading_of s ≡ r → reading.Judged s b info r →
-      on_taken Refused r (λ c. answered (check_list (length out) name (length (list_for (info_of s c) name mark bind))) (list_for (info_of s c) name mark bind)) ≡ Length n →
+  go : (r : Result Challenge Refusal) → reading_of s ≡ r → reading.Judged s b info r →
+      on_ok Err r (λ c. answered (check_list (length out) name (length (list_for (info_of s c) name mark bind))) (list_for (info_of s c) name mark bind)) ≡ Ok n →
       Left out s b name bind mark n
-  go (Taken c) e j p = let i = info_of_lem s b c info e in pick c e j i checks refl (rw i at p)
-  go (Unread f) e j p = absurd (let z : ◌≡◌ {A = ℕ} 0 1 = cc in omega arith)
+  go (Ok c) e j p = let i = info_of_lem s b c info e in pick c e j i checks refl (rw i at p)
+  go (Err f) e j p = absurd (let z : ◌≡◌ {A = ℕ} 0 1 = cc in omega arith)
 
 end_bytes : pair_bytes (pair_with 0 []) ≡ 0 ∷ 0 ∷ 0 ∷ 0 ∷ []
 unfolding pair_bytes le16
@@ -342,7 +338,7 @@ module _ (room : ℕ) (name : List ℕ) (size : ℕ) where
   unfolding check_list
   list_judged m e =
       let none = free_at_first order F 31 refl in
-      chained (JudgedBy rank F 0) (even_target_name name) (Not (OddNameToWrite 2)) _
+      chained (JudgedBy rank F 0) (even_target_name name) (Err (OddNameToWrite 2)) _
       (λ f. first_by rank F 31 2 (skip_by rank F 31 2 none (λ j l x. omega (arith, l, x.0))) (refl, odd (eqb-false (length name % 2) 0 (failed_false _ f))))
       (λ h. size_judged order F size m _ e
       (λ l. (refl, l)) (λ j x. x.1) refl (omega arith)
@@ -365,7 +361,7 @@ response_pairs_written room s b name bind mark size sixteen info sized = go (rea
       by_verdict (31 ∷ 30 ∷ 33 ∷ []) (ResponsePairsFail room name size) (list_rows room name size) 0 refl
       (check_list room name (length (list_for b name mark bind))) (list_for b name mark bind) size e (list_judged room name size _ e)
 
-  refused_after : ChallengeHolds s b → (e : Refusal) → WrittenExactly (Refused e) (31 ∷ 30 ∷ 33 ∷ []) (ResponsePairsFail room name size) size → (n i p : ℕ) →
+  refused_after : ChallengeHolds s b → (e : Refusal) → WrittenExactly (Err e) (31 ∷ 30 ∷ 33 ∷ []) (ResponsePairsFail room name size) size → (n i p : ℕ) →
       RefusalIs e n i p ↔ (ChallengeFails s b n i p ⊎ (ChallengeHolds s b × FirstIn (31 ∷ 30 ∷ 33 ∷ []) (ResponsePairsFail room name size) n i × (p ≡ 0)))
   refused_after j e x n i p =
       let none = placeless_number e (no_place room name size (number_of e) (field_of e) ((x.refused (number_of e) (field_of e)).0 (refl, refl)).fails) in (
@@ -373,15 +369,15 @@ response_pairs_written room s b name bind mark size sixteen info sized = go (rea
         λ z. ⊎_elim (λ f. absurd (holds_or_fails s b n i p j f)) (λ w. let k = (x.refused n i).1 w.1 in (k.0, k.1, none ∙ sym w.2)) z,
       )
 
-  refused_as : ChallengeHolds s b → (a : Written) → WrittenExactly a (31 ∷ 30 ∷ 33 ∷ []) (ResponsePairsFail room name size) size → (n i p : ℕ) →
+  refused_as : ChallengeHolds s b → (a : Result ℕ Refusal) → WrittenExactly a (31 ∷ 30 ∷ 33 ∷ []) (ResponsePairsFail room name size) size → (n i p : ℕ) →
       ListRefusedAt a n i p ↔ (ChallengeFails s b n i p ⊎ (ChallengeHolds s b × FirstIn (31 ∷ 30 ∷ 33 ∷ []) (ResponsePairsFail room name size) n i × (p ≡ 0)))
-  refused_as j (Length m) x n i p = (
+  refused_as j (Ok m) x n i p = (
     λ t. absurd t,
     λ z. ⊎_elim (λ f. holds_or_fails s b n i p j f) (λ w. (x.refused n i).1 w.1) z,
   )
-  refused_as j (Refused e) x n i p = refused_after j e x n i p
+  refused_as j (Err e) x n i p = refused_after j e x n i p
 
-  after_reading : ChallengeHolds s b → (a : Written) → WrittenExactly a (31 ∷ 30 ∷ 33 ∷ []) (ResponsePairsFail room name size) size →
+  after_reading : ChallengeHolds s b → (a : Result ℕ Refusal) → WrittenExactly a (31 ∷ 30 ∷ 33 ∷ []) (ResponsePairsFail room name size) size →
       WrittenFrom a s b (31 ∷ 30 ∷ 33 ∷ []) (ResponsePairsFail room name size) size
   after_reading j a x =
       record {
@@ -389,14 +385,14 @@ response_pairs_written room s b name bind mark size sixteen info sized = go (rea
         written = λ n. (λ h. let y = (x.written n).0 h in (j, y.0, y.1), λ h. (x.written n).1 (h.1, h.2));
       }
 
-  never : (e : Refusal) (n : ℕ) → Refused e ≡ Length n → ⊥
+  never : (e : Refusal) (n : ℕ) → ◌≡◌ {A = Result ℕ Refusal} (Err e) (Ok n) → ⊥
   never e n h = let z : ◌≡◌ {A = ℕ} 0 1 = cc in omega arith
 
-  go : (r : Reading) → reading_of s ≡ r → reading.Judged s b info r →
-      WrittenFrom (on_taken Refused r (λ c. answered (check_list room name (length (list_for (info_of s c) name mark bind))) (list_for (info_of s c) name mark bind))) s b
+  go : (r : Result Challenge Refusal) → reading_of s ≡ r → reading.Judged s b info r →
+      WrittenFrom (on_ok Err r (λ c. answered (check_list room name (length (list_for (info_of s c) name mark bind))) (list_for (info_of s c) name mark bind))) s b
       (31 ∷ 30 ∷ 33 ∷ []) (ResponsePairsFail room name size) size
-  go (Taken c) e j = rw (info_of_lem s b c info e) (after_reading j _ (of_list j))
-  go (Unread f) e j =
+  go (Ok c) e j = rw (info_of_lem s b c info e) (after_reading j _ (of_list j))
+  go (Err f) e j =
       record {
         refused = λ n i p. (
           λ t. inl (fails_is (ChallengeFails s b) t j),
@@ -408,34 +404,34 @@ response_pairs_written room s b name bind mark size sixteen info sized = go (rea
 -- ---- what it keeps, and what changes nothing
 
 -- what is written has at most 65,535 bytes
-pub response_pairs_short : (room : ℕ) (s name : List ℕ) (mark : Bool) (bind : List ℕ) (n : ℕ) → write_answer room s name mark bind ≡ Length n → n ≤ 65535
+pub response_pairs_short : (room : ℕ) (s name : List ℕ) (mark : Bool) (bind : List ℕ) (n : ℕ) → write_answer room s name mark bind ≡ Ok n → n ≤ 65535
 unfolding write_answer list_answer
 response_pairs_short room s name mark bind n h = go (reading_of s) h where
-  by : (v : Verdict) (l : List ℕ) → (v ≡ Clear → length l ≤ 65535) → answered v l ≡ Length n → n ≤ 65535
-  by Clear l short p = let m : n ≡ length l = cc in rw m (short refl)
-  by (Not e) l short p = absurd (let z : ◌≡◌ {A = ℕ} 0 1 = cc in omega arith)
+  by : (v : Result ⊤ Refusal) (l : List ℕ) → (v ≡ Ok tt → length l ≤ 65535) → answered v l ≡ Ok n → n ≤ 65535
+  by (Ok tt) l short p = let m : n ≡ length l = cc in rw m (short refl)
+  by (Err e) l short p = absurd (let z : ◌≡◌ {A = ℕ} 0 1 = cc in omega arith)
 
-  go : (r : Reading) → on_taken Refused r (λ c. answered (check_list room name (length (list_for (info_of s c) name mark bind))) (list_for (info_of s c) name mark bind)) ≡ Length n → n ≤ 65535
-  go (Taken c) p =
+  go : (r : Result Challenge Refusal) → on_ok Err r (λ c. answered (check_list room name (length (list_for (info_of s c) name mark bind))) (list_for (info_of s c) name mark bind)) ≡ Ok n → n ≤ 65535
+  go (Ok c) p =
       let l = list_for (info_of s c) name mark bind in
       by (check_list room name (length l)) l (λ y. (sound room name (length l) y).short) p
-  go (Unread e) p = absurd (let z : ◌≡◌ {A = ℕ} 0 1 = cc in omega arith)
+  go (Err e) p = absurd (let z : ◌≡◌ {A = ℕ} 0 1 = cc in omega arith)
 
 pub response_pairs_kept : ResponsePairsKept
 unfolding write_answer write_out list_answer list_out
 response_pairs_kept out s name bind mark = go (reading_of s) where
-  go : (r : Reading) →
-      Kept (on_taken Refused r (λ c. answered (check_list (length out) name (length (list_for (info_of s c) name mark bind))) (list_for (info_of s c) name mark bind))) out
-      (on_taken (λ e. out) r (λ c. out_after (check_list (length out) name (length (list_for (info_of s c) name mark bind))) (list_for (info_of s c) name mark bind) out))
-  go (Taken c) =
+  go : (r : Result Challenge Refusal) →
+      Kept (on_ok Err r (λ c. answered (check_list (length out) name (length (list_for (info_of s c) name mark bind))) (list_for (info_of s c) name mark bind))) out
+      (on_ok (λ e. out) r (λ c. out_after (check_list (length out) name (length (list_for (info_of s c) name mark bind))) (list_for (info_of s c) name mark bind) out))
+  go (Ok c) =
       let L = list_for (info_of s c) name mark bind in
       kept_laws.by_verdict (check_list (length out) name (length L)) L out (λ h. (sound (length out) name (length L) h).fits)
-  go (Unread e) = kept_laws.by_verdict (Not e) [] out (λ h. absurd (let z : ◌≡◌ {A = ℕ} 0 1 = cc in omega arith))
+  go (Err e) = kept_laws.by_verdict (Err e) [] out (λ h. absurd (let z : ◌≡◌ {A = ℕ} 0 1 = cc in omega arith))
 
 pub response_pairs_ignored : ResponsePairsIgnored
 unfolding write_answer write_out
 response_pairs_ignored s t d =
     record {
-      answer = λ room name bind mark. made_same s t d Refused (λ c l. list_answer room l name mark bind) (λ c l. refl);
+      answer = λ room name bind mark. made_same s t d Err (λ c l. list_answer room l name mark bind) (λ c l. refl);
       output = λ out name bind mark. made_same s t d (λ e. out) (λ c l. list_out out l name mark bind) (λ c l. refl);
     }

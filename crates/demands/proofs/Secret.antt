@@ -1,6 +1,8 @@
 -- Reading AUTHENTICATE and its line tell no secret.
 pub mod SecretPrinted
 pub mod Answered
+use Rattle.std.specs.Prelude.{Result, Ok, Err}
+use Rattle.wire.specs.declared.refusal.Refusal.{Refusal}
 use Prim.Native.Nat.{ℕ, ◌+◌, ◌≤◌, ◌<◌}
 use mathlib.Core.Path.{◌≡◌, refl, sym, ap, ◌∙◌, subst}
 use mathlib.Core.Logic.{◌⊎◌, inl, inr, ⊎_elim}
@@ -17,12 +19,9 @@ use Rattle.field.specs.Field.{is_empty, field_at}
 use Rattle.head.specs.Head.{signature_holds, read_head, flags_at, kind_of}
 use Rattle.field.proofs.Fields.{own_bytes_lem}
 use Rattle.read_authenticate.specs.declared.Authenticate.{Authenticate}
-use Rattle.read_authenticate.specs.declared.Reading.{Reading}
-use Rattle.read_authenticate.specs.declared.Reading.TheVariants.{Taken, Refused}
 use Rattle.read_authenticate.specs.Authenticate.{fields_at, check_ends, check_begins, check_names, check_shared, check_fields, mic_present, reading_of, read_authenticate}
 use Rattle.line_authenticate.specs.Auth.{auth_names, auth_text}
 use Rattle.line.specs.Line.{auth_line, authenticate_line}
-use Rattle.place.specs.declared.written.Written.TheVariants.{Length}
 use Rattle.place.specs.Written.{bytes_answer, bytes_after}
 use Rattle.c_read.specs.Numbers.{authenticate_outcome}
 use Rattle.demands.specs.Bench.{p1, user_offset}
@@ -67,21 +66,21 @@ module _ (s t : List ℕ) (d : DifferInSecrets s t) where
         (λ q l r. ⊎_elim (λ e. e) (λ x. absurd (plain q (w.full p) (omega (arith, w.offset p, w.len p), omega (arith, w.offset p, w.len p)) x)) (d.elsewhere q))
         ∙ sym (own_bytes_lem t f (fit (length t) p (sym d.length_same)))
 
-  names_same : (a : Authenticate) → (read_authenticate s).reading ≡ Taken a →
+  names_same : (a : Authenticate) → (read_authenticate s).reading ≡ Ok a →
       SameBytes s t a.fields.domain × SameBytes s t a.fields.user × SameBytes s t a.fields.workstation
   names_same a h =
       rw (taken_answer s a h)
       (let x = six s (λ i f. authenticate.Name i → SameBytes s t f) (λ i f w. name_same i f w (none_fails s a h)) in
       (x.2 (omega arith, omega arith), x.3 (omega arith, omega arith), x.4 (omega arith, omega arith)))
 
-  line_of : (r : Reading) → (read_authenticate s).reading ≡ r → auth_line s r ≡ auth_line t r
+  line_of : (r : Result Authenticate Refusal) → (read_authenticate s).reading ≡ r → auth_line s r ≡ auth_line t r
   unfolding auth_text auth_names
-  line_of (Taken a) e = let n = names_same a e in simp (n.0, n.1, n.2)
-  line_of (Refused x) e = refl
+  line_of (Ok a) e = let n = names_same a e in simp (n.0, n.1, n.2)
+  line_of (Err x) e = refl
 
   line_same : authenticate_line s ≡ authenticate_line t
   unfolding authenticate_line
-  line_same = line_of (read_authenticate s).reading refl ∙ ap (λ (r : Reading). auth_line t r) reading_same
+  line_same = line_of (read_authenticate s).reading refl ∙ ap (λ (r : Result Authenticate Refusal). auth_line t r) reading_same
 
 -- ---- a line's call, twice
 
@@ -91,7 +90,7 @@ unfolding bytes_answer
 answer_same x out out' l = simp l
 
 -- what is written is the line
-stands : (x out : List ℕ) (n : ℕ) → bytes_answer x out ≡ Length n → take n (bytes_after x out) ≡ x
+stands : (x out : List ℕ) (n : ℕ) → bytes_answer x out ≡ Ok n → take n (bytes_after x out) ≡ x
 stands x out n h =
     let w = ((line_written x out).written n).0 h in
     let fits : length out < length x → ⊥ = λ r. w.0 33 0 (refl, r) in
@@ -107,11 +106,11 @@ line_written_alike x out out' l =
 -- ---- the answer
 
 -- the sixteen bytes, where the message isn't taken with a MIC
-zeros : (s : List ℕ) → ((a : Authenticate) → (read_authenticate s).reading ≡ Taken a → a.mic_present ≡ true → ⊥) → (read_authenticate s).mic ≡ replicate 16 0
+zeros : (s : List ℕ) → ((a : Authenticate) → (read_authenticate s).reading ≡ Ok a → a.mic_present ≡ true → ⊥) → (read_authenticate s).mic ≡ replicate 16 0
 zeros s none = go (read_authenticate s).reading refl where
-  go : (r : Reading) → (read_authenticate s).reading ≡ r → (read_authenticate s).mic ≡ replicate 16 0
-  go (Taken a) e = let own = authenticate_own s a e in own.mic_zeros (λ m. none a e (own.mic_present_is.1 m))
-  go (Refused d) e = authenticate_refused_mic s d e
+  go : (r : Result Authenticate Refusal) → (read_authenticate s).reading ≡ r → (read_authenticate s).mic ≡ replicate 16 0
+  go (Ok a) e = let own = authenticate_own s a e in own.mic_zeros (λ m. none a e (own.mic_present_is.1 m))
+  go (Err d) e = authenticate_refused_mic s d e
 
 pub secret_read : SecretRead
 secret_read s t d =
@@ -122,7 +121,7 @@ secret_read s t d =
       user = λ a h. (names_same s t d a h).1;
       workstation = λ a h. (names_same s t d a h).2;
       no_mic = λ none.
-          let present : (a : Authenticate) → (read_authenticate s).reading ≡ Taken a → a.mic_present ≡ true → ⊥ =
+          let present : (a : Authenticate) → (read_authenticate s).reading ≡ Ok a → a.mic_present ≡ true → ⊥ =
           λ a h p. none (rw h tt) ((authenticate_own s a h).mic_present_is.0 p) in
           (zeros s present, zeros t (λ a h p. present a (reading_same s t d ∙ h) p));
       line = line_same s t d;

@@ -1,4 +1,6 @@
 -- The text of one string alone: as in the line, refused exactly, kept and ignored.
+use Rattle.std.specs.Prelude.{Result, Ok, Err}
+use Rattle.wire.specs.declared.refusal.Refusal.{Refusal}
 use Prim.Native.Nat.{ℕ, ◌+◌, ◌-◌, ◌≤◌, ◌<◌}
 use mathlib.Core.Path.{◌≡◌, refl, sym, ap, ◌∙◌}
 use mathlib.Core.Bool.{Bool, true, false, cond}
@@ -8,14 +10,10 @@ use lib.Dec.{leb}
 use lib.ListN.{length, get_or, length-append}
 use borrow.Author.Tests.{leb-true, leb-false, le-leb, lt-leb, ne_eqb}
 use Rattle.wire.specs.Text.{ascii}
-use Rattle.wire.specs.declared.check.Verdict.TheVariants.{Refused as NotClear}
 use Rattle.wire.specs.Number.{has}
-use Rattle.place.specs.declared.written.Written.TheVariants.{Refused}
 use Rattle.place.specs.Written.{bytes_answer, bytes_after}
 use Rattle.line_words.specs.Words.{string_word}
 use Rattle.read_nl_auth.specs.declared.NlAuth.{NlAuth}
-use Rattle.read_nl_auth.specs.declared.Reading.{Reading}
-use Rattle.read_nl_auth.specs.declared.Reading.TheVariants.{Taken, Refused as Not}
 use Rattle.read_nl_auth.specs.NlAuth.{read_nl_auth}
 use Rattle.line_nl_string.specs.StringText.{oem_text, utf8_text, utf8_numbered, string_text, on_reading, text_answer, text_after}
 use Rattle.line_nl_auth.specs.Nl.{nl_start, nl_oem, nl_utf8, nl_text}
@@ -78,34 +76,34 @@ string_shown s which out =
           );
     }
   where
-    go : (r : Reading) (n i : ℕ) → RefusedWith (nl_verdict r) n i 0 →
-        WritingRefusedWith (on_reading r (λ m. bytes_answer (string_text s m which) out) (λ e. Refused e)) n i
-    go (Taken m) n i w = absurd w
-    go (Not e) n i w = (w.0, w.1)
+    go : (r : Result NlAuth Refusal) (n i : ℕ) → RefusedWith (nl_verdict r) n i 0 →
+        WritingRefusedWith (on_reading r (λ m. bytes_answer (string_text s m which) out) (λ e. Err e)) n i
+    go (Ok m) n i w = absurd w
+    go (Err e) n i w = (w.0, w.1)
 
 pub text_kept : TextKept
 unfolding text_answer text_after
 text_kept s which out = go (read_nl_auth s) where
-  go : (r : Reading) →
-      Kept (on_reading r (λ m. bytes_answer (string_text s m which) out) (λ e. Refused e)) out
+  go : (r : Result NlAuth Refusal) →
+      Kept (on_reading r (λ m. bytes_answer (string_text s m which) out) (λ e. Err e)) out
       (on_reading r (λ m. bytes_after (string_text s m which) out) (λ e. out))
-  go (Taken m) = line_kept (string_text s m which) out
-  go (Not e) = by_verdict (NotClear e) [] out (λ h. absurd (let z : ◌≡◌ {A = ℕ} 0 1 = cc in omega arith))
+  go (Ok m) = line_kept (string_text s m which) out
+  go (Err e) = by_verdict (Err e) [] out (λ h. absurd (let z : ◌≡◌ {A = ℕ} 0 1 = cc in omega arith))
 
 -- ---- ignored flag bits
 
-text_same : (s t : List ℕ) (which : ℕ) (m : NlAuth) → SameNlAuth s t → read_nl_auth s ≡ Taken m → string_text s m which ≡ string_text t m which
+text_same : (s t : List ℕ) (which : ℕ) (m : NlAuth) → SameNlAuth s t → read_nl_auth s ≡ Ok m → string_text s m which ≡ string_text t m which
 unfolding string_text utf8_numbered oem_text utf8_text
 text_same s t which m w e = simp ((w.a m e).bytes, (w.b m e).bytes, (w.c m e).labels, (w.d m e).labels, (w.e m e).labels)
 
 pub text_ignored : TextIgnored
 unfolding text_answer text_after
 text_ignored s t which out d = go (nl_auth_ignored s t d) (read_nl_auth s) refl where
-  go : (w : SameNlAuth s t) (r : Reading) → read_nl_auth s ≡ r →
-      (on_reading (read_nl_auth s) (λ m. bytes_answer (string_text s m which) out) (λ e. Refused e) ≡ on_reading (read_nl_auth t) (λ m. bytes_answer (string_text t m which) out) (λ e. Refused e))
+  go : (w : SameNlAuth s t) (r : Result NlAuth Refusal) → read_nl_auth s ≡ r →
+      (on_reading (read_nl_auth s) (λ m. bytes_answer (string_text s m which) out) (λ e. Err e) ≡ on_reading (read_nl_auth t) (λ m. bytes_answer (string_text t m which) out) (λ e. Err e))
       × (on_reading (read_nl_auth s) (λ m. bytes_after (string_text s m which) out) (λ e. out) ≡ on_reading (read_nl_auth t) (λ m. bytes_after (string_text t m which) out) (λ e. out))
-  go w (Taken m) p = let q : read_nl_auth t ≡ Taken m = sym w.answer ∙ p in (simp (p, q, text_same s t which m w p), simp (p, q, text_same s t which m w p))
-  go w (Not e) p = let q : read_nl_auth t ≡ Not e = sym w.answer ∙ p in (simp (p, q), simp (p, q))
+  go w (Ok m) p = let q : read_nl_auth t ≡ Ok m = sym w.answer ∙ p in (simp (p, q, text_same s t which m w p), simp (p, q, text_same s t which m w p))
+  go w (Err e) p = let q : read_nl_auth t ≡ Err e = sym w.answer ∙ p in (simp (p, q), simp (p, q))
 
 -- ---- from C
 
@@ -145,8 +143,8 @@ text_short s m which h = let line : length (nl_text s m) < 0x100000 = rw h at (l
 pub text_decodes : TextDecodes
 unfolding text_answer
 text_decodes s which out = go (read_nl_auth s) refl where
-  go : (r : Reading) → read_nl_auth s ≡ r →
-      DecodesWritten (written_number (on_reading r (λ m. bytes_answer (string_text s m which) out) (λ e. Refused e)))
-      (on_reading r (λ m. bytes_answer (string_text s m which) out) (λ e. Refused e))
-  go (Taken m) p = short_tells (string_text s m which) out (omega (arith, text_short s m which p))
-  go (Not e) p = decodes_refusal e (nl_auth_small s e p)
+  go : (r : Result NlAuth Refusal) → read_nl_auth s ≡ r →
+      DecodesWritten (written_number (on_reading r (λ m. bytes_answer (string_text s m which) out) (λ e. Err e)))
+      (on_reading r (λ m. bytes_answer (string_text s m which) out) (λ e. Err e))
+  go (Ok m) p = short_tells (string_text s m which) out (omega (arith, text_short s m which p))
+  go (Err e) p = decodes_refusal e (nl_auth_small s e p)

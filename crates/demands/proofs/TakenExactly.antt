@@ -2,6 +2,9 @@
 pub mod Challenge
 pub mod Negotiate
 pub mod Places
+use Rattle.wire.specs.Check.{on_ok}
+use Rattle.std.specs.Prelude.{Result, Ok, Err, ⊤}
+use Rattle.wire.specs.declared.refusal.Refusal.{Refusal}
 use Prim.Native.Nat.{ℕ, ◌≤◌}
 use mathlib.Core.Path.{◌≡◌, refl, sym, subst}
 use mathlib.Core.Logic.{inl, inr, ⊎_elim}
@@ -12,23 +15,17 @@ use lib.ListN.{length}
 use borrow.Author.Tests.{eqb-true, eqb-false, eq-eqb}
 use Rattle.wire.specs.declared.check.Checked.{Checked}
 use Rattle.wire.specs.declared.check.Checked.TheVariants.{Held, Failed}
-use Rattle.wire.specs.declared.check.Verdict.{Verdict}
-use Rattle.wire.specs.declared.check.Verdict.TheVariants.{Clear, Refused as Not}
 use Rattle.wire.proofs.Laws.{held_true}
 use Rattle.field.specs.declared.Field.{Field}
 use Rattle.negotiate_flags.specs.declared.NegotiateFlags.{NegotiateFlags}
-use Rattle.head.specs.declared.Head.{Head}
-use Rattle.head.specs.declared.Head.TheVariants.{Flags, Refused as Stopped}
 use Rattle.wire.specs.declared.refusal.Refusal.TheVariants.{OddName, NameOverSecret}
 use Rattle.wire.specs.Check.{on_clear}
 use Rattle.field.specs.Field.{field_at, even_name, share}
 use Rattle.negotiate_flags.specs.Flags.{unicode, key_exch}
-use Rattle.head.specs.Head.{flags_at, read_head, on_flags}
+use Rattle.head.specs.Head.{flags_at, read_head}
 use Rattle.wire.specs.Refusal.{number_of, field_of}
 use Rattle.read_authenticate.specs.declared.Authenticate.{Authenticate}
 use Rattle.read_authenticate.specs.declared.Fields.{Fields}
-use Rattle.read_authenticate.specs.declared.Reading.{Reading}
-use Rattle.read_authenticate.specs.declared.Reading.TheVariants.{Taken, Refused}
 use Rattle.read_authenticate.specs.Authenticate.{layout, fields_at, all_fields, names, check_ends, check_begins, check_names, check_shared, check_fields, apart, mic_present, reading_of, read_authenticate}
 use Rattle.verdict.specs.Verdict.{auth_verdict}
 use Rattle.demands.specs.Order.{First}
@@ -138,14 +135,14 @@ module _ (s : List ℕ) where
   fields_judged free =
       let f = fields_at s (flags_at s 60) in
       let u = unicode (flags_at s 60) in
-      then authenticate s 7 10 (check_ends (length s) f) (on_clear Not (check_begins f) (on_clear Not (check_names u f) (check_shared f))) (ends_judged authenticate s (all_fields f) all refl free) (λ c7.
-      then authenticate s 8 10 (check_begins f) (on_clear Not (check_names u f) (check_shared f)) (begins_judged authenticate s (all_fields f) all refl c7) (λ c8.
+      then authenticate s 7 10 (check_ends (length s) f) (on_clear Err (check_begins f) (on_clear Err (check_names u f) (check_shared f))) (ends_judged authenticate s (all_fields f) all refl free) (λ c7.
+      then authenticate s 8 10 (check_begins f) (on_clear Err (check_names u f) (check_shared f)) (begins_judged authenticate s (all_fields f) all refl c7) (λ c8.
       then authenticate s 9 10 (check_names u f) (check_shared f) (names_judged c8) shared_judged))
 
   -- the whole reading
-  abbrev Judged : Reading → Type 0
-  Judged (Taken a) = (n i : ℕ) → Fails authenticate s n i → ⊥
-  Judged (Refused e) = First (Fails authenticate s) (number_of e) (field_of e)
+  abbrev Judged : Result Authenticate Refusal → Type 0
+  Judged (Ok a) = (n i : ℕ) → Fails authenticate s n i → ⊥
+  Judged (Err e) = First (Fails authenticate s) (number_of e) (field_of e)
 
   pub judged : Judged (read_authenticate s).reading
   unfolding read_authenticate reading_of
@@ -153,21 +150,21 @@ module _ (s : List ℕ) where
     answer : NegotiateFlags → Authenticate
     answer w = record { flags = w; fields = fields_at s w; mic_present = mic_present (length s) (fields_at s w) }
 
-    rest : NegotiateFlags → Reading
-    rest w = on_clear Refused (check_fields (length s) (unicode w) (fields_at s w)) (Taken (answer w))
+    rest : NegotiateFlags → Result Authenticate Refusal
+    rest w = on_clear Err (check_fields (length s) (unicode w) (fields_at s w)) (Ok (answer w))
 
-    last : (v : Verdict) (a : Authenticate) → JudgedV authenticate s 10 v → Judged (on_clear Refused v (Taken a))
-    last Clear a free = beyond authenticate s free
-    last (Not e) a f = f
+    last : (v : Result ⊤ Refusal) (a : Authenticate) → JudgedV authenticate s 10 v → Judged (on_clear Err v (Ok a))
+    last (Ok tt) a free = beyond authenticate s free
+    last (Err e) a f = f
 
-    go : (h : Head) → JudgedH authenticate s h → Judged (on_flags Refused h rest)
-    go (Flags w) j = subst (λ (x : NegotiateFlags). Judged (rest x)) (sym j.0) (last (check_fields (length s) (unicode (flags_at s 60)) (fields_at s (flags_at s 60))) (answer (flags_at s 60)) (fields_judged j.1))
-    go (Stopped e) j = j
+    go : (h : Result NegotiateFlags Refusal) → JudgedH authenticate s h → Judged (on_ok Err h rest)
+    go (Ok w) j = subst (λ (x : NegotiateFlags). Judged (rest x)) (sym j.0) (last (check_fields (length s) (unicode (flags_at s 60)) (fields_at s (flags_at s 60))) (answer (flags_at s 60)) (fields_judged j.1))
+    go (Err e) j = j
 
 pub authenticate_judged : AuthenticateJudged
 authenticate_judged s =
     judged_first (Fails authenticate s) (up_to_9 authenticate s) (auth_verdict (read_authenticate s).reading) (go (read_authenticate s).reading (judged s))
   where
-    go : (r : Reading) → Judged s r → FirstBy (Fails authenticate s) (auth_verdict r)
-    go (Taken a) j = j
-    go (Refused e) j = j
+    go : (r : Result Authenticate Refusal) → Judged s r → FirstBy (Fails authenticate s) (auth_verdict r)
+    go (Ok a) j = j
+    go (Err e) j = j

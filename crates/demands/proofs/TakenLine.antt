@@ -1,6 +1,8 @@
 -- The line of every taken message, whole.
 pub mod NlWhole
 pub mod Fixed
+use Rattle.std.specs.Prelude.{Result, Option, Ok, Err, Some, None, ⊤}
+use Rattle.wire.specs.declared.refusal.Refusal.{Refusal}
 use Prim.Native.Nat.{ℕ, zero, suc, ◌/◌, ◌%◌, ◌≤◌}
 use mathlib.Core.Path.{◌≡◌, refl, sym, ap, ◌∙◌}
 use mathlib.Core.Logic.{◌⊎◌, inl, inr}
@@ -13,8 +15,6 @@ use lib.Seq.{ext_get_or}
 use borrow.Author.Tests.{le-leb, lt-leb, eq-eqb, ne_eqb}
 use Rattle.wire.specs.Text.{ascii}
 use Rattle.wire.proofs.Bools.{and_both}
-use Rattle.wire.specs.declared.check.Verdict.{Verdict}
-use Rattle.wire.specs.declared.check.Verdict.TheVariants.{Clear, Refused as Not}
 use Rattle.wire.specs.Check.{on_clear}
 use Rattle.wire.specs.Number.{u32_at}
 use Rattle.field.specs.declared.Field.{Field}
@@ -30,21 +30,12 @@ use Rattle.line_authenticate.specs.Auth.{auth_names, auth_lengths, auth_end, aut
 use Rattle.line_challenge.specs.Chal.{time_text, time_word, chal_end, chal_words, chal_text}
 use Rattle.line.specs.Line.{negotiate_line, challenge_line, authenticate_line}
 use Rattle.read_negotiate.specs.declared.Negotiate.{Negotiate}
-use Rattle.read_negotiate.specs.declared.Reading.{Reading as NegotiateReading}
-use Rattle.read_negotiate.specs.declared.Reading.TheVariants.{Taken as NegotiateTaken, Refused as NegotiateRefused}
 use Rattle.read_negotiate.specs.Negotiate as N
 use Rattle.read_authenticate.specs.declared.Authenticate.{Authenticate}
-use Rattle.read_authenticate.specs.declared.Reading.{Reading}
-use Rattle.read_authenticate.specs.declared.Reading.TheVariants.{Taken, Refused}
 use Rattle.read_authenticate.specs.Authenticate as A
-use Rattle.av_pairs.specs.declared.Count.TheVariants.{Pairs, Refused as Uncounted}
 use Rattle.av_pairs.specs.AvPairs.{check_pairs, count_pairs, pairs_of, step_at, pair_of, left}
 use Rattle.read_challenge.specs.declared.Challenge.{Challenge}
-use Rattle.read_challenge.specs.declared.Reading.{Reading as ChallengeReading}
-use Rattle.read_challenge.specs.declared.Reading.TheVariants.{Taken as ChallengeTaken, Refused as ChallengeRefused}
 use Rattle.read_challenge.specs.Challenge as C
-use Rattle.target_info.specs.declared.Timestamp.{Timestamp}
-use Rattle.target_info.specs.declared.Timestamp.TheVariants.{Time, Nothing}
 use Rattle.target_info.specs.TargetInfo.{timestamp_in}
 use Rattle.demands.specs.Answering.{TimestampIs}
 use Rattle.demands.specs.Message.{Format, negotiate, authenticate, challenge, Set, Counts, len_of, MicThere}
@@ -235,7 +226,7 @@ nego_together : (h g : ℕ) (a b x : List ℕ) → h ≡ g →
     ≡ together (ascii "nego flags=" ∷ hex 8 g ∷ ascii " domain=" ∷ a ∷ ascii " work=" ∷ b ∷ ascii " max=" ∷ x ∷ (0x0A ∷ []) ∷ [])
 nego_together h g a b x e = simp e
 
-nego_whole : (s : List ℕ) (m : Negotiate) → N.read_negotiate s ≡ NegotiateTaken m → NegoLine s (negotiate_line s)
+nego_whole : (s : List ℕ) (m : Negotiate) → N.read_negotiate s ≡ Ok m → NegoLine s (negotiate_line s)
 unfolding negotiate_line
 nego_whole s m h =
     let o = negotiate_own s m h in
@@ -252,9 +243,9 @@ nego_whole s m h =
 
 pub nego_line_whole : NegoLineWhole
 nego_line_whole s t = go (N.read_negotiate s) refl t where
-  go : (r : NegotiateReading) → N.read_negotiate s ≡ r → IsTaken (nego_verdict r) → NegoLine s (negotiate_line s)
-  go (NegotiateTaken m) h i = nego_whole s m h
-  go (NegotiateRefused e) h i = absurd i
+  go : (r : Result Negotiate Refusal) → N.read_negotiate s ≡ r → IsTaken (nego_verdict r) → NegoLine s (negotiate_line s)
+  go (Ok m) h i = nego_whole s m h
+  go (Err e) h i = absurd i
 
 -- ---- AUTHENTICATE
 
@@ -273,7 +264,7 @@ unfolding mic_digit
 mic_shown s true h = record { there = λ m. refl; absent = λ n. absurd (n (h.0 refl)) }
 mic_shown s false h = record { there = λ m. absurd (true_not_false (sym (h.1 m))); absent = λ n. refl }
 
-auth_whole : (s : List ℕ) (a : Authenticate) → (A.read_authenticate s).reading ≡ Taken a → AuthLine s (authenticate_line s)
+auth_whole : (s : List ℕ) (a : Authenticate) → (A.read_authenticate s).reading ≡ Ok a → AuthLine s (authenticate_line s)
 unfolding authenticate_line
 auth_whole s a h =
     let o = authenticate_own s a h in
@@ -307,17 +298,17 @@ auth_whole s a h =
 
 pub auth_line_whole : AuthLineWhole
 auth_line_whole s t = go (A.read_authenticate s).reading refl t where
-  go : (r : Reading) → (A.read_authenticate s).reading ≡ r → IsTaken (auth_verdict r) → AuthLine s (authenticate_line s)
-  go (Taken a) h i = auth_whole s a h
-  go (Refused e) h i = absurd i
+  go : (r : Result Authenticate Refusal) → (A.read_authenticate s).reading ≡ r → IsTaken (auth_verdict r) → AuthLine s (authenticate_line s)
+  go (Ok a) h i = auth_whole s a h
+  go (Err e) h i = absurd i
 
 -- ---- CHALLENGE
 
-time_first_lem : (x : Timestamp) (w : List ℕ) → spaced (time_first x (w ∷ [])) ≡ time_shown x ++ (0x20 ∷ (w ++ (0x0A ∷ [])))
-time_first_lem (Time t) w = refl
-time_first_lem Nothing w = refl
+time_first_lem : (x : Option ℕ) (w : List ℕ) → spaced (time_first x (w ∷ [])) ≡ time_shown x ++ (0x20 ∷ (w ++ (0x0A ∷ [])))
+time_first_lem (Some t) w = refl
+time_first_lem None w = refl
 
-chal_together : (h g n : ℕ) (u : Bool) (a x : List ℕ) (t : Timestamp) → h ≡ g →
+chal_together : (h g n : ℕ) (u : Bool) (a x : List ℕ) (t : Option ℕ) → h ≡ g →
     ascii "chal" ++ spaced ((ascii "flags=" ++ hex 8 h) ∷ set_text u ∷ (ascii "target=" ++ a) ∷ (ascii "pairs=" ++ decimal n) ∷ time_first t ((ascii "max=" ++ x) ∷ []))
     ≡ together (
     ascii "chal flags=" ∷ hex 8 g ∷ ascii " set=" ∷ set_letter u ∷ ascii " target=" ∷ a ∷ ascii " pairs=" ∷ decimal n ∷ time_shown t ∷
@@ -328,15 +319,15 @@ chal_together h g n u a x t e = simp (e, set_split, time_first_lem)
 pub pairs_counted : (b : List ℕ) (n : ℕ) → Holds b n → length (pairs_of b) ≡ n
 unfolding count_pairs
 pairs_counted b n h = go (check_pairs b) ((pairs_taken b n).1 h) where
-  go : (v : Verdict) → on_clear Uncounted v (Pairs (length (pairs_of b))) ≡ Pairs n → length (pairs_of b) ≡ n
-  go Clear e = cc
-  go (Not x) e = cc
+  go : (v : Result ⊤ Refusal) → on_clear Err v (Ok (length (pairs_of b))) ≡ Ok n → length (pairs_of b) ≡ n
+  go (Ok tt) e = cc
+  go (Err x) e = cc
 
-time_is : (b : List ℕ) (x : Timestamp) → timestamp_in b ≡ x → TimestampIs b x
-time_is b (Time t) e = time_judged b t e
-time_is b Nothing e = λ p. no_time_judged b e p.0 p.1
+time_is : (b : List ℕ) (x : Option ℕ) → timestamp_in b ≡ x → TimestampIs b x
+time_is b (Some t) e = time_judged b t e
+time_is b None e = λ p. no_time_judged b e p.0 p.1
 
-chal_whole : (s b : List ℕ) (c : Challenge) → (C.read_challenge s).reading ≡ ChallengeTaken c → InfoBytes s b → ChalLine s b (challenge_line s)
+chal_whole : (s b : List ℕ) (c : Challenge) → (C.read_challenge s).reading ≡ Ok c → InfoBytes s b → ChalLine s b (challenge_line s)
 unfolding challenge_line C.read_challenge
 chal_whole s b c h info =
     let o = challenge_own s c h in
@@ -361,9 +352,9 @@ chal_whole s b c h info =
 
 pub chal_line_whole : ChalLineWhole
 chal_line_whole s b t info = go (C.read_challenge s).reading refl t where
-  go : (r : ChallengeReading) → (C.read_challenge s).reading ≡ r → IsTaken (chal_verdict r) → ChalLine s b (challenge_line s)
-  go (ChallengeTaken c) h i = chal_whole s b c h info
-  go (ChallengeRefused e) h i = absurd i
+  go : (r : Result Challenge Refusal) → (C.read_challenge s).reading ≡ r → IsTaken (chal_verdict r) → ChalLine s b (challenge_line s)
+  go (Ok c) h i = chal_whole s b c h info
+  go (Err e) h i = absurd i
 
 -- ---- lines worked out by hand
 

@@ -2,6 +2,8 @@
 -- every writing, and a line.
 pub mod MessagesWritten
 pub mod NlWritten
+use Rattle.std.specs.Prelude.{Result, Ok, Err, ⊤}
+use Rattle.wire.specs.declared.refusal.Refusal.{Refusal}
 use Prim.Native.Nat.{ℕ, ◌+◌, ◌<◌}
 use mathlib.Core.Path.{◌≡◌, refl, sym, ap, ◌∙◌, subst}
 use mathlib.Core.Logic.{inl, ⊎_elim}
@@ -12,13 +14,10 @@ use lib.Dec.{ltb}
 use lib.ListN.{length, drop}
 use lib.Seq.{take-append_seam}
 use borrow.Author.Tests.{leb-true, leb-false, le-leb, ltb-true, ltb-false}
-use Rattle.wire.specs.declared.check.Verdict.{Verdict}
-use Rattle.wire.specs.declared.check.Verdict.TheVariants.{Clear, Refused as Not}
 use Rattle.wire.specs.declared.refusal.Refusal.TheVariants.{TooLongToWrite, NoRoom}
 use Rattle.wire.specs.Check.{after}
 use Rattle.wire.specs.Refusal.{number_of, field_of}
 use Rattle.wire.proofs.Laws.{held_true}
-use Rattle.place.specs.declared.written.Written.TheVariants.{Length, Refused}
 use Rattle.place.specs.Written.{size_holds, room_holds, answered, bytes_hold, bytes_answer, bytes_after}
 use Rattle.demands.specs.Order.{FirstIn, rank_in}
 use Rattle.demands.specs.WrittenExactly.{WrittenExactly, RoomFails, LineIsWritten, LineStands}
@@ -42,18 +41,18 @@ module _ (order : List ℕ) (F : ℕ → ℕ → Type 0) where
   pub none_fails : Rows order F → (k : ℕ) → rank_in order k ≡ length order → FreeBy (rank_in order) F k 0 → (n i : ℕ) → F n i → ⊥
   none_fails rows k e free n i h = free n i (inl (omega (arith, e, rows n i h))) h
 
-  pub by_verdict : Rows order F → (k : ℕ) → rank_in order k ≡ length order → (v : Verdict) (bytes : List ℕ) (size : ℕ) →
+  pub by_verdict : Rows order F → (k : ℕ) → rank_in order k ≡ length order → (v : Result ⊤ Refusal) (bytes : List ℕ) (size : ℕ) →
       length bytes ≡ size → JudgedBy (rank_in order) F k v → WrittenExactly (answered v bytes) order F size
-  by_verdict rows k e Clear bytes size l j =
+  by_verdict rows k e (Ok tt) bytes size l j =
       let none = none_fails rows k e j in
       record {
         refused = λ n i. (λ t. absurd t, λ f. none n i f.fails);
-        written = λ n. (λ h. (none, sym (same n h) ∙ l), λ h. ap Length (l ∙ sym h.1));
+        written = λ n. (λ h. (none, sym (same n h) ∙ l), λ h. ap Ok (l ∙ sym h.1));
       }
     where
-      same : (n : ℕ) → Length (length bytes) ≡ Length n → length bytes ≡ n
+      same : (n : ℕ) → ◌≡◌ {A = Result ℕ Refusal} (Ok (length bytes)) (Ok n) → length bytes ≡ n
       same n h = cc
-  by_verdict rows k e (Not d) bytes size l j =
+  by_verdict rows k e (Err d) bytes size l j =
       record {
         refused = λ n i. (
           λ t. subst (λ (x : ℕ). FirstIn order F n x) t.1 (subst (λ (x : ℕ). FirstIn order F x (field_of d)) t.0 j),
@@ -62,7 +61,7 @@ module _ (order : List ℕ) (F : ℕ → ℕ → Type 0) where
         written = λ n. (λ h. absurd (never n h), λ h. absurd (h.0 (number_of d) (field_of d) j.fails));
       }
     where
-      never : (n : ℕ) → Refused d ≡ Length n → ⊥
+      never : (n : ℕ) → ◌≡◌ {A = Result ℕ Refusal} (Err d) (Ok n) → ⊥
       never n h = let z : ◌≡◌ {A = ℕ} 0 1 = cc in omega arith
 
 -- ---- checks 30 and 33
@@ -78,19 +77,19 @@ module _ (order : List ℕ) (F : ℕ → ℕ → Type 0) where
   -- 33, the last check of each writing
   pub room_judged : (room size m : ℕ) → m ≡ size → (room < size → F 33 0) → ((j : ℕ) → F 33 j → room < size) →
       rank_in order 0 ≡ rank_in order 33 + 1 → rank_in order 33 < length order → FreeBy (rank_in order) F 33 0 →
-      JudgedBy (rank_in order) F 0 (after (room_holds m room) (Not NoRoom) Clear)
+      JudgedBy (rank_in order) F 0 (after (room_holds m room) (Err NoRoom) (Ok tt))
   room_judged room size m e to from last inside free =
-      chained (JudgedBy (rank_in order) F 0) (room_holds m room) (Not NoRoom) Clear
+      chained (JudgedBy (rank_in order) F 0) (room_holds m room) (Err NoRoom) (Ok tt)
       (λ f. first_by (rank_in order) F 33 0 free (to (omega (arith, e, leb-false m room (failed_false _ f)))))
       (λ h. next order F 33 0 last inside free (λ j w. omega (arith, e, from j w, leb-true m room (held_true _ h))))
 
   -- 30 before it
-  pub size_judged : (size m : ℕ) (v : Verdict) → m ≡ size → (65535 < size → F 30 0) → ((j : ℕ) → F 30 j → 65535 < size) →
+  pub size_judged : (size m : ℕ) (v : Result ⊤ Refusal) → m ≡ size → (65535 < size → F 30 0) → ((j : ℕ) → F 30 j → 65535 < size) →
       rank_in order 33 ≡ rank_in order 30 + 1 → rank_in order 30 < length order → FreeBy (rank_in order) F 30 0 →
       (FreeBy (rank_in order) F 33 0 → JudgedBy (rank_in order) F 0 v) →
-      JudgedBy (rank_in order) F 0 (after (size_holds m) (Not TooLongToWrite) v)
+      JudgedBy (rank_in order) F 0 (after (size_holds m) (Err TooLongToWrite) v)
   size_judged size m v e to from then inside free rest =
-      chained (JudgedBy (rank_in order) F 0) (size_holds m) (Not TooLongToWrite) v
+      chained (JudgedBy (rank_in order) F 0) (size_holds m) (Err TooLongToWrite) v
       (λ f. first_by (rank_in order) F 30 0 free (to (omega (arith, e, leb-false m 65535 (failed_false _ f)))))
       (λ h. rest (next order F 30 33 then inside free (λ j w. omega (arith, e, from j w, leb-true m 65535 (held_true _ h)))))
 
@@ -98,7 +97,7 @@ module _ (order : List ℕ) (F : ℕ → ℕ → Type 0) where
 pub only_room : (room size : ℕ) → Rows (33 ∷ []) (RoomFails room size)
 only_room room size = rows (33 ∷ []) (RoomFails room size) (λ n i z h. simp z.0 at h)
 
-pub only_room_judged : (room size : ℕ) → JudgedBy (rank_in (33 ∷ [])) (RoomFails room size) 0 (after (room_holds size room) (Not NoRoom) Clear)
+pub only_room_judged : (room size : ℕ) → JudgedBy (rank_in (33 ∷ [])) (RoomFails room size) 0 (after (room_holds size room) (Err NoRoom) (Ok tt))
 only_room_judged room size =
     room_judged (33 ∷ []) (RoomFails room size) room size size refl (λ l. (refl, l)) (λ j w. w.1) refl (omega arith)
     (free_at_first (33 ∷ []) (RoomFails room size) 33 refl)

@@ -1,17 +1,10 @@
 -- Demand 1: "It answers, or refuses by a number from document 01 in the order given there", of answering a challenge.
 -- Document 01: "Answering a challenge: reading, 20, 21, then writing." Everything is said by the challenge's bytes s, the bytes b
 -- of its TargetInfo, the settings and what the caller gives.
-use Rattle.std.specs.Prelude.{ℕ, ◌+◌, ◌<◌, ◌≡◌, true, false, ◌⊎◌, ◌↔◌, List, [], length, take, drop, replicate}
-use Rattle.wire.specs.declared.check.Verdict.{Verdict}
-use Rattle.wire.specs.declared.check.Verdict.TheVariants.{Clear, Refused as Not}
+use Rattle.wire.specs.declared.refusal.Refusal.{Refusal}
+use Rattle.std.specs.Prelude.{Result, Option, Ok, Err, Some, None, ⊤, ℕ, ◌+◌, ◌<◌, ◌≡◌, true, false, ◌⊎◌, ◌↔◌, List, [], length, take, drop, replicate}
 use Rattle.wire.specs.Number.{u32_at, u64_at}
-use Rattle.target_info.specs.declared.Timestamp.{Timestamp}
-use Rattle.target_info.specs.declared.Timestamp.TheVariants.{Time, Nothing}
 use Rattle.respond.specs.declared.answer.Answer.{Answer}
-use Rattle.respond.specs.declared.answer.Answered.{Answered}
-use Rattle.respond.specs.declared.answer.Answered.TheVariants.{Sent, Refused as Unanswered}
-use Rattle.respond.specs.declared.decision.Decided.{Decided}
-use Rattle.respond.specs.declared.decision.Decided.TheVariants.{Taken, Refused}
 use Rattle.respond.specs.declared.decision.Decision.{Decision}
 use Rattle.respond.specs.declared.decision.Settings.{Settings}
 use Rattle.respond.specs.Answer.{Supplied, respond_to}
@@ -48,18 +41,18 @@ pub data Declined (settings : Settings) (s b : List ℕ) (n i p : ℕ) : Type 0 
   by_21 : n ≡ 21 → i ≡ 0 → p ≡ 0 → ChallengeHolds s b → (Fails20 settings s → ⊥) → Fails21 settings b → Declined settings s b n i p
 
 -- the value of the first pair 7, as a number
-abbrev pub TimestampIs : List ℕ → Timestamp → Type 0
-TimestampIs b (Time t) = (place : ℕ) × FirstWith b 7 place 0 × (t ≡ u64_at b (place + 4))
-TimestampIs b Nothing = PairThere b 7 → ⊥
+abbrev pub TimestampIs : List ℕ → Option ℕ → Type 0
+TimestampIs b (Some t) = (place : ℕ) × FirstWith b 7 place 0 × (t ≡ u64_at b (place + 4))
+TimestampIs b None = PairThere b 7 → ⊥
 
-abbrev pub DecisionRefusedWith : Decided → ℕ → ℕ → ℕ → Type 0
-DecisionRefusedWith (Taken d) n i p = ⊥
-DecisionRefusedWith (Refused e) n i p = RefusalIs e n i p
+abbrev pub DecisionRefusedWith : Result Decision Refusal → ℕ → ℕ → ℕ → Type 0
+DecisionRefusedWith (Ok d) n i p = ⊥
+DecisionRefusedWith (Err e) n i p = RefusalIs e n i p
 
 -- a decision is made, or refused
-abbrev pub decided_verdict : Decided → Verdict
-decided_verdict (Taken d) = Clear
-decided_verdict (Refused e) = Not e
+abbrev pub decided_verdict : Result Decision Refusal → Result ⊤ Refusal
+decided_verdict (Ok d) = Ok tt
+decided_verdict (Err e) = Err e
 
 abbrev pub DecisionIsRefused : Type 0
 DecisionIsRefused =
@@ -69,7 +62,7 @@ DecisionIsRefused =
 abbrev pub DecisionIsTaken : Type 0
 DecisionIsTaken =
     (settings : Settings) (s b : List ℕ) → InfoBytes s b → (d : Decision) →
-    (decision_on settings s ≡ Taken d) ↔ (Agreed settings s b × (d.flags.bits ≡ u32_at s 20) × TimestampIs b d.timestamp)
+    (decision_on settings s ≡ Ok d) ↔ (Agreed settings s b × (d.flags.bits ≡ u32_at s 20) × TimestampIs b d.timestamp)
 
 -- ---- the domain to send
 
@@ -130,16 +123,16 @@ SomethingToSend = (settings : Settings) (s b : List ℕ) (x : Supplied) → ToSe
 
 -- ---- the answer
 
-abbrev pub AnswerRefusedWith : Answered → ℕ → ℕ → ℕ → Type 0
-AnswerRefusedWith (Sent x) n i p = ⊥
-AnswerRefusedWith (Unanswered e) n i p = RefusalIs e n i p
+abbrev pub AnswerRefusedWith : Result Answer Refusal → ℕ → ℕ → ℕ → Type 0
+AnswerRefusedWith (Ok x) n i p = ⊥
+AnswerRefusedWith (Err e) n i p = RefusalIs e n i p
 
 -- an answer is refused by the decision, and else by the first check of the writing that fails, with what is sent; it is sent if and
 -- only if nothing fails, with its length, Time, and whether a MIC is due
-pub record AnsweredExactly (answer : Answered) (settings : Settings) (s b : List ℕ) (F : ℕ → ℕ → Type 0) (size time : ℕ) : Type 0 where
+pub record AnsweredExactly (answer : Result Answer Refusal) (settings : Settings) (s b : List ℕ) (F : ℕ → ℕ → Type 0) (size time : ℕ) : Type 0 where
   pub refused : (n i p : ℕ) → AnswerRefusedWith answer n i p ↔
       (Declined settings s b n i p ⊎ (Agreed settings s b × FirstIn authenticate_order F n i × (p ≡ 0)))
-  pub sent : (x : Answer) → (answer ≡ Sent x) ↔
+  pub sent : (x : Answer) → (answer ≡ Ok x) ↔
       (Agreed settings s b × ((m j : ℕ) → F m j → ⊥) × (x.len ≡ size) × (x.time ≡ time) × ((x.mic_due ≡ true) ↔ PairThere b 7))
 
 -- for every settings, so also for the three thin calls; Version and MIC are of 8 and 16 bytes, as the call takes them
@@ -156,6 +149,6 @@ RespondIsAnswered =
 abbrev pub RespondReadsBack : Type 0
 RespondReadsBack =
     (settings : Settings) (s b : List ℕ) (x : Supplied) → length x.version ≡ 8 → length x.mic ≡ 16 → InfoBytes s b →
-    (t : ToSend settings s b x) (y : Answer) → (respond_to settings s x).answer ≡ Sent y →
+    (t : ToSend settings s b x) (y : Answer) → (respond_to settings s x).answer ≡ Ok y →
     AuthenticateBack (take y.len (respond_to settings s x).output) (record { bits = u32_at s 20 })
     t.mic_sent t.lm_sent x.nt t.domain_sent x.user x.workstation t.key_sent

@@ -1,14 +1,10 @@
 -- Demand 1: "A refusal gives its number and field". From C it gives them, and the place of a pair, by the macros of
 -- include/dialtable.h, whose `>>` and `&` are `/` and `%` here, and no length is taken for a refusal.
-use Rattle.std.specs.Prelude.{ℕ, ◌/◌, ◌%◌, ◌≤◌, ◌<◌, ◌≡◌, Bool, ◌⊎◌, List, length}
-use Rattle.wire.specs.declared.check.Verdict.{Verdict}
-use Rattle.wire.specs.declared.check.Verdict.TheVariants.{Clear, Refused as Not}
+use Rattle.std.specs.Prelude.{Result, Ok, Err, ⊤, ℕ, ◌/◌, ◌%◌, ◌≤◌, ◌<◌, ◌≡◌, Bool, ◌⊎◌, List, length}
 use Rattle.wire.specs.declared.refusal.Refusal.{Refusal}
 use Rattle.wire.specs.declared.refusal.Refusal.TheVariants.{NoRoom}
 use Rattle.wire.specs.Refusal.{number_of, field_of, place_of}
 use Rattle.field.specs.declared.Field.{Field}
-use Rattle.place.specs.declared.written.Written.{Written}
-use Rattle.place.specs.declared.written.Written.TheVariants.{Length, Refused}
 use Rattle.place.specs.Written.{bytes_answer}
 use Rattle.av_pairs.specs.AvPairs.{check_pairs}
 use Rattle.write_authenticate.specs.Writing.{write_answer}
@@ -19,8 +15,6 @@ use Rattle.nl_auth_flags.specs.declared.NlAuthFlags.{NlAuthFlags}
 use Rattle.nl_auth_flags.specs.Flags.{known}
 use Rattle.write_nl_auth.specs.Writing.{request_answer, response_answer}
 use Rattle.respond.specs.declared.answer.Answer.{Answer}
-use Rattle.respond.specs.declared.answer.Answered.{Answered}
-use Rattle.respond.specs.declared.answer.Answered.TheVariants.{Sent, Refused as Unanswered}
 use Rattle.respond.specs.declared.decision.Settings.{Settings}
 use Rattle.respond.specs.Answer.{Supplied, respond_to}
 use Rattle.write_response_pairs.specs.ResponsePairs.{write_answer as pairs_answer}
@@ -75,18 +69,18 @@ TwoArraysDecode =
     ((room < number_count c) ⊎ (room' < byte_count c) → DecodesRefusal (two_array_number (number_count c) (byte_count c) (two_array_outcome c) room room') NoRoom)
     × (number_count c ≤ room → byte_count c ≤ room' → DecodesOutcome (two_array_number (number_count c) (byte_count c) (two_array_outcome c) room room') (two_array_outcome c))
 
-abbrev pub DecodesVerdict : ℕ → Verdict → Type 0
-DecodesVerdict answer Clear = DecodesLength answer 0
-DecodesVerdict answer (Not e) = DecodesRefusal answer e
+abbrev pub DecodesVerdict : ℕ → Result ⊤ Refusal → Type 0
+DecodesVerdict answer (Ok tt) = DecodesLength answer 0
+DecodesVerdict answer (Err e) = DecodesRefusal answer e
 
 abbrev pub CheckPairsDecodes : Type 0
 CheckPairsDecodes = (list : List ℕ) → DecodesVerdict (verdict_number (check_pairs list)) (check_pairs list)
 
 -- ---- the calls that write
 
-abbrev pub DecodesWritten : ℕ → Written → Type 0
-DecodesWritten answer (Length n) = DecodesLength answer n
-DecodesWritten answer (Refused e) = DecodesRefusal answer e
+abbrev pub DecodesWritten : ℕ → Result ℕ Refusal → Type 0
+DecodesWritten answer (Ok n) = DecodesLength answer n
+DecodesWritten answer (Err e) = DecodesRefusal answer e
 
 -- a message, or the pair list of request 2/12; Version and MIC are of 8 and 16 bytes, as the calls take them
 pub data Writing : Type 0 where
@@ -97,7 +91,7 @@ pub data Writing : Type 0 where
   write_nl_auth_response : (room : ℕ) → Writing
   write_response_pairs : (room : ℕ) (challenge name : List ℕ) (unverified : Bool) (bindings : List ℕ) → Writing
 
-abbrev pub writing_answer : Writing → Written
+abbrev pub writing_answer : Writing → Result ℕ Refusal
 writing_answer (write_negotiate room flags version domain workstation v8) = negotiate_answer room flags version domain workstation
 writing_answer (write_authenticate room flags version mic lm nt domain user workstation key v8 m16) =
     write_answer room flags version mic lm nt domain user workstation key
@@ -107,7 +101,7 @@ writing_answer (write_response_pairs room s name unverified bindings) = pairs_an
 
 -- what is written has at most 65,535 bytes
 abbrev pub WritingShort : Type 0
-WritingShort = (w : Writing) (n : ℕ) → writing_answer w ≡ Length n → n ≤ 65535
+WritingShort = (w : Writing) (n : ℕ) → writing_answer w ≡ Ok n → n ≤ 65535
 
 abbrev pub WritingDecodes : Type 0
 WritingDecodes = (w : Writing) → DecodesWritten (written_number (writing_answer w)) (writing_answer w)
@@ -140,7 +134,7 @@ LineDecodes = (l : LineCall) (out : List ℕ) → DecodesWritten (written_number
 
 -- a copy, of a field's bytes or of the domain to send: no longer than the output that the caller lends
 abbrev pub CopyFits : Type 0
-CopyFits = (bytes out : List ℕ) (n : ℕ) → bytes_answer bytes out ≡ Length n → n ≤ length out
+CopyFits = (bytes out : List ℕ) (n : ℕ) → bytes_answer bytes out ≡ Ok n → n ≤ length out
 
 -- so that its top bit is clear where the output has under 2^63 bytes
 abbrev pub CopyDecodes : Type 0
@@ -157,13 +151,13 @@ FieldCopyDecodes =
 abbrev pub RespondShort : Type 0
 RespondShort =
     (settings : Settings) (s : List ℕ) (x : Supplied) (y : Answer) → length x.version ≡ 8 → length x.mic ≡ 16 →
-    (respond_to settings s x).answer ≡ Sent y → y.len ≤ 65535
+    (respond_to settings s x).answer ≡ Ok y → y.len ≤ 65535
 
-abbrev pub DecodesAnswered : ℕ → Answered → Type 0
-DecodesAnswered answer (Sent x) = DecodesLength answer x.len
-DecodesAnswered answer (Unanswered e) = DecodesRefusal answer e
+abbrev pub DecodesAnswered : ℕ → Result Answer Refusal → Type 0
+DecodesAnswered answer (Ok x) = DecodesLength answer x.len
+DecodesAnswered answer (Err e) = DecodesRefusal answer e
 
-pub record AnswerDecodes (answer : Answered) (room number : ℕ) : Type 0 where
+pub record AnswerDecodes (answer : Result Answer Refusal) (room number : ℕ) : Type 0 where
   pub short : room < 2 → DecodesRefusal number NoRoom
   pub decoded : 2 ≤ room → DecodesAnswered number answer
 

@@ -1,8 +1,7 @@
 -- Document 02, 8/12: "Take the buffer and a lent list of places, each a start, a length and room for its answer. Each also has a mark
 -- .. and is read as that kind; its answer is the number, field and pair place that a single call on those bytes gives, all 0 if taken;
 -- no other part of the entry changes. Places may overlap or repeat, and an empty list does nothing."
-use Rattle.std.specs.Prelude.{ℕ, ◌+◌, ◌-◌, ◌≤◌, ◌<◌, ◌≡◌, ◌⊎◌, List, [], ◌∷◌, ◌++◌, length, take, drop, get_or, set}
-use Rattle.wire.specs.declared.check.Verdict.TheVariants.{Clear, Refused}
+use Rattle.std.specs.Prelude.{Ok, Err, ℕ, ◌+◌, ◌-◌, ◌≤◌, ◌<◌, ◌≡◌, ◌⊎◌, List, [], ◌∷◌, ◌++◌, length, take, drop, get_or, set}
 use Rattle.wire.specs.declared.refusal.Refusal.TheVariants.{TooLong}
 use Rattle.head.specs.declared.Kind.{Kind}
 use Rattle.head.specs.declared.Kind.TheVariants.{Negotiate, Challenge, Authenticate}
@@ -79,8 +78,8 @@ pub record DecodesTooLong (answer : ℕ) : Type 0 where
 abbrev pub BatchAnswers : Type 0
 BatchAnswers =
     (s : List ℕ) (es : List Entry) →
-    (length s ≤ 65535 → (buffer_verdict s ≡ Clear) × (verdict_number (buffer_verdict s) ≡ 0) × Each (EntryAnswered s) es (filled s es))
-    × (65535 < length s → (buffer_verdict s ≡ Refused TooLong) × DecodesTooLong (verdict_number (buffer_verdict s)) × (filled s es ≡ es))
+    (length s ≤ 65535 → (buffer_verdict s ≡ Ok tt) × (verdict_number (buffer_verdict s) ≡ 0) × Each (EntryAnswered s) es (filled s es))
+    × (65535 < length s → (buffer_verdict s ≡ Err TooLong) × DecodesTooLong (verdict_number (buffer_verdict s)) × (filled s es ≡ es))
 
 -- ---- "Demand 3 here reads: two buffers of one length that differ only inside the secrets that count, or a MIC that is there, of
 -- ---- listed AUTHENTICATE messages, and in no byte that any listed message has as a name, in its first 64 bytes or in a challenge, get

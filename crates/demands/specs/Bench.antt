@@ -1,16 +1,14 @@
 -- Document 01, "Bench cases": one list of the marked ones, over the definitions, with one claim that all hold.
-use Rattle.std.specs.Prelude.{ℕ, ◌+◌, ◌≡◌, Bool, true, false, ◌&&◌, not, List, [], ◌∷◌, ◌++◌, eqb, length, take, replicate}
+use Rattle.read_authenticate.specs.declared.Authenticate.{Authenticate}
+use Rattle.wire.specs.declared.refusal.Refusal.{Refusal}
+use Rattle.std.specs.Prelude.{Result, Ok, Err, ℕ, ◌+◌, ◌≡◌, Bool, true, false, ◌&&◌, not, List, [], ◌∷◌, ◌++◌, eqb, length, take, replicate}
 use Prim.Native.String.{String}
 use Rattle.std.proofs.lemmas.List.Edits.{sets}
 use Rattle.wire.specs.Text.{ascii}
 use Rattle.wire.specs.Number.{stands_at}
 use Rattle.wire.specs.Refusal.{number_of, field_of, place_of}
 use Rattle.line.specs.Line.{nl_auth_line, ntlm_line}
-use Rattle.av_pairs.specs.declared.Count.{Count}
-use Rattle.av_pairs.specs.declared.Count.TheVariants.{Pairs, Refused as Uncounted}
 use Rattle.av_pairs.specs.AvPairs.{count_pairs}
-use Rattle.read_authenticate.specs.declared.Reading.{Reading}
-use Rattle.read_authenticate.specs.declared.Reading.TheVariants.{Taken, Refused}
 use Rattle.read_authenticate.specs.Authenticate.{read_authenticate}
 
 -- what reading gives: taken, with a MIC or without, or refused with a number and a field
@@ -32,20 +30,20 @@ abbrev same : Bool → Bool → Bool
 same true b = b
 same false b = not b
 
-abbrev pub gives : Reading → Expected → Bool
-gives (Taken a) (taken mic) = same a.mic_present mic
-gives (Taken a) (refused n f) = false
-gives (Refused e) (taken mic) = false
-gives (Refused e) (refused n f) = eqb (number_of e) n && eqb (field_of e) f
+abbrev pub gives : Result Authenticate Refusal → Expected → Bool
+gives (Ok a) (taken mic) = same a.mic_present mic
+gives (Ok a) (refused n f) = false
+gives (Err e) (taken mic) = false
+gives (Err e) (refused n f) = eqb (number_of e) n && eqb (field_of e) f
 
 -- a list's count, or its refusal with field 2
-abbrev counts : Count → ℕ → Bool
-counts (Pairs m) n = eqb m n
-counts (Uncounted e) n = false
+abbrev counts : Result ℕ Refusal → ℕ → Bool
+counts (Ok m) n = eqb m n
+counts (Err e) n = false
 
-abbrev refuses : Count → ℕ → ℕ → Bool
-refuses (Pairs m) n p = false
-refuses (Uncounted e) n p = (eqb (number_of e) n && eqb (field_of e) 2) && eqb (place_of e) p
+abbrev refuses : Result ℕ Refusal → ℕ → ℕ → Bool
+refuses (Ok m) n p = false
+refuses (Err e) n p = (eqb (number_of e) n && eqb (field_of e) 2) && eqb (place_of e) p
 
 -- the line is this text and 0A
 abbrev prints : List ℕ → String → Bool

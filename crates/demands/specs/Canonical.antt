@@ -2,14 +2,12 @@
 -- zeros, and a field that doesn't count as empty. Meaning is the flags, the six fields' bytes and the MIC so read. Show that two
 -- messages which are both tidied come out equal exactly when their meanings are equal, and that tidying what came out gives it
 -- again."
-use Rattle.std.specs.Prelude.{ℕ, ◌+◌, ◌/◌, ◌%◌, ◌≤◌, ◌≡◌, cond, ◌⊎◌, ◌↔◌, List, [], ◌∷◌, ◌++◌, eqb, length, take, replicate}
+use Rattle.std.specs.Prelude.{Ok, Err, ℕ, ◌+◌, ◌/◌, ◌%◌, ◌≤◌, ◌≡◌, cond, ◌⊎◌, ◌↔◌, List, [], ◌∷◌, ◌++◌, eqb, length, take, replicate}
 use Rattle.std.proofs.lemmas.List.Edits.{sets}
 use Rattle.wire.specs.declared.refusal.Refusal.TheVariants.{TooShort, WrongKey, NoRoom}
 use Rattle.wire.specs.Number.{u32_at}
 use Rattle.field.specs.Field.{field_bytes}
-use Rattle.place.specs.declared.written.Written.TheVariants.{Length, Refused}
 use Rattle.read_authenticate.specs.declared.Authenticate.{Authenticate}
-use Rattle.read_authenticate.specs.declared.Reading.TheVariants.{Taken}
 use Rattle.read_authenticate.specs.Authenticate.{read_authenticate}
 use Rattle.head.specs.declared.Kind.TheVariants.{Authenticate as AsAuthenticate}
 use Rattle.verdict.specs.Verdict.{read_as}
@@ -30,7 +28,7 @@ use Rattle.demands.specs.WrittenExactly.{WritingRefusedWith, WrittenExactly, Fai
 -- a message that is taken means this: its flags, its MIC's bytes (zeros where there is none) and each field's own bytes
 pub record Means (s : List ℕ) (m : Meaning) : Type 0 where
   pub message : Authenticate
-  pub read : (read_authenticate s).reading ≡ Taken message
+  pub read : (read_authenticate s).reading ≡ Ok message
   pub flags : message.flags.bits ≡ m.flags.bits
   pub mic : (read_authenticate s).mic ≡ m.mic
   pub lm : field_bytes s message.fields.lm ≡ m.lm
@@ -53,7 +51,7 @@ OneMeaning = (s : List ℕ) (m n : Meaning) → Means s m → Means s n → m �
 pub record WrittenAs (s w : List ℕ) : Type 0 where
   pub out : List ℕ
   pub size : ℕ
-  pub answer : canonical_answer (length out) s ≡ Length size
+  pub answer : canonical_answer (length out) s ≡ Ok size
   pub bytes : take size (canonical_out out s) ≡ w
 
 -- two messages which are both written so come out equal exactly when their meanings are equal, whatever their outputs were
@@ -66,7 +64,7 @@ OneWriting =
 abbrev pub WrittenAgain : Type 0
 WrittenAgain =
     (s w out : List ℕ) → WrittenAs s w → length w ≤ length out →
-    (canonical_answer (length out) w ≡ Length (length w)) × (take (length w) (canonical_out out w) ≡ w)
+    (canonical_answer (length out) w ≡ Ok (length w)) × (take (length w) (canonical_out out w) ≡ w)
 
 -- what came out means what the message means
 abbrev pub MeaningBack : Type 0
@@ -134,7 +132,7 @@ CanonicalIgnored = (s t : List ℕ) → DifferInIgnored authenticate s t → Sam
 -- length or the same refusal, and what comes out is alike outside the secrets' places
 pub record SecretsWritten (s t : List ℕ) : Type 0 where
   pub answer : (room : ℕ) → canonical_answer room s ≡ canonical_answer room t
-  pub message : (out out' : List ℕ) (n : ℕ) → length out ≡ length out' → canonical_answer (length out) s ≡ Length n →
+  pub message : (out out' : List ℕ) (n : ℕ) → length out ≡ length out' → canonical_answer (length out) s ≡ Ok n →
       AlikeOutside (take n (canonical_out out s)) (take n (canonical_out out' t))
 
 abbrev pub CanonicalSecret : Type 0
@@ -144,7 +142,7 @@ CanonicalSecret = (s t : List ℕ) → DifferInSecrets s t → SecretsWritten s 
 
 -- what is written has at most 65,535 bytes, and the header's macros take the length or the refusal out of the answer
 abbrev pub CanonicalShort : Type 0
-CanonicalShort = (room : ℕ) (s : List ℕ) (n : ℕ) → canonical_answer room s ≡ Length n → n ≤ 65535
+CanonicalShort = (room : ℕ) (s : List ℕ) (n : ℕ) → canonical_answer room s ≡ Ok n → n ≤ 65535
 
 abbrev pub CanonicalDecodes : Type 0
 CanonicalDecodes = (room : ℕ) (s : List ℕ) → DecodesWritten (written_number (canonical_answer room s)) (canonical_answer room s)
@@ -164,12 +162,12 @@ abbrev without_mic : List ℕ
 without_mic = sets (sets (take 64 p1) 24 (0x40 ∷ [])) 40 (0x58 ∷ []) ++ (replicate 24 0xAA ++ (0x62 ∷ 0x00 ∷ 0x6F ∷ 0x00 ∷ 0x78 ∷ 0x00 ∷ 0x37 ∷ 0x00 ∷ []))
 
 pub record CanonicalExample : Type 0 where
-  pub answer : canonical_answer 122 p1 ≡ Length 120
+  pub answer : canonical_answer 122 p1 ≡ Ok 120
   -- into an output of 122 bytes FF
   pub itself : canonical_out (replicate 122 0xFF) p1 ≡ p1 ++ (0xFF ∷ 0xFF ∷ [])
   pub tidied : canonical_out (replicate 120 0xFF) otherwise ≡ p1
   pub without_mic_is : canonical_out (replicate 120 0xFF) without_mic ≡ p1
-  pub short_key_is : canonical_answer 120 short_key ≡ Refused WrongKey
-  pub no_room : canonical_answer 119 p1 ≡ Refused NoRoom
+  pub short_key_is : canonical_answer 120 short_key ≡ Err WrongKey
+  pub no_room : canonical_answer 119 p1 ≡ Err NoRoom
   pub kept : canonical_out (replicate 119 0xFF) p1 ≡ replicate 119 0xFF
-  pub reading_first : canonical_answer 0 (take 63 p1) ≡ Refused TooShort
+  pub reading_first : canonical_answer 0 (take 63 p1) ≡ Err TooShort

@@ -2,21 +2,21 @@
 -- number of jumps taken is part of the answer and equals the definition's." A name is taken if and only if its bytes are one,
 -- with those labels, jumps and next place, and refused if and only if it has that fault first. What its bytes are, and what a
 -- fault is, `Rfc1035` says without the reader's definition: so that definition's steps never run out.
-use Rattle.std.specs.Prelude.{ℕ, ◌+◌, ◌<◌, ◌≤◌, ◌≡◌, ◌⊎◌, ◌↔◌, List, [], ◌∷◌, ◌++◌, length, get_or}
-use Rattle.read_dns_name.specs.declared.Reading.{Reading}
-use Rattle.read_dns_name.specs.declared.Reading.TheVariants.{Taken, Refused}
+use Rattle.read_dns_name.specs.declared.Fault.{Fault}
+use Rattle.read_dns_name.specs.declared.Name.{Name}
+use Rattle.std.specs.Prelude.{Result, Ok, Err, ℕ, ◌+◌, ◌<◌, ◌≤◌, ◌≡◌, ◌⊎◌, ◌↔◌, List, [], ◌∷◌, ◌++◌, length, get_or}
 use Rattle.read_dns_name.specs.DnsName.{read_name, labels_at, number_of}
 use Rattle.read_dns_name.specs.Rfc1035.{NameAt, FirstNameFault}
 use Rattle.line_dns_name.specs.DnsNameText.{dns_name_text}
 
-abbrev pub NameRefusedWith : Reading → ℕ → Type 0
-NameRefusedWith (Taken m) n = ⊥
-NameRefusedWith (Refused e) n = number_of e ≡ n
+abbrev pub NameRefusedWith : Result Name Fault → ℕ → Type 0
+NameRefusedWith (Ok m) n = ⊥
+NameRefusedWith (Err e) n = number_of e ≡ n
 
 abbrev pub NameIsTaken : Type 0
 NameIsTaken =
     (s : List ℕ) (start : ℕ) (ls : List (List ℕ)) (jumps next : ℕ) →
-    ((read_name s start ≡ Taken (record { jumps = jumps; next = next })) × (labels_at s start ≡ ls)) ↔ NameAt s start ls jumps next
+    ((read_name s start ≡ Ok (record { jumps = jumps; next = next })) × (labels_at s start ≡ ls)) ↔ NameAt s start ls jumps next
 
 abbrev pub NameIsRefused : Type 0
 NameIsRefused = (s : List ℕ) (start n : ℕ) → NameRefusedWith (read_name s start) n ↔ FirstNameFault s start n

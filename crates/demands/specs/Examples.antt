@@ -1,24 +1,16 @@
 -- One message of each kind that the bench cases leave out, worked out by hand, so that the theorems are seen to speak of
 -- something: a CHALLENGE and a NEGOTIATE that are read, a NEGOTIATE, an AUTHENTICATE and an NL_AUTH message that are written,
 -- an answer, and a pair list that goes back.
-use Rattle.std.specs.Prelude.{ℕ, ◌≡◌, true, false, List, [], ◌∷◌, ◌++◌, take, replicate}
+use Rattle.std.specs.Prelude.{Ok, Err, Some, ℕ, ◌≡◌, true, false, List, [], ◌∷◌, ◌++◌, take, replicate}
 use Prim.Native.String.{String}
 use Rattle.wire.specs.Text.{ascii}
 use Rattle.wire.specs.declared.refusal.Refusal.TheVariants.{OddNameToWrite, NoRoom, No128Bit, WrongLabel}
 use Rattle.negotiate_flags.specs.declared.NegotiateFlags.{NegotiateFlags}
-use Rattle.place.specs.declared.written.Written.TheVariants.{Length, Refused}
-use Rattle.av_pairs.specs.declared.Count.TheVariants.{Pairs}
 use Rattle.av_pairs.specs.AvPairs.{count_pairs}
-use Rattle.read_challenge.specs.declared.Reading.TheVariants.{Taken as ChallengeTaken}
-use Rattle.read_challenge.specs.declared.ServerNamesReading.TheVariants.{Taken as NamesTaken}
-use Rattle.target_info.specs.declared.Timestamp.TheVariants.{Time}
-use Rattle.read_challenge.specs.declared.TimestampReading.TheVariants.{Taken as TimeTaken}
 use Rattle.read_challenge.specs.Challenge.{read_challenge, timestamp_of, server_names_of}
-use Rattle.read_negotiate.specs.declared.Reading.TheVariants.{Taken as NegotiateTaken}
 use Rattle.read_negotiate.specs.Negotiate.{read_negotiate}
 use Rattle.write_negotiate.specs.Writing.{write_answer as negotiate_answer, write_out as negotiate_out}
 use Rattle.write_authenticate.specs.Writing.{write_answer, write_out}
-use Rattle.respond.specs.declared.answer.Answered.TheVariants.{Sent, Refused as Unanswered}
 use Rattle.respond.specs.Answer.{Supplied, respond_to}
 use Rattle.respond.specs.Decision.{defaults, bench_settings, old_server_settings}
 use Rattle.write_response_pairs.specs.ResponsePairs.{list_for, write_answer as pairs_answer, write_out as pairs_out}
@@ -26,7 +18,6 @@ use Rattle.line.specs.Line.{ntlm_line, nl_auth_line}
 use Rattle.nl_auth_flags.specs.declared.NlAuthFlags.{NlAuthFlags}
 use Rattle.nl_auth_flags.specs.Flags.{known}
 use Rattle.read_nl_auth.specs.declared.NlAuth.{NlAuth}
-use Rattle.read_nl_auth.specs.declared.Reading.TheVariants.{Taken as NlTaken}
 use Rattle.read_nl_auth.specs.NlAuth.{no_string, read_nl_auth}
 use Rattle.write_nl_auth.specs.Writing.{request_answer, request_out, response_answer, response_out}
 use Rattle.demands.specs.Bench.{p12}
@@ -67,16 +58,16 @@ challenge_message =
 
 pub record ChallengeExample : Type 0 where
   pub reading : (read_challenge challenge_message).reading ≡
-      ChallengeTaken
+      Ok
       (record {
         flags = record { bits = 0x40800215 };
         fields = record { target_name = record { offset = 56; len = 8; max_len = 8 }; target_info = record { offset = 64; len = 36; max_len = 36 } };
       })
   pub server_challenge_is : (read_challenge challenge_message).server_challenge ≡
       0x01 ∷ 0x23 ∷ 0x45 ∷ 0x67 ∷ 0x89 ∷ 0xAB ∷ 0xCD ∷ 0xEF ∷ []
-  pub pairs : count_pairs info ≡ Pairs 3
-  pub timestamp : timestamp_of challenge_message ≡ TimeTaken (Time 0x0807060504030201)
-  pub server_names : server_names_of challenge_message ≡ NamesTaken (record { nb_computer_name = true; nb_domain_name = true })
+  pub pairs : count_pairs info ≡ Ok 3
+  pub timestamp : timestamp_of challenge_message ≡ Ok (Some 0x0807060504030201)
+  pub server_names : server_names_of challenge_message ≡ Ok (record { nb_computer_name = true; nb_domain_name = true })
   pub line : ntlm_line challenge_message ≡ line_of "chal flags=40800215 set=U target=LINE pairs=3 time=0807060504030201 max=00"
 
 -- ---- a NEGOTIATE
@@ -100,18 +91,18 @@ version = 0x06 ∷ 0x01 ∷ 0xB1 ∷ 0x1D ∷ 0x00 ∷ 0x00 ∷ 0x00 ∷ 0x0F �
 
 pub record NegotiateExample : Type 0 where
   pub reading : read_negotiate negotiate_message ≡
-      NegotiateTaken
+      Ok
       (record {
         flags = record { bits = 0x3207 };
         fields = record { domain = record { offset = 40; len = 4; max_len = 4 }; workstation = record { offset = 44; len = 4; max_len = 4 } };
       })
   pub line : ntlm_line negotiate_message ≡ line_of "nego flags=00003207 domain=LINE work=BOX7 max=00"
-  pub length_written : negotiate_answer 50 callers_flags version (ascii "LINE") (ascii "BOX7") ≡ Length 48
+  pub length_written : negotiate_answer 50 callers_flags version (ascii "LINE") (ascii "BOX7") ≡ Ok 48
   -- into an output of 50 bytes FF
   pub bytes_written : negotiate_out (replicate 50 0xFF) callers_flags version (ascii "LINE") (ascii "BOX7") ≡
       negotiate_message ++ (0xFF ∷ 0xFF ∷ [])
   -- and into one that is a byte short
-  pub no_room : negotiate_answer 47 callers_flags version (ascii "LINE") (ascii "BOX7") ≡ Refused NoRoom
+  pub no_room : negotiate_answer 47 callers_flags version (ascii "LINE") (ascii "BOX7") ≡ Err NoRoom
   pub kept : negotiate_out (replicate 47 0xFF) callers_flags version (ascii "LINE") (ascii "BOX7") ≡ replicate 47 0xFF
 
 -- ---- an AUTHENTICATE that is written
@@ -147,11 +138,11 @@ authenticate_message =
     heads ++ (0x01 ∷ 0x02 ∷ 0x00 ∷ 0x42 ∷ version ++ (mic ++ (line16 ++ (box16 ++ (lm ++ (nt ++ key))))))
 
 pub record AuthenticateExample : Type 0 where
-  pub length_written : write_answer 174 flags_sent version mic lm nt line16 box16 [] key ≡ Length 172
+  pub length_written : write_answer 174 flags_sent version mic lm nt line16 box16 [] key ≡ Ok 172
   pub bytes_written : write_out (replicate 174 0xFF) flags_sent version mic lm nt line16 box16 [] key ≡
       authenticate_message ++ (0xFF ∷ 0xFF ∷ [])
   pub line : ntlm_line authenticate_message ≡ line_of "auth flags=42000201 set=U domain=LINE user=box7 work= lm=24 nt=28 key=16 mic=1 kind=odd max=000000"
-  pub no_room : write_answer 171 flags_sent version mic lm nt line16 box16 [] key ≡ Refused NoRoom
+  pub no_room : write_answer 171 flags_sent version mic lm nt line16 box16 [] key ≡ Err NoRoom
   pub kept : write_out (replicate 171 0xFF) flags_sent version mic lm nt line16 box16 [] key ≡ replicate 171 0xFF
 
 -- ---- an answer to the CHALLENGE above, whose flags have no 128-bit, as to an old server, and no domain of the settings
@@ -180,14 +171,14 @@ in_room n =
 
 pub record AnswerExample : Type 0 where
   pub answer : (respond_to old_server_settings challenge_message (in_room 172)).answer ≡
-      Sent (record { len = 172; time = 0x0807060504030201; mic_due = true })
+      Ok (record { len = 172; time = 0x0807060504030201; mic_due = true })
   pub bytes_written : (respond_to old_server_settings challenge_message (in_room 172)).output ≡ answer_message
   pub line : ntlm_line answer_message ≡ line_of "auth flags=40800215 set=U domain=LINE user=box7 work= lm=24 nt=28 key=16 mic=1 kind=odd max=000000"
-  pub no_room : (respond_to old_server_settings challenge_message (in_room 171)).answer ≡ Unanswered NoRoom
+  pub no_room : (respond_to old_server_settings challenge_message (in_room 171)).answer ≡ Err NoRoom
   pub kept : (respond_to old_server_settings challenge_message (in_room 171)).output ≡ replicate 171 0xFF
-  pub bench_no : (respond_to (bench_settings false) challenge_message (in_room 171)).answer ≡ Unanswered NoRoom
-  pub bench_yes : (respond_to (bench_settings true) challenge_message (in_room 171)).answer ≡ Unanswered No128Bit
-  pub by_default : (respond_to defaults challenge_message (in_room 171)).answer ≡ Unanswered No128Bit
+  pub bench_no : (respond_to (bench_settings false) challenge_message (in_room 171)).answer ≡ Err NoRoom
+  pub bench_yes : (respond_to (bench_settings true) challenge_message (in_room 171)).answer ≡ Err No128Bit
+  pub by_default : (respond_to defaults challenge_message (in_room 171)).answer ≡ Err No128Bit
 
 -- ---- the pair list that goes back for the CHALLENGE above, with the name "box7", which is marked unverified
 
@@ -218,12 +209,12 @@ back_with_all =
     ++ (0x0A ∷ 0x00 ∷ 0x10 ∷ 0x00 ∷ bindings ++ (0x09 ∷ 0x00 ∷ 0x00 ∷ 0x00 ∷ 0x00 ∷ 0x00 ∷ 0x00 ∷ 0x00 ∷ []))
 
 pub record PairListExample : Type 0 where
-  pub length_written : pairs_answer 78 challenge_message box16 true bindings ≡ Length 76
+  pub length_written : pairs_answer 78 challenge_message box16 true bindings ≡ Ok 76
   pub bytes_written : pairs_out (replicate 78 0xFF) challenge_message box16 true bindings ≡ list_back ++ (0xFF ∷ 0xFF ∷ [])
-  pub pairs : count_pairs list_back ≡ Pairs 6
-  pub no_room : pairs_answer 75 challenge_message box16 true bindings ≡ Refused NoRoom
+  pub pairs : count_pairs list_back ≡ Ok 6
+  pub no_room : pairs_answer 75 challenge_message box16 true bindings ≡ Err NoRoom
   pub kept : pairs_out (replicate 75 0xFF) challenge_message box16 true bindings ≡ replicate 75 0xFF
-  pub odd_name : pairs_answer 75 challenge_message (take 7 box16) true bindings ≡ Refused (OddNameToWrite 2)
+  pub odd_name : pairs_answer 75 challenge_message (take 7 box16) true bindings ≡ Err (OddNameToWrite 2)
   pub with_all : list_for info_with_all [] true bindings ≡ back_with_all
 
 -- ---- NL_AUTH: P12 as it is written from flags 0x21, the strings B to E passed over, and a response
@@ -235,12 +226,12 @@ abbrev passed : List ℕ
 passed = ascii "passed over"
 
 pub record NlAuthExample : Type 0 where
-  pub request_length : request_answer 13 flags21 (ascii "LINE") passed passed passed passed ≡ Length 13
+  pub request_length : request_answer 13 flags21 (ascii "LINE") passed passed passed passed ≡ Ok 13
   pub request_bytes_is : request_out (replicate 13 0xFF) flags21 (ascii "LINE") passed passed passed passed ≡ p12 0x01
-  pub request_no_room : request_answer 12 flags21 (ascii "LINE") passed passed passed passed ≡ Refused NoRoom
-  pub response_length : response_answer 9 ≡ Length 9
+  pub request_no_room : request_answer 12 flags21 (ascii "LINE") passed passed passed passed ≡ Err NoRoom
+  pub response_length : response_answer 9 ≡ Ok 9
   pub response_bytes_is : response_out (replicate 9 0xFF) ≡ 0x01 ∷ replicate 8 0x00
-  pub response_no_room : response_answer 8 ≡ Refused NoRoom
+  pub response_no_room : response_answer 8 ≡ Err NoRoom
 
 -- ---- NL_AUTH names: a domain controller's host name that ends in a jump back into its domain name. C is corp.test, at place 0 of
 -- the buffer, and D is dc and a jump to that place
@@ -269,13 +260,13 @@ flags04 = record { bits = 0x04 }
 
 pub record NlNamesExample : Type 0 where
   pub names_line : nl_auth_line controller_names ≡ line_of "nl type=0 flags=0000000C c=corp.test d=dc.corp.test"
-  pub names_jumps : read_nl_auth controller_names ≡ NlTaken controller_answer
+  pub names_jumps : read_nl_auth controller_names ≡ Ok controller_answer
   pub name_written : request_out (replicate 19 0xFF) flags04 passed passed (ascii "corp.test") passed passed
       ≡ (0x00 ∷ 0x00 ∷ 0x00 ∷ 0x00 ∷ 0x04 ∷ 0x00 ∷ 0x00 ∷ 0x00 ∷ []) ++ ((0x04 ∷ ascii "corp") ++ ((0x04 ∷ ascii "test") ++ (0x00 ∷ [])))
   -- a label `a.b`: its full stop is shown as `\x2E`
   pub stop_in_label : nl_auth_line ((0x00 ∷ 0x00 ∷ 0x00 ∷ 0x00 ∷ 0x04 ∷ 0x00 ∷ 0x00 ∷ 0x00 ∷ []) ++ ((0x03 ∷ ascii "a.b") ++ (0x00 ∷ [])))
       ≡ ascii "nl type=0 flags=00000004 c=a" ++ (0x5C ∷ (ascii "x2Eb" ++ (0x0A ∷ [])))
-  pub empty_label : request_answer 19 flags04 passed passed (ascii "corp..test") passed passed ≡ Refused (WrongLabel 3)
+  pub empty_label : request_answer 19 flags04 passed passed (ascii "corp..test") passed passed ≡ Err (WrongLabel 3)
 
 -- all of them
 abbrev pub ExamplesHold : Type 0

@@ -2,9 +2,8 @@
 -- its length; beside their answers and outputs nothing here names a definition of export or import, but for `ExportIs` and
 -- `ImportIs`. "Exported text holds secrets and stays out of every log": no crate of a line, and no program, uses `http_header_line`
 -- (crates.txt).
-use Rattle.std.specs.Prelude.{ℕ, ◌+◌, ◌-◌, ◌*◌, ◌/◌, ◌%◌, ◌≤◌, ◌<◌, ◌≡◌, cond, ◌⊎◌, List, [], ◌∷◌, ◌++◌, eqb, length, take, drop, get_or, replicate}
+use Rattle.std.specs.Prelude.{Ok, ℕ, ◌+◌, ◌-◌, ◌*◌, ◌/◌, ◌%◌, ◌≤◌, ◌<◌, ◌≡◌, cond, ◌⊎◌, List, [], ◌∷◌, ◌++◌, eqb, length, take, drop, get_or, replicate}
 use Rattle.wire.specs.Text.{ascii}
-use Rattle.place.specs.declared.written.Written.TheVariants.{Length}
 use Rattle.base64_text.specs.Base64.{alphabet, encode}
 use Rattle.http_header_line.specs.HttpHeader.{export_answer, export_out, import_answer, import_out}
 use Rattle.c_number.specs.Number.{written_number}
@@ -115,12 +114,12 @@ HeaderIsExported = (room : ℕ) (m : List ℕ) → WrittenExactly (export_answer
 -- what is written: "the scheme word `NTLM`, one space, and the message in RFC 4648 section 4 base64 with padding"
 abbrev pub ExportIs : Type 0
 ExportIs =
-    (out m : List ℕ) (n : ℕ) → export_answer (length out) m ≡ Length n → take n (export_out out m) ≡ ascii "NTLM " ++ encode m
+    (out m : List ℕ) (n : ℕ) → export_answer (length out) m ≡ Ok n → take n (export_out out m) ≡ ascii "NTLM " ++ encode m
 
 -- and what an import gives: the message whose base64 is the line's text
 abbrev pub ImportIs : Type 0
 ImportIs =
-    (out t b : List ℕ) (n : ℕ) → TextAfter t b → import_answer (length out) t ≡ Length n → encode (take n (import_out out t)) ≡ b
+    (out t b : List ℕ) (n : ℕ) → TextAfter t b → import_answer (length out) t ≡ Ok n → encode (take n (import_out out t)) ≡ b
 
 -- with the table above
 abbrev pub OneTable : Type 0
@@ -141,16 +140,16 @@ abbrev pub ImportDecodes : Type 0
 ImportDecodes = (room : ℕ) (t : List ℕ) → DecodesWritten (written_number (import_answer room t)) (import_answer room t)
 
 abbrev pub ExportShort : Type 0
-ExportShort = (room : ℕ) (m : List ℕ) (n : ℕ) → export_answer room m ≡ Length n → n ≤ 87385
+ExportShort = (room : ℕ) (m : List ℕ) (n : ℕ) → export_answer room m ≡ Ok n → n ≤ 87385
 
 abbrev pub ImportShort : Type 0
-ImportShort = (room : ℕ) (t : List ℕ) (n : ℕ) → import_answer room t ≡ Length n → n ≤ 65535
+ImportShort = (room : ℕ) (t : List ℕ) (n : ℕ) → import_answer room t ≡ Ok n → n ≤ 65535
 
 -- ---- "Import of an export gives the message back"
 
 -- an import into this output is not refused, and leaves the message at its front
 pub record Gives (t out m : List ℕ) : Type 0 where
-  pub answer : import_answer (length out) t ≡ Length (length m)
+  pub answer : import_answer (length out) t ≡ Ok (length m)
   pub message : take (length m) (import_out out t) ≡ m
 
 abbrev pub Bytes : List ℕ → Type 0
@@ -159,7 +158,7 @@ Bytes m = (i : ℕ) → get_or m i 0 < 256
 -- for every export that is not refused: the first n bytes of its output, n being its answer, and every output that has the room
 abbrev pub ImportOfExport : Type 0
 ImportOfExport =
-    (m out other : List ℕ) (n : ℕ) → Bytes m → export_answer (length out) m ≡ Length n → length m ≤ length other →
+    (m out other : List ℕ) (n : ℕ) → Bytes m → export_answer (length out) m ≡ Ok n → length m ≤ length other →
     Gives (take n (export_out out m)) other m
 
 -- ---- "two texts give one message only if they differ in nothing but the case of the word or the count of spaces"
@@ -204,7 +203,7 @@ BytesUnread = (room : ℕ) (m k : List ℕ) → length m ≡ length k → export
 -- and its line by every byte: two messages of one line are one message, ignored bytes included
 abbrev pub EveryByteCounts : Type 0
 EveryByteCounts =
-    (m k out other : List ℕ) (n p : ℕ) → Bytes m → Bytes k → export_answer (length out) m ≡ Length n → export_answer (length other) k ≡ Length p →
+    (m k out other : List ℕ) (n p : ℕ) → Bytes m → Bytes k → export_answer (length out) m ≡ Ok n → export_answer (length other) k ≡ Ok p →
     take n (export_out out m) ≡ take p (export_out other k) → m ≡ k
 
 -- ---- worked lines
@@ -215,7 +214,7 @@ pub record WorkedLines : Type 0 where
   pub one_space : import_out (replicate 4 0) (ascii "NTLM Zm9vYg==") ≡ ascii "foob"
   pub three_spaces : import_out (replicate 4 0) (ascii "ntLm   Zm9vYg==") ≡ ascii "foob"
   pub empty_written : export_out (replicate 5 0) [] ≡ ascii "NTLM "
-  pub empty_read : import_answer 0 (ascii "NTLM ") ≡ Length 0
+  pub empty_read : import_answer 0 (ascii "NTLM ") ≡ Ok 0
   -- no space, a space in front, another word, a tab
   pub no_space : WritingRefusedWith (import_answer 9 (ascii "NTLM")) 57 0
   pub space_first : WritingRefusedWith (import_answer 9 (ascii " NTLM Zg==")) 57 0
@@ -228,4 +227,4 @@ pub record WorkedLines : Type 0 where
   pub section_5 : WritingRefusedWith (import_answer 9 (ascii "NTLM Zm9_")) 58 0
   -- the room goes by the message
   pub no_room : WritingRefusedWith (import_answer 0 (ascii "NTLM Zg==")) 33 0
-  pub just_room : import_answer 1 (ascii "NTLM Zg==") ≡ Length 1
+  pub just_room : import_answer 1 (ascii "NTLM Zg==") ≡ Ok 1

@@ -2,24 +2,20 @@
 -- nothing but this word and the record's MaxLen": two messages that differ in ignored bytes get answers that are the same but for
 -- MaxLen and lines that are the same but for the last word, and where MaxLen is the same too, the same answers and lines. What the
 -- word and the record's MaxLen are is said in MaxLen.antt and OwnBytes.antt.
-use Rattle.std.specs.Prelude.{ℕ, ◌%◌, ◌≤◌, ◌<◌, ◌≡◌, ◌⊎◌, List, length, get_or}
+use Rattle.std.specs.Prelude.{Ok, ℕ, ◌%◌, ◌≤◌, ◌<◌, ◌≡◌, ◌⊎◌, List, length, get_or}
 use Rattle.field.specs.declared.Field.{Field}
 use Rattle.field.specs.Field.{field_bytes}
 use Rattle.wire.specs.Number.{u32_at}
 use Rattle.read_authenticate.specs.declared.Authenticate.{Authenticate}
 use Rattle.read_authenticate.specs.declared.Fields.{Fields}
-use Rattle.read_authenticate.specs.declared.Reading.TheVariants.{Taken}
 use Rattle.read_authenticate.specs.Authenticate.{read_authenticate}
 use Rattle.read_challenge.specs.declared.Challenge.{Challenge}
-use Rattle.read_challenge.specs.declared.Reading.TheVariants.{Taken as ChallengeTaken}
 use Rattle.read_challenge.specs.Challenge.{read_challenge, timestamp_of, server_names_of}
 use Rattle.head.specs.declared.Kind.TheVariants.{Negotiate as AsNegotiate, Challenge as AsChallenge, Authenticate as AsAuthenticate}
 use Rattle.head.specs.Head.{kind_of}
 use Rattle.read_negotiate.specs.declared.Negotiate.{Negotiate}
-use Rattle.read_negotiate.specs.declared.Reading.TheVariants.{Taken as NegotiateTaken}
 use Rattle.read_negotiate.specs.Negotiate.{read_negotiate}
 use Rattle.read_nl_auth.specs.declared.NlAuth.{NlAuth}
-use Rattle.read_nl_auth.specs.declared.Reading.TheVariants.{Taken as NlTaken}
 use Rattle.read_nl_auth.specs.declared.string.NlString.{NlString}
 use Rattle.read_nl_auth.specs.NlAuth.{string_bytes, labels_of, read_nl_auth}
 use Rattle.verdict.specs.Verdict.{read_as}
@@ -52,7 +48,7 @@ pub record SameAnswer (s t : List ℕ) : Type 0 where
   pub reading : authenticate_without_max_len (read_authenticate s).reading ≡ authenticate_without_max_len (read_authenticate t).reading
   pub mic : (read_authenticate s).mic ≡ (read_authenticate t).mic
   pub whole : SameMaxLen authenticate s t → read_authenticate s ≡ read_authenticate t
-  pub bytes : (a : Authenticate) → (read_authenticate s).reading ≡ Taken a → SameFields s t a.fields
+  pub bytes : (a : Authenticate) → (read_authenticate s).reading ≡ Ok a → SameFields s t a.fields
 
 abbrev pub AuthenticateIgnored : Type 0
 AuthenticateIgnored = (s t : List ℕ) → DifferInIgnored authenticate s t → SameAnswer s t
@@ -64,8 +60,8 @@ pub record SameChallenge (s t : List ℕ) : Type 0 where
   pub whole : SameMaxLen challenge s t → read_challenge s ≡ read_challenge t
   pub timestamp : timestamp_of s ≡ timestamp_of t
   pub server_names : server_names_of s ≡ server_names_of t
-  pub target_name : (c : Challenge) → (read_challenge s).reading ≡ ChallengeTaken c → SameBytes s t c.fields.target_name
-  pub target_info_is : (c : Challenge) → (read_challenge s).reading ≡ ChallengeTaken c → SameBytes s t c.fields.target_info
+  pub target_name : (c : Challenge) → (read_challenge s).reading ≡ Ok c → SameBytes s t c.fields.target_name
+  pub target_info_is : (c : Challenge) → (read_challenge s).reading ≡ Ok c → SameBytes s t c.fields.target_info
 
 abbrev pub ChallengeIgnored : Type 0
 ChallengeIgnored = (s t : List ℕ) → DifferInIgnored challenge s t → SameChallenge s t
@@ -74,8 +70,8 @@ ChallengeIgnored = (s t : List ℕ) → DifferInIgnored challenge s t → SameCh
 pub record SameNegotiate (s t : List ℕ) : Type 0 where
   pub reading : negotiate_without_max_len (read_negotiate s) ≡ negotiate_without_max_len (read_negotiate t)
   pub whole : SameMaxLen negotiate s t → read_negotiate s ≡ read_negotiate t
-  pub domain : (m : Negotiate) → read_negotiate s ≡ NegotiateTaken m → SameBytes s t m.fields.domain
-  pub workstation : (m : Negotiate) → read_negotiate s ≡ NegotiateTaken m → SameBytes s t m.fields.workstation
+  pub domain : (m : Negotiate) → read_negotiate s ≡ Ok m → SameBytes s t m.fields.domain
+  pub workstation : (m : Negotiate) → read_negotiate s ≡ Ok m → SameBytes s t m.fields.workstation
 
 abbrev pub NegotiateIgnored : Type 0
 NegotiateIgnored = (s t : List ℕ) → DifferInIgnored negotiate s t → SameNegotiate s t
@@ -94,11 +90,11 @@ pub record SameString (s t : List ℕ) (x : NlString) : Type 0 where
 
 pub record SameNlAuth (s t : List ℕ) : Type 0 where
   pub answer : read_nl_auth s ≡ read_nl_auth t
-  pub a : (m : NlAuth) → read_nl_auth s ≡ NlTaken m → SameString s t m.strings.nb_domain
-  pub b : (m : NlAuth) → read_nl_auth s ≡ NlTaken m → SameString s t m.strings.nb_computer
-  pub c : (m : NlAuth) → read_nl_auth s ≡ NlTaken m → SameString s t m.strings.dns_domain
-  pub d : (m : NlAuth) → read_nl_auth s ≡ NlTaken m → SameString s t m.strings.dns_host
-  pub e : (m : NlAuth) → read_nl_auth s ≡ NlTaken m → SameString s t m.strings.utf8_computer
+  pub a : (m : NlAuth) → read_nl_auth s ≡ Ok m → SameString s t m.strings.nb_domain
+  pub b : (m : NlAuth) → read_nl_auth s ≡ Ok m → SameString s t m.strings.nb_computer
+  pub c : (m : NlAuth) → read_nl_auth s ≡ Ok m → SameString s t m.strings.dns_domain
+  pub d : (m : NlAuth) → read_nl_auth s ≡ Ok m → SameString s t m.strings.dns_host
+  pub e : (m : NlAuth) → read_nl_auth s ≡ Ok m → SameString s t m.strings.utf8_computer
 
 abbrev pub NlAuthIgnored : Type 0
 NlAuthIgnored = (s t : List ℕ) → NlDifferInIgnored s t → SameNlAuth s t

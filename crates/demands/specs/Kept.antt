@@ -1,15 +1,11 @@
 -- Demand 1: "A refusal gives its number and field and changes no lent byte; a success changes only the bytes of what it
 -- writes."
-use Rattle.std.specs.Prelude.{ℕ, ◌≤◌, ◌<◌, ◌≡◌, ◌⊎◌, List, [], ◌∷◌, length, take, drop}
+use Rattle.std.specs.Prelude.{Result, Ok, Err, ℕ, ◌≤◌, ◌<◌, ◌≡◌, ◌⊎◌, List, [], ◌∷◌, length, take, drop}
 use Rattle.wire.specs.declared.refusal.Refusal.{Refusal}
-use Rattle.place.specs.declared.written.Written.{Written}
-use Rattle.place.specs.declared.written.Written.TheVariants.{Length, Refused}
 use Rattle.negotiate_flags.specs.declared.NegotiateFlags.{NegotiateFlags}
 use Rattle.write_authenticate.specs.Writing.{write_answer, write_out}
 use Rattle.write_negotiate.specs.Writing.{write_answer as negotiate_answer, write_out as negotiate_out}
 use Rattle.respond.specs.declared.answer.Answer.{Answer}
-use Rattle.respond.specs.declared.answer.Answered.{Answered}
-use Rattle.respond.specs.declared.answer.Answered.TheVariants.{Sent, Refused as Unanswered}
 use Rattle.respond.specs.declared.decision.Settings.{Settings}
 use Rattle.respond.specs.Answer.{Supplied, respond_to}
 use Rattle.place.specs.Written.{bytes_answer, bytes_after}
@@ -22,10 +18,10 @@ use Rattle.write_nl_auth.specs.Writing.{request_answer, request_out, response_an
 use Rattle.demands.specs.FromC.{Call, count, outcome, TwoArrayCall, number_count, byte_count, two_array_outcome, bytes_beside}
 
 -- a call's answer, and the lent output before and after it
-pub record Kept (answer : Written) (before after : List ℕ) : Type 0 where
-  pub refused : (e : Refusal) → answer ≡ Refused e → after ≡ before
-  pub same_length : (n : ℕ) → answer ≡ Length n → length after ≡ length before
-  pub rest : (n : ℕ) → answer ≡ Length n → drop n after ≡ drop n before
+pub record Kept (answer : Result ℕ Refusal) (before after : List ℕ) : Type 0 where
+  pub refused : (e : Refusal) → answer ≡ Err e → after ≡ before
+  pub same_length : (n : ℕ) → answer ≡ Ok n → length after ≡ length before
+  pub rest : (n : ℕ) → answer ≡ Ok n → drop n after ≡ drop n before
 
 abbrev pub NlRequestKept : Type 0
 NlRequestKept =
@@ -51,10 +47,10 @@ NegotiateKept =
     Kept (negotiate_answer (length out) flags version domain workstation) out (negotiate_out out flags version domain workstation)
 
 -- the same of answering a challenge, with every settings
-pub record KeptAnswer (answer : Answered) (before after : List ℕ) : Type 0 where
-  pub refused : (e : Refusal) → answer ≡ Unanswered e → after ≡ before
-  pub same_length : (x : Answer) → answer ≡ Sent x → length after ≡ length before
-  pub rest : (x : Answer) → answer ≡ Sent x → drop x.len after ≡ drop x.len before
+pub record KeptAnswer (answer : Result Answer Refusal) (before after : List ℕ) : Type 0 where
+  pub refused : (d : Refusal) → answer ≡ Err d → after ≡ before
+  pub same_length : (x : Answer) → answer ≡ Ok x → length after ≡ length before
+  pub rest : (x : Answer) → answer ≡ Ok x → drop x.len after ≡ drop x.len before
 
 abbrev pub RespondKept : Type 0
 RespondKept =
@@ -102,14 +98,14 @@ TwoArraysFront =
 
 -- an answer from C: where its array is too short, or where it is refused, array and output are as they were; an answer that
 -- is sent hands out Time and whether a MIC is due, and nothing after its message changes in the output
-pub record KeptFromC (answer : Answered) (sent out xs : List ℕ) (y : EffectFromC) : Type 0 where
+pub record KeptFromC (answer : Result Answer Refusal) (sent out xs : List ℕ) (y : EffectFromC) : Type 0 where
   pub short : length xs < 2 → (y.numbers ≡ xs) × (y.output ≡ out)
-  pub refused : (e : Refusal) → answer ≡ Unanswered e → (y.numbers ≡ xs) × (y.output ≡ out)
-  pub number : (x : Answer) → answer ≡ Sent x → 2 ≤ length xs → y.number ≡ x.len
-  pub front : (x : Answer) → answer ≡ Sent x → 2 ≤ length xs → Front (x.time ∷ bit x.mic_due ∷ []) xs y.numbers
+  pub refused : (e : Refusal) → answer ≡ Err e → (y.numbers ≡ xs) × (y.output ≡ out)
+  pub number : (x : Answer) → answer ≡ Ok x → 2 ≤ length xs → y.number ≡ x.len
+  pub front : (x : Answer) → answer ≡ Ok x → 2 ≤ length xs → Front (x.time ∷ bit x.mic_due ∷ []) xs y.numbers
   pub output : 2 ≤ length xs → y.output ≡ sent
-  pub same_length : (x : Answer) → answer ≡ Sent x → length y.output ≡ length out
-  pub rest : (x : Answer) → answer ≡ Sent x → drop x.len y.output ≡ drop x.len out
+  pub same_length : (x : Answer) → answer ≡ Ok x → length y.output ≡ length out
+  pub rest : (x : Answer) → answer ≡ Ok x → drop x.len y.output ≡ drop x.len out
 
 abbrev pub RespondedKept : Type 0
 RespondedKept =

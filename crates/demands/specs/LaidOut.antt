@@ -3,11 +3,10 @@
 -- goes to 64 with VERSION, else zeros." And of every head: MaxLen "equals Len when written". Request 1/12: "Written messages have a
 -- 40-byte fixed part, then domain, then workstation; .. Version is the caller's with VERSION, else zero." NL_AUTH: "Written: other bits
 -- are zero, a clear bit's string is passed over, a response's flags are zero." Each place of a written message, by its bytes.
-use Rattle.std.specs.Prelude.{ℕ, ◌+◌, ◌/◌, ◌%◌, ◌≡◌, cond, List, [], ◌∷◌, ◌++◌, eqb, length, take, drop, replicate}
+use Rattle.std.specs.Prelude.{Ok, ℕ, ◌+◌, ◌/◌, ◌%◌, ◌≡◌, cond, List, [], ◌∷◌, ◌++◌, eqb, length, take, drop, replicate}
 use Rattle.wire.specs.Text.{ascii}
 use Rattle.wire.specs.Number.{u32_at}
 use Rattle.negotiate_flags.specs.declared.NegotiateFlags.{NegotiateFlags}
-use Rattle.place.specs.declared.written.Written.TheVariants.{Length}
 use Rattle.place.specs.Place.{le16, le32}
 use Rattle.write_authenticate.specs.Writing.{write_answer, write_out}
 use Rattle.write_negotiate.specs.Writing.{write_answer as negotiate_answer, write_out as negotiate_out}
@@ -15,7 +14,6 @@ use Rattle.nl_auth_flags.specs.declared.NlAuthFlags.{NlAuthFlags}
 use Rattle.nl_auth_flags.specs.Flags.{known}
 use Rattle.write_nl_auth.specs.Writing.{request_answer, request_out, response_answer, response_out}
 use Rattle.respond.specs.declared.answer.Answer.{Answer}
-use Rattle.respond.specs.declared.answer.Answered.TheVariants.{Sent}
 use Rattle.respond.specs.declared.decision.Settings.{Settings}
 use Rattle.respond.specs.Answer.{Supplied, respond_to}
 use Rattle.demands.specs.Answering.{ToSend}
@@ -64,14 +62,14 @@ abbrev pub AuthenticateByLayout : Type 0
 AuthenticateByLayout =
     (out : List ℕ) (flags : NegotiateFlags) (version mic lm nt domain user workstation key : List ℕ) (n : ℕ) →
     length version ≡ 8 → length mic ≡ 16 →
-    write_answer (length out) flags version mic lm nt domain user workstation key ≡ Length n →
+    write_answer (length out) flags version mic lm nt domain user workstation key ≡ Ok n →
     LaidOut (take n (write_out out flags version mic lm nt domain user workstation key)) flags.bits version mic lm nt domain user workstation key
 
 -- every answer to a challenge: the challenge's flags, and of MIC, LM response, domain and key what is sent (`ToSend`)
 abbrev pub RespondByLayout : Type 0
 RespondByLayout =
     (settings : Settings) (s b : List ℕ) (x : Supplied) → length x.version ≡ 8 → length x.mic ≡ 16 → InfoBytes s b →
-    (t : ToSend settings s b x) (y : Answer) → (respond_to settings s x).answer ≡ Sent y →
+    (t : ToSend settings s b x) (y : Answer) → (respond_to settings s x).answer ≡ Ok y →
     LaidOut (take y.len (respond_to settings s x).output) (u32_at s 20) x.version
     t.mic_sent t.lm_sent x.nt t.domain_sent x.user x.workstation t.key_sent
 
@@ -90,7 +88,7 @@ pub record NegotiateLaidOut (w : List ℕ) (flags : ℕ) (version domain worksta
 abbrev pub NegotiateByLayout : Type 0
 NegotiateByLayout =
     (out : List ℕ) (flags : NegotiateFlags) (version domain workstation : List ℕ) (n : ℕ) → length version ≡ 8 →
-    negotiate_answer (length out) flags version domain workstation ≡ Length n →
+    negotiate_answer (length out) flags version domain workstation ≡ Ok n →
     NegotiateLaidOut (take n (negotiate_out out flags version domain workstation)) flags.bits version domain workstation
 
 -- ---- NL_AUTH: type, flags, and one string for each set bit, A first
@@ -119,9 +117,9 @@ pub record RequestLaidOut (w : List ℕ) (bits : ℕ) (a b c d e : List ℕ) : T
 
 abbrev pub NlRequestByLayout : Type 0
 NlRequestByLayout =
-    (out : List ℕ) (flags : NlAuthFlags) (a b c d e : List ℕ) (n : ℕ) → request_answer (length out) (known flags) a b c d e ≡ Length n →
+    (out : List ℕ) (flags : NlAuthFlags) (a b c d e : List ℕ) (n : ℕ) → request_answer (length out) (known flags) a b c d e ≡ Ok n →
     RequestLaidOut (take n (request_out out (known flags) a b c d e)) flags.bits a b c d e
 
 abbrev pub NlResponseByLayout : Type 0
 NlResponseByLayout =
-    (out : List ℕ) (n : ℕ) → response_answer (length out) ≡ Length n → take n (response_out out) ≡ le32 1 ++ (le32 0 ++ (0 ∷ []))
+    (out : List ℕ) (n : ℕ) → response_answer (length out) ≡ Ok n → take n (response_out out) ≡ le32 1 ++ (le32 0 ++ (0 ∷ []))

@@ -2,7 +2,7 @@
 -- shows all of that part, and what that is. Two messages get the same line if and only if they have the same flags, the same names byte
 -- for byte, the same lengths and whatever else a line is about, or are refused alike. Whatever bytes a name has, its line is one line, in
 -- which no name passes for a word.
-use Rattle.std.specs.Prelude.{ℕ, ◌%◌, ◌≤◌, ◌<◌, ◌≡◌, Bool, true, false, ◌⊎◌, ◌↔◌, List, [], ◌∷◌, ◌++◌, length, get_or, set}
+use Rattle.std.specs.Prelude.{Ok, Err, ℕ, ◌%◌, ◌≤◌, ◌<◌, ◌≡◌, Bool, true, false, ◌⊎◌, ◌↔◌, List, [], ◌∷◌, ◌++◌, length, get_or, set}
 use Rattle.wire.specs.Text.{ascii}
 use Rattle.wire.specs.declared.refusal.Refusal.{Refusal}
 use Rattle.wire.specs.Number.{has}
@@ -14,17 +14,13 @@ use Rattle.head.specs.declared.Kind.{Kind}
 use Rattle.head.specs.declared.Kind.TheVariants.{Negotiate as AsNegotiate, Challenge as AsChallenge, Authenticate as AsAuthenticate}
 use Rattle.head.specs.Head.{kind_of}
 use Rattle.read_negotiate.specs.declared.Negotiate.{Negotiate}
-use Rattle.read_negotiate.specs.declared.Reading.TheVariants.{Taken as NegotiateTaken, Refused as NegotiateRefused}
 use Rattle.read_negotiate.specs.Negotiate.{read_negotiate}
 use Rattle.read_authenticate.specs.declared.Authenticate.{Authenticate}
-use Rattle.read_authenticate.specs.declared.Reading.TheVariants.{Taken, Refused}
 use Rattle.read_authenticate.specs.Authenticate.{read_authenticate}
 use Rattle.av_pairs.specs.AvPairs.{pairs_of}
 use Rattle.read_challenge.specs.declared.Challenge.{Challenge}
-use Rattle.read_challenge.specs.declared.Reading.TheVariants.{Taken as ChallengeTaken, Refused as ChallengeRefused}
 use Rattle.read_challenge.specs.Challenge.{info_of, read_challenge, timestamp_of}
 use Rattle.read_nl_auth.specs.declared.NlAuth.{NlAuth}
-use Rattle.read_nl_auth.specs.declared.Reading.TheVariants.{Taken as NlTaken, Refused as NlRefused}
 use Rattle.read_nl_auth.specs.NlAuth.{string_bytes, labels_of, read_nl_auth}
 use Rattle.line_refused.specs.Refused.{refused_line}
 use Rattle.line.specs.Line.{negotiate_line, challenge_line, authenticate_line, line_as, ntlm_line, nl_auth_line, shown_line}
@@ -84,10 +80,10 @@ OneForm = (f g : Form) (line : List ℕ) → Opens f line → Opens g line → f
 
 -- a taken message's line opens with its kind's word, and a refusal's with `refused` (`RefusedLine.antt` has the whole of that line)
 pub record EachForm : Type 0 where
-  pub as_nego : (s : List ℕ) (m : Negotiate) → read_negotiate s ≡ NegotiateTaken m → Opens nego (negotiate_line s)
-  pub as_chal : (s : List ℕ) (c : Challenge) → (read_challenge s).reading ≡ ChallengeTaken c → Opens chal (challenge_line s)
-  pub as_auth : (s : List ℕ) (a : Authenticate) → (read_authenticate s).reading ≡ Taken a → Opens auth (authenticate_line s)
-  pub as_nl : (s : List ℕ) (m : NlAuth) → read_nl_auth s ≡ NlTaken m → Opens nl (nl_auth_line s)
+  pub as_nego : (s : List ℕ) (m : Negotiate) → read_negotiate s ≡ Ok m → Opens nego (negotiate_line s)
+  pub as_chal : (s : List ℕ) (c : Challenge) → (read_challenge s).reading ≡ Ok c → Opens chal (challenge_line s)
+  pub as_auth : (s : List ℕ) (a : Authenticate) → (read_authenticate s).reading ≡ Ok a → Opens auth (authenticate_line s)
+  pub as_nl : (s : List ℕ) (m : NlAuth) → read_nl_auth s ≡ Ok m → Opens nl (nl_auth_line s)
   pub as_refused : (e : Refusal) → Opens refused (refused_line e)
 
 -- ---- a name
@@ -145,7 +141,7 @@ pub record SameNego (s t : List ℕ) (m n : Negotiate) : Type 0 where
 
 abbrev pub NegotiateLineShows : Type 0
 NegotiateLineShows =
-    (s t : List ℕ) (m n : Negotiate) → Bytes s → Bytes t → read_negotiate s ≡ NegotiateTaken m → read_negotiate t ≡ NegotiateTaken n →
+    (s t : List ℕ) (m n : Negotiate) → Bytes s → Bytes t → read_negotiate s ≡ Ok m → read_negotiate t ≡ Ok n →
     (negotiate_line s ≡ negotiate_line t) ↔ SameNego s t m n
 
 -- `set=` goes by the flags and `kind=` by the length of the NT response, so they have no part of their own
@@ -162,7 +158,7 @@ pub record SameAuth (s t : List ℕ) (a b : Authenticate) : Type 0 where
 
 abbrev pub AuthenticateLineShows : Type 0
 AuthenticateLineShows =
-    (s t : List ℕ) (a b : Authenticate) → Bytes s → Bytes t → (read_authenticate s).reading ≡ Taken a → (read_authenticate t).reading ≡ Taken b →
+    (s t : List ℕ) (a b : Authenticate) → Bytes s → Bytes t → (read_authenticate s).reading ≡ Ok a → (read_authenticate t).reading ≡ Ok b →
     (authenticate_line s ≡ authenticate_line t) ↔ SameAuth s t a b
 
 pub record SameChal (s t : List ℕ) (c d : Challenge) : Type 0 where
@@ -175,7 +171,7 @@ pub record SameChal (s t : List ℕ) (c d : Challenge) : Type 0 where
 
 abbrev pub ChallengeLineShows : Type 0
 ChallengeLineShows =
-    (s t : List ℕ) (c d : Challenge) → Bytes s → Bytes t → (read_challenge s).reading ≡ ChallengeTaken c → (read_challenge t).reading ≡ ChallengeTaken d →
+    (s t : List ℕ) (c d : Challenge) → Bytes s → Bytes t → (read_challenge s).reading ≡ Ok c → (read_challenge t).reading ≡ Ok d →
     (challenge_line s ≡ challenge_line t) ↔ SameChal s t c d
 
 -- strings A to E are 1 to 5, each where its bit is set
@@ -190,22 +186,22 @@ pub record SameNl (s t : List ℕ) (m n : NlAuth) : Type 0 where
 
 abbrev pub NlAuthLineShows : Type 0
 NlAuthLineShows =
-    (s t : List ℕ) (m n : NlAuth) → Bytes s → Bytes t → read_nl_auth s ≡ NlTaken m → read_nl_auth t ≡ NlTaken n →
+    (s t : List ℕ) (m n : NlAuth) → Bytes s → Bytes t → read_nl_auth s ≡ Ok m → read_nl_auth t ≡ Ok n →
     (nl_auth_line s ≡ nl_auth_line t) ↔ SameNl s t m n
 
 -- ---- whatever two messages get the same line, taken or refused: they are taken as one kind and alike, or refused alike
 
 -- read as this kind, a message is refused by e
 abbrev pub RefusedBy : Kind → List ℕ → Refusal → Type 0
-RefusedBy AsNegotiate s e = read_negotiate s ≡ NegotiateRefused e
-RefusedBy AsChallenge s e = (read_challenge s).reading ≡ ChallengeRefused e
-RefusedBy AsAuthenticate s e = (read_authenticate s).reading ≡ Refused e
+RefusedBy AsNegotiate s e = read_negotiate s ≡ Err e
+RefusedBy AsChallenge s e = (read_challenge s).reading ≡ Err e
+RefusedBy AsAuthenticate s e = (read_authenticate s).reading ≡ Err e
 
 -- read as this kind, a message gets a line of this form: it is taken, or refused
 pub data ReadFor (k : Kind) (s : List ℕ) : Form → Type 0 where
-  negotiates : (m : Negotiate) → k ≡ AsNegotiate → read_negotiate s ≡ NegotiateTaken m → ReadFor k s nego
-  challenges : (c : Challenge) → k ≡ AsChallenge → (read_challenge s).reading ≡ ChallengeTaken c → ReadFor k s chal
-  authenticates : (a : Authenticate) → k ≡ AsAuthenticate → (read_authenticate s).reading ≡ Taken a → ReadFor k s auth
+  negotiates : (m : Negotiate) → k ≡ AsNegotiate → read_negotiate s ≡ Ok m → ReadFor k s nego
+  challenges : (c : Challenge) → k ≡ AsChallenge → (read_challenge s).reading ≡ Ok c → ReadFor k s chal
+  authenticates : (a : Authenticate) → k ≡ AsAuthenticate → (read_authenticate s).reading ≡ Ok a → ReadFor k s auth
   refuses : (e : Refusal) → RefusedBy k s e → ReadFor k s refused
 
 -- two readings of one form show the same
@@ -228,8 +224,8 @@ LinesShow = (k l : Kind) (s t : List ℕ) → Bytes s → Bytes t → (line_as k
 
 -- the same of NL_AUTH
 pub data NlReadFor (s : List ℕ) : Form → Type 0 where
-  takes : (m : NlAuth) → read_nl_auth s ≡ NlTaken m → NlReadFor s nl
-  refuses_nl : (e : Refusal) → read_nl_auth s ≡ NlRefused e → NlReadFor s refused
+  takes : (m : NlAuth) → read_nl_auth s ≡ Ok m → NlReadFor s nl
+  refuses_nl : (e : Refusal) → read_nl_auth s ≡ Err e → NlReadFor s refused
 
 abbrev pub NlAlike : (s t : List ℕ) (form : Form) → NlReadFor s form → NlReadFor t form → Type 0
 NlAlike s t nl (takes m p) (takes n q) = SameNl s t m n

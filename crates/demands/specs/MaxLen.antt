@@ -1,15 +1,12 @@
 -- Demand 2 as document 02's 9/12 has it: "Demand 2 now says that MaxLen changes nothing but this word and the record's MaxLen".
 -- Answers without their records' MaxLen, and lines up to their last word.
-use Rattle.std.specs.Prelude.{ℕ, ◌-◌, ◌≤◌, ◌≡◌, List, [], ◌∷◌, ◌++◌, length, get_or}
+use Rattle.read_authenticate.specs.declared.Authenticate.{Authenticate}
+use Rattle.read_challenge.specs.declared.Challenge.{Challenge}
+use Rattle.read_negotiate.specs.declared.Negotiate.{Negotiate}
+use Rattle.wire.specs.declared.refusal.Refusal.{Refusal}
+use Rattle.std.specs.Prelude.{Result, Ok, Err, ⊤, ℕ, ◌-◌, ◌≤◌, ◌≡◌, List, [], ◌∷◌, ◌++◌, length, get_or}
 use Rattle.wire.specs.Text.{ascii}
-use Rattle.wire.specs.declared.check.Verdict.{Verdict}
 use Rattle.field.specs.declared.Field.{Field}
-use Rattle.read_authenticate.specs.declared.Reading.{Reading}
-use Rattle.read_authenticate.specs.declared.Reading.TheVariants.{Taken, Refused}
-use Rattle.read_challenge.specs.declared.Reading.{Reading as ChallengeReading}
-use Rattle.read_challenge.specs.declared.Reading.TheVariants.{Taken as ChallengeTaken, Refused as ChallengeRefused}
-use Rattle.read_negotiate.specs.declared.Reading.{Reading as NegotiateReading}
-use Rattle.read_negotiate.specs.declared.Reading.TheVariants.{Taken as NegotiateTaken, Refused as NegotiateRefused}
 use Rattle.demands.specs.Message.{Format, len_of, max_len_of, Counts}
 use Rattle.demands.specs.TakenExactly.{IsTaken}
 
@@ -19,9 +16,9 @@ without_max_len f = record { offset = f.offset; len = f.len; max_len = 0 }
 
 -- ---- an answer without it: flags, places, whether a MIC is there, or the refusal
 
-abbrev pub authenticate_without_max_len : Reading → Reading
-authenticate_without_max_len (Taken a) =
-    Taken (record {
+abbrev pub authenticate_without_max_len : Result Authenticate Refusal → Result Authenticate Refusal
+authenticate_without_max_len (Ok a) =
+    Ok (record {
       flags = a.flags;
       fields = record {
         lm = without_max_len a.fields.lm;
@@ -33,23 +30,23 @@ authenticate_without_max_len (Taken a) =
       };
       mic_present = a.mic_present;
     })
-authenticate_without_max_len (Refused e) = Refused e
+authenticate_without_max_len (Err e) = Err e
 
-abbrev pub challenge_without_max_len : ChallengeReading → ChallengeReading
-challenge_without_max_len (ChallengeTaken c) =
-    ChallengeTaken (record {
+abbrev pub challenge_without_max_len : Result Challenge Refusal → Result Challenge Refusal
+challenge_without_max_len (Ok c) =
+    Ok (record {
       flags = c.flags;
       fields = record { target_name = without_max_len c.fields.target_name; target_info = without_max_len c.fields.target_info };
     })
-challenge_without_max_len (ChallengeRefused e) = ChallengeRefused e
+challenge_without_max_len (Err e) = Err e
 
-abbrev pub negotiate_without_max_len : NegotiateReading → NegotiateReading
-negotiate_without_max_len (NegotiateTaken m) =
-    NegotiateTaken (record {
+abbrev pub negotiate_without_max_len : Result Negotiate Refusal → Result Negotiate Refusal
+negotiate_without_max_len (Ok m) =
+    Ok (record {
       flags = m.flags;
       fields = record { domain = without_max_len m.fields.domain; workstation = without_max_len m.fields.workstation };
     })
-negotiate_without_max_len (NegotiateRefused e) = NegotiateRefused e
+negotiate_without_max_len (Err e) = Err e
 
 -- ---- the last word: "a digit for each field in order: 1 where a field that counts has MaxLen unlike Len, else 0"
 
@@ -76,6 +73,6 @@ pub record AlikeToMax (k : Format) (s t line line' : List ℕ) : Type 0 where
   pub same_length : length line ≡ length line'
 
 -- the lines of two messages: alike to the last word where the first is taken, and alike where it is refused
-pub record AlikeButMax (k : Format) (verdict : Verdict) (s t line line' : List ℕ) : Type 0 where
+pub record AlikeButMax (k : Format) (verdict : Result ⊤ Refusal) (s t line line' : List ℕ) : Type 0 where
   pub taken : IsTaken verdict → AlikeToMax k s t line line'
   pub refused : (IsTaken verdict → ⊥) → line ≡ line'

@@ -2,14 +2,11 @@
 -- those in the message." "It is over whole messages, so demand 2's word that MaxLen and ignored bytes change nothing leaves these two
 -- calls' answers out", and "demand 3 covers the refusals here, which depend only on the key's length, the two earlier messages, and
 -- the AUTHENTICATE's length and first 64 bytes."
-use Rattle.std.specs.Prelude.{ℕ, ◌≤◌, ◌<◌, ◌≡◌, ◌⊎◌, ◌↔◌, true, false, List, ◌++◌, length, get_or, take, drop, replicate}
+use Rattle.std.specs.Prelude.{Result, Ok, Err, Bool, ℕ, ◌≤◌, ◌<◌, ◌≡◌, ◌⊎◌, ◌↔◌, true, false, List, ◌++◌, length, get_or, take, drop, replicate}
 use Rattle.std.proofs.lemmas.List.Edits.{sets}
-use Rattle.wire.specs.declared.check.Verdict.TheVariants.{Clear, Refused as Not}
 use Rattle.wire.specs.declared.refusal.Refusal.{Refusal}
 use Rattle.wire.specs.declared.refusal.Refusal.TheVariants.{NoRoom}
 use Rattle.hmac_md5.specs.Hmac.{hmac}
-use Rattle.mic.specs.declared.Checking.{Checking}
-use Rattle.mic.specs.declared.Checking.TheVariants.{Compared, Refused}
 use Rattle.mic.specs.Mic.{computed_mic, check_mic}
 use Rattle.c_number.specs.Outcome.{call_number, call_out}
 use Rattle.c_mic.specs.Numbers.{mic_outcome, checking_number}
@@ -49,12 +46,12 @@ MicJudged =
 -- a refusal gives sixteen zeros
 abbrev pub MicRefusedZeros : Type 0
 MicRefusedZeros =
-    (key nego chal auth : List ℕ) (e : Refusal) → (computed_mic key nego chal auth).verdict ≡ Not e → (computed_mic key nego chal auth).mic ≡ replicate 16 0
+    (key nego chal auth : List ℕ) (e : Refusal) → (computed_mic key nego chal auth).verdict ≡ Err e → (computed_mic key nego chal auth).mic ≡ replicate 16 0
 
 -- what it is: HMAC-MD5 over the three messages, "with the sixteen MIC bytes taken as zero"
 abbrev pub MicIs : Type 0
 MicIs =
-    (key nego chal auth : List ℕ) → (computed_mic key nego chal auth).verdict ≡ Clear →
+    (key nego chal auth : List ℕ) → (computed_mic key nego chal auth).verdict ≡ Ok tt →
     (computed_mic key nego chal auth).mic ≡ hmac key (nego ++ (chal ++ (take 72 auth ++ (replicate 16 0 ++ drop 88 auth))))
 
 -- ---- the answers of the C interface
@@ -74,10 +71,10 @@ MicDecodes =
     × (16 ≤ room → DecodesVerdict (mic_number room key nego chal auth) (computed_mic key nego chal auth).verdict)
 
 -- and out of the second the refusal, or it is 1 for yes and 0 for no
-abbrev pub DecodesChecking : ℕ → Checking → Type 0
-DecodesChecking answer (Compared true) = DecodesLength answer 1
-DecodesChecking answer (Compared false) = DecodesLength answer 0
-DecodesChecking answer (Refused e) = DecodesRefusal answer e
+abbrev pub DecodesChecking : ℕ → Result Bool Refusal → Type 0
+DecodesChecking answer (Ok true) = DecodesLength answer 1
+DecodesChecking answer (Ok false) = DecodesLength answer 0
+DecodesChecking answer (Err e) = DecodesRefusal answer e
 
 abbrev pub CheckMicDecodes : Type 0
 CheckMicDecodes = (key nego chal auth : List ℕ) → DecodesChecking (check_number key nego chal auth) (check_mic key nego chal auth)
@@ -85,8 +82,8 @@ CheckMicDecodes = (key nego chal auth : List ℕ) → DecodesChecking (check_num
 -- ---- the two calls agree
 
 pub record Agree (key nego chal auth : List ℕ) : Type 0 where
-  pub refused : (e : Refusal) → (check_mic key nego chal auth ≡ Refused e) ↔ ((computed_mic key nego chal auth).verdict ≡ Not e)
-  pub yes : (check_mic key nego chal auth ≡ Compared true) ↔ (((computed_mic key nego chal auth).verdict ≡ Clear) × (take 16 (drop 72 auth) ≡ (computed_mic key nego chal auth).mic))
+  pub refused : (e : Refusal) → (check_mic key nego chal auth ≡ Err e) ↔ ((computed_mic key nego chal auth).verdict ≡ Err e)
+  pub yes : (check_mic key nego chal auth ≡ Ok true) ↔ (((computed_mic key nego chal auth).verdict ≡ Ok tt) × (take 16 (drop 72 auth) ≡ (computed_mic key nego chal auth).mic))
   -- from C, where the array has its room: both are refused or none, and a refusal is the same number
   pub refused_from_c : (room : ℕ) → 16 ≤ room → is_refused (mic_number room key nego chal auth) ≡ is_refused (check_number key nego chal auth)
   pub same_number : (room : ℕ) → 16 ≤ room → is_refused (check_number key nego chal auth) ≡ 1 → mic_number room key nego chal auth ≡ check_number key nego chal auth
@@ -106,19 +103,19 @@ MicBlind = (key nego chal s t : List ℕ) → DifferInMic s t → computed_mic k
 -- ---- what is worked out, put at 72 of the AUTHENTICATE, makes the check say yes, and any other sixteen bytes make it say no
 
 pub record PutIn (key nego chal auth bytes : List ℕ) : Type 0 where
-  pub yes : bytes ≡ (computed_mic key nego chal auth).mic → check_mic key nego chal (sets auth 72 bytes) ≡ Compared true
-  pub no : (bytes ≡ (computed_mic key nego chal auth).mic → ⊥) → check_mic key nego chal (sets auth 72 bytes) ≡ Compared false
+  pub yes : bytes ≡ (computed_mic key nego chal auth).mic → check_mic key nego chal (sets auth 72 bytes) ≡ Ok true
+  pub no : (bytes ≡ (computed_mic key nego chal auth).mic → ⊥) → check_mic key nego chal (sets auth 72 bytes) ≡ Ok false
 
 abbrev pub MicPutIn : Type 0
 MicPutIn =
-    (key nego chal auth bytes : List ℕ) → (computed_mic key nego chal auth).verdict ≡ Clear → length bytes ≡ 16 → PutIn key nego chal auth bytes
+    (key nego chal auth bytes : List ℕ) → (computed_mic key nego chal auth).verdict ≡ Ok tt → length bytes ≡ 16 → PutIn key nego chal auth bytes
 
 -- ---- by what the refusals don't go
 
 -- both calls are refused twice, with the same refusal, or not at all
 pub record SameMicRefusals (key nego chal auth key' nego' chal' auth' : List ℕ) : Type 0 where
   pub computed : (computed_mic key nego chal auth).verdict ≡ (computed_mic key' nego' chal' auth').verdict
-  pub checked : (e : Refusal) → (check_mic key nego chal auth ≡ Refused e) ↔ (check_mic key' nego' chal' auth' ≡ Refused e)
+  pub checked : (e : Refusal) → (check_mic key nego chal auth ≡ Err e) ↔ (check_mic key' nego' chal' auth' ≡ Err e)
   pub from_c : (room : ℕ) → mic_number room key nego chal auth ≡ mic_number room key' nego' chal' auth'
   -- a check from C: both are refused or none, and where one is refused both have its number
   pub check_refused : is_refused (check_number key nego chal auth) ≡ is_refused (check_number key' nego' chal' auth')
@@ -143,13 +140,13 @@ MicSecret =
 pub record MicUnwritten (key nego chal auth out : List ℕ) (e : Refusal) : Type 0 where
   pub unchanged : call_out 16 (mic_outcome (computed_mic key nego chal auth)) out ≡ out
   pub answer : DecodesRefusal (mic_number (length out) key nego chal auth) e
-  pub which : ((length out < 16) × (e ≡ NoRoom)) ⊎ ((16 ≤ length out) × ((computed_mic key nego chal auth).verdict ≡ Not e))
+  pub which : ((length out < 16) × (e ≡ NoRoom)) ⊎ ((16 ≤ length out) × ((computed_mic key nego chal auth).verdict ≡ Err e))
   pub no_room : (number_in (mic_number (length out) key nego chal auth) ≡ 33) ↔ (length out < 16)
 
 abbrev pub MicKept : Type 0
 MicKept =
     (key nego chal auth out : List ℕ) →
     ((mic_number (length out) key nego chal auth ≡ 0)
-    × ((computed_mic key nego chal auth).verdict ≡ Clear)
+    × ((computed_mic key nego chal auth).verdict ≡ Ok tt)
     × Front (computed_mic key nego chal auth).mic out (call_out 16 (mic_outcome (computed_mic key nego chal auth)) out))
     ⊎ ((e : Refusal) × MicUnwritten key nego chal auth out e)

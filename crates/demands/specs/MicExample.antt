@@ -1,8 +1,6 @@
 -- The theorems of the MIC speak of something: a sign-in of winpr 2.11.7, the first of `tests/mic/triples.txt`.
-use Rattle.std.specs.Prelude.{ℕ, ◌≡◌, true, false, List, [], ◌∷◌, set, take, drop}
-use Rattle.wire.specs.declared.check.Verdict.TheVariants.{Clear}
+use Rattle.std.specs.Prelude.{Ok, Err, ℕ, ◌≡◌, true, false, List, [], ◌∷◌, set, take, drop}
 use Rattle.wire.specs.declared.refusal.Refusal.TheVariants.{WrongSessionKey}
-use Rattle.mic.specs.declared.Checking.TheVariants.{Compared, Refused}
 use Rattle.mic.specs.Mic.{computed_mic, check_mic}
 use Rattle.demands.specs.TakenExactly.{InfoBytes}
 use Rattle.demands.specs.Mic.{MicHolds, DifferInMic}
@@ -64,13 +62,13 @@ other_auth = set auth 72 0xB7
 pub record MicExample : Type 0 where
   pub info_bytes : InfoBytes chal info
   pub holds : MicHolds 16 nego chal info auth
-  pub verdict : (computed_mic key nego chal auth).verdict ≡ Clear
+  pub verdict : (computed_mic key nego chal auth).verdict ≡ Ok tt
   pub computed : (computed_mic key nego chal auth).mic ≡ mic
-  pub yes : check_mic key nego chal auth ≡ Compared true
+  pub yes : check_mic key nego chal auth ≡ Ok true
   -- "no" for another challenge, of which all the rest still holds
   pub other_holds : MicHolds 16 nego other_chal info auth
-  pub no : check_mic key nego other_chal auth ≡ Compared false
+  pub no : check_mic key nego other_chal auth ≡ Ok false
   -- and for a message that differs in its MIC alone
   pub differ : DifferInMic auth other_auth
-  pub other_mic : check_mic key nego chal other_auth ≡ Compared false
-  pub short_key_is : check_mic (take 15 key) nego chal auth ≡ Refused WrongSessionKey
+  pub other_mic : check_mic key nego chal other_auth ≡ Ok false
+  pub short_key_is : check_mic (take 15 key) nego chal auth ≡ Err WrongSessionKey

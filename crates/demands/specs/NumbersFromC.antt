@@ -1,13 +1,11 @@
 -- Demand 2: "each field handed out is that field's own bytes", for the numbers that a C caller gets: what stands at each place of
 -- the array, by the message's bytes alone, in the order that `include/dialtable.h` names. `CallFront` and `TwoArraysFront` say
 -- that these numbers stand at the array's front; the two numbers of an answer to a challenge are in `RespondedKept`.
-use Rattle.std.specs.Prelude.{ℕ, ◌+◌, ◌-◌, ◌%◌, ◌≡◌, ◌⊎◌, List, [], ◌∷◌, ◌++◌, length, take, drop, replicate, get_or}
+use Rattle.wire.specs.declared.refusal.Refusal.{Refusal}
+use Rattle.std.specs.Prelude.{Result, Ok, Err, Some, None, ⊤, ℕ, ◌+◌, ◌-◌, ◌%◌, ◌≡◌, ◌⊎◌, List, [], ◌∷◌, ◌++◌, length, take, drop, replicate, get_or}
 use Rattle.wire.specs.Number.{u32_at}
-use Rattle.target_info.specs.declared.Timestamp.TheVariants.{Time, Nothing}
 use Rattle.read_dns_name.specs.Rfc1035.{NameAt}
 use Rattle.hmac_md5.specs.Hmac.{hmac}
-use Rattle.wire.specs.declared.check.Verdict.{Verdict}
-use Rattle.wire.specs.declared.check.Verdict.TheVariants.{Clear, Refused}
 use Rattle.av_pairs.specs.AvPairs.{count_pairs, ask_at}
 use Rattle.target_info.specs.TargetInfo.{find_pair}
 use Rattle.read_negotiate.specs.Negotiate.{read_negotiate}
@@ -72,7 +70,7 @@ pub record ChallengeNumbers (s xs server : List ℕ) : Type 0 where
 
 -- whether TargetInfo has a timestamp, and its value, "0 where there is none"
 abbrev pub TimestampNumbers : List ℕ → ℕ → ℕ → Type 0
-TimestampNumbers b there time = ((there ≡ 1) × TimestampIs b (Time time)) ⊎ ((there ≡ 0) × (time ≡ 0) × TimestampIs b Nothing)
+TimestampNumbers b there time = ((there ≡ 1) × TimestampIs b (Some time)) ⊎ ((there ≡ 0) × (time ≡ 0) × TimestampIs b None)
 
 -- string i, A or B: offset and length are numbers j and j + 1, its bytes ending before its first zero byte
 pub record PlainNumbers (s : List ℕ) (i : ℕ) (xs : List ℕ) (j : ℕ) : Type 0 where
@@ -149,9 +147,9 @@ TwoArrayNumbersOwn = (c : TwoArrayCall) (xs : List ℕ) → two_array_outcome c 
 -- ---- demand 1: "It answers, or refuses by a number". A reading from C hands out numbers exactly where the reader takes, and is
 -- refused exactly as the reader refuses
 
-abbrev pub outcome_verdict : Outcome → Verdict
-outcome_verdict (numbers xs) = Clear
-outcome_verdict (refused e) = Refused e
+abbrev pub outcome_verdict : Outcome → Result ⊤ Refusal
+outcome_verdict (numbers xs) = Ok tt
+outcome_verdict (refused e) = Err e
 
 pub record JudgedFromC (s : List ℕ) : Type 0 where
   pub nego : outcome_verdict (outcome (read_negotiate_call s)) ≡ nego_verdict (read_negotiate s)

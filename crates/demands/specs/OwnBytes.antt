@@ -1,29 +1,20 @@
 -- Demand 2: "each field handed out is that field's own bytes".
-use Rattle.std.specs.Prelude.{ℕ, ◌+◌, ◌-◌, ◌%◌, ◌≤◌, ◌<◌, ◌≡◌, true, ◌⊎◌, ◌↔◌, List, [], length, take, drop, replicate}
+use Rattle.std.specs.Prelude.{Ok, Err, Some, None, ℕ, ◌+◌, ◌-◌, ◌%◌, ◌≤◌, ◌<◌, ◌≡◌, true, ◌⊎◌, ◌↔◌, List, [], length, take, drop, replicate}
 use Rattle.av_id.specs.declared.AvId.{AvId}
 use Rattle.field.specs.declared.Field.{Field}
 use Rattle.wire.specs.declared.refusal.Refusal.{Refusal}
 use Rattle.field.specs.Field.{field_bytes}
 use Rattle.wire.specs.Number.{u32_at, u64_at}
 use Rattle.read_authenticate.specs.declared.Authenticate.{Authenticate}
-use Rattle.read_authenticate.specs.declared.Reading.TheVariants.{Taken, Refused}
 use Rattle.read_authenticate.specs.Authenticate.{read_authenticate}
 use Rattle.av_pairs.specs.declared.AvPair.{AvPair}
-use Rattle.av_pairs.specs.declared.Found.TheVariants.{At, Nothing}
-use Rattle.target_info.specs.declared.Search.TheVariants.{Done}
 use Rattle.target_info.specs.TargetInfo.{find_pair}
 use Rattle.read_challenge.specs.declared.Challenge.{Challenge}
-use Rattle.read_challenge.specs.declared.Reading.TheVariants.{Taken as ChallengeTaken, Refused as ChallengeRefused}
-use Rattle.target_info.specs.declared.Timestamp.TheVariants.{Time, Nothing as NoTime}
-use Rattle.read_challenge.specs.declared.TimestampReading.TheVariants.{Taken as TimeTaken}
 use Rattle.target_info.specs.declared.ServerNames.{ServerNames}
-use Rattle.read_challenge.specs.declared.ServerNamesReading.TheVariants.{Taken as NamesTaken}
 use Rattle.read_challenge.specs.Challenge.{read_challenge, timestamp_of, server_names_of}
 use Rattle.read_negotiate.specs.declared.Negotiate.{Negotiate}
-use Rattle.read_negotiate.specs.declared.Reading.TheVariants.{Taken as NegotiateTaken}
 use Rattle.read_negotiate.specs.Negotiate.{read_negotiate}
 use Rattle.read_nl_auth.specs.declared.NlAuth.{NlAuth}
-use Rattle.read_nl_auth.specs.declared.Reading.TheVariants.{Taken as NlTaken}
 use Rattle.read_nl_auth.specs.declared.string.NlString.{NlString}
 use Rattle.read_nl_auth.specs.NlAuth.{no_string, string_bytes, labels_of, read_nl_auth}
 use Rattle.read_dns_name.specs.Rfc1035.{NameAt}
@@ -56,12 +47,12 @@ pub record OwnAnswer (s : List ℕ) (a : Authenticate) : Type 0 where
   pub mic_zeros : (MicThere authenticate s → ⊥) → (read_authenticate s).mic ≡ replicate 16 0
 
 abbrev pub AuthenticateOwn : Type 0
-AuthenticateOwn = (s : List ℕ) (a : Authenticate) → (read_authenticate s).reading ≡ Taken a → OwnAnswer s a
+AuthenticateOwn = (s : List ℕ) (a : Authenticate) → (read_authenticate s).reading ≡ Ok a → OwnAnswer s a
 
 -- a refused message has no MIC bytes either
 abbrev pub AuthenticateRefusedMic : Type 0
 AuthenticateRefusedMic =
-    (s : List ℕ) (e : Refusal) → (read_authenticate s).reading ≡ Refused e → (read_authenticate s).mic ≡ replicate 16 0
+    (s : List ℕ) (e : Refusal) → (read_authenticate s).reading ≡ Err e → (read_authenticate s).mic ≡ replicate 16 0
 
 -- what a taken NEGOTIATE message is answered with
 pub record OwnNegotiate (s : List ℕ) (m : Negotiate) : Type 0 where
@@ -70,7 +61,7 @@ pub record OwnNegotiate (s : List ℕ) (m : Negotiate) : Type 0 where
   pub workstation : OwnField negotiate s 2 m.fields.workstation
 
 abbrev pub NegotiateOwn : Type 0
-NegotiateOwn = (s : List ℕ) (m : Negotiate) → read_negotiate s ≡ NegotiateTaken m → OwnNegotiate s m
+NegotiateOwn = (s : List ℕ) (m : Negotiate) → read_negotiate s ≡ Ok m → OwnNegotiate s m
 
 -- what a taken CHALLENGE message is answered with
 pub record OwnChallenge (s : List ℕ) (c : Challenge) : Type 0 where
@@ -80,11 +71,11 @@ pub record OwnChallenge (s : List ℕ) (c : Challenge) : Type 0 where
   pub server_challenge_is : (read_challenge s).server_challenge ≡ take 8 (drop 24 s)
 
 abbrev pub ChallengeOwn : Type 0
-ChallengeOwn = (s : List ℕ) (c : Challenge) → (read_challenge s).reading ≡ ChallengeTaken c → OwnChallenge s c
+ChallengeOwn = (s : List ℕ) (c : Challenge) → (read_challenge s).reading ≡ Ok c → OwnChallenge s c
 
 abbrev pub ChallengeRefusedZeros : Type 0
 ChallengeRefusedZeros =
-    (s : List ℕ) (e : Refusal) → (read_challenge s).reading ≡ ChallengeRefused e → (read_challenge s).server_challenge ≡ replicate 8 0
+    (s : List ℕ) (e : Refusal) → (read_challenge s).reading ≡ Err e → (read_challenge s).server_challenge ≡ replicate 8 0
 
 -- a pair that a search hands out is the first with its id, with that pair's own place and length
 pub record OwnPair (s : List ℕ) (id : ℕ) (p : AvPair) : Type 0 where
@@ -96,26 +87,26 @@ pub record OwnPair (s : List ℕ) (id : ℕ) (p : AvPair) : Type 0 where
   pub whole : p.at + p.len ≤ length s
 
 abbrev pub FoundOwn : Type 0
-FoundOwn = (s : List ℕ) (a : AvId) (p : AvPair) → find_pair a s ≡ Done (At p) → OwnPair s a.id p
+FoundOwn = (s : List ℕ) (a : AvId) (p : AvPair) → find_pair a s ≡ Ok (Some p) → OwnPair s a.id p
 
 -- and where it hands out none, none has the id
 abbrev pub NothingThere : Type 0
-NothingThere = (s : List ℕ) (a : AvId) → find_pair a s ≡ Done Nothing → (place : ℕ) → FirstWith s a.id place 0 → ⊥
+NothingThere = (s : List ℕ) (a : AvId) → find_pair a s ≡ Ok None → (place : ℕ) → FirstWith s a.id place 0 → ⊥
 
 -- the timestamp is the value of TargetInfo's first pair 7, as a number; where there is none, there is no pair 7
 abbrev pub TimestampOwn : Type 0
 TimestampOwn =
-    (s b : List ℕ) → InfoBytes s b → (time : ℕ) → timestamp_of s ≡ TimeTaken (Time time) →
+    (s b : List ℕ) → InfoBytes s b → (time : ℕ) → timestamp_of s ≡ Ok (Some time) →
     (place : ℕ) × FirstWith b 7 place 0 × (time ≡ u64_at b (place + 4))
 
 abbrev pub NoTimestampThere : Type 0
 NoTimestampThere =
-    (s b : List ℕ) → InfoBytes s b → timestamp_of s ≡ TimeTaken NoTime → (place : ℕ) → FirstWith b 7 place 0 → ⊥
+    (s b : List ℕ) → InfoBytes s b → timestamp_of s ≡ Ok None → (place : ℕ) → FirstWith b 7 place 0 → ⊥
 
 -- pairs 1 and 2 are said to be there exactly when they are
 abbrev pub ServerNamesOwn : Type 0
 ServerNamesOwn =
-    (s b : List ℕ) → InfoBytes s b → (names : ServerNames) → server_names_of s ≡ NamesTaken names →
+    (s b : List ℕ) → InfoBytes s b → (names : ServerNames) → server_names_of s ≡ Ok names →
     ((names.nb_computer_name ≡ true) ↔ PairThere b 1)
     × ((names.nb_domain_name ≡ true) ↔ PairThere b 2)
 
@@ -164,7 +155,7 @@ pub record OwnResponse (s : List ℕ) (m : NlAuth) : Type 0 where
 
 abbrev pub NlAuthOwn : Type 0
 NlAuthOwn =
-    (s : List ℕ) (m : NlAuth) → read_nl_auth s ≡ NlTaken m →
+    (s : List ℕ) (m : NlAuth) → read_nl_auth s ≡ Ok m →
     ((type_of s ≡ 0) × OwnRequest s m) ⊎ ((type_of s ≡ 1) × OwnResponse s m)
 
 -- the bytes of any record of an offset and a length, whoever made it: those of the message, and none where it doesn't lie within

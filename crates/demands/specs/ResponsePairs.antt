@@ -1,9 +1,8 @@
 -- Request 2/12: "Write the pair list that goes back in the answer. .. From an accepted challenge, copy its pairs in order, then
 -- apply source document 004." Everything is said by the bytes b of the challenge's TargetInfo, the bytes l of what is written,
 -- and what the caller gives; the answer and the output alone name the writer's definition.
-use Rattle.std.specs.Prelude.{ℕ, ◌+◌, ◌/◌, ◌%◌, ◌<◌, ◌≡◌, Bool, true, ◌⊎◌, ◌↔◌, List, [], ◌∷◌, length, take, drop}
-use Rattle.place.specs.declared.written.Written.{Written}
-use Rattle.place.specs.declared.written.Written.TheVariants.{Length, Refused}
+use Rattle.wire.specs.declared.refusal.Refusal.{Refusal}
+use Rattle.std.specs.Prelude.{Result, Ok, Err, ℕ, ◌+◌, ◌/◌, ◌%◌, ◌<◌, ◌≡◌, Bool, true, ◌⊎◌, ◌↔◌, List, [], ◌∷◌, length, take, drop}
 use Rattle.write_response_pairs.specs.ResponsePairs.{write_answer, write_out}
 use Rattle.wire.specs.Number.{u32_at}
 use Rattle.demands.specs.Order.{FirstIn, check}
@@ -84,7 +83,7 @@ pub data ListBack (b l name : List ℕ) (mark : Bool) (bindings : List ℕ) : Ty
 abbrev pub OfEachCall : (List ℕ → List ℕ → List ℕ → List ℕ → Bool → List ℕ → Type 0) → Type 0
 OfEachCall Q =
     (out s b name bindings : List ℕ) (mark : Bool) (n : ℕ) → length bindings ≡ 16 → InfoBytes s b →
-    write_answer (length out) s name mark bindings ≡ Length n →
+    write_answer (length out) s name mark bindings ≡ Ok n →
     Q s b (take n (write_out out s name mark bindings)) name mark bindings
 
 abbrev pub PairsGoBack : Type 0
@@ -144,15 +143,15 @@ ResponsePairsFail room name size n i =
     check 33 n (Fails33 room size i)
     ⊥))
 
-abbrev pub ListRefusedAt : Written → ℕ → ℕ → ℕ → Type 0
-ListRefusedAt (Length m) n i p = ⊥
-ListRefusedAt (Refused e) n i p = RefusalIs e n i p
+abbrev pub ListRefusedAt : Result ℕ Refusal → ℕ → ℕ → ℕ → Type 0
+ListRefusedAt (Ok m) n i p = ⊥
+ListRefusedAt (Err e) n i p = RefusalIs e n i p
 
 -- "Refusals: after the reading ones": refused by the reading, and else by the first of these checks that fails; answered with the
 -- list's length if and only if nothing fails
-pub record WrittenFrom (answer : Written) (s b : List ℕ) (order : List ℕ) (F : ℕ → ℕ → Type 0) (size : ℕ) : Type 0 where
+pub record WrittenFrom (answer : Result ℕ Refusal) (s b : List ℕ) (order : List ℕ) (F : ℕ → ℕ → Type 0) (size : ℕ) : Type 0 where
   pub refused : (n i p : ℕ) → ListRefusedAt answer n i p ↔ (ChallengeFails s b n i p ⊎ (ChallengeHolds s b × FirstIn order F n i × (p ≡ 0)))
-  pub written : (n : ℕ) → (answer ≡ Length n) ↔ (ChallengeHolds s b × ((m j : ℕ) → F m j → ⊥) × (n ≡ size))
+  pub written : (n : ℕ) → (answer ≡ Ok n) ↔ (ChallengeHolds s b × ((m j : ℕ) → F m j → ⊥) × (n ≡ size))
 
 abbrev pub ResponsePairsAreWritten : Type 0
 ResponsePairsAreWritten =

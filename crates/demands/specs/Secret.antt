@@ -1,18 +1,15 @@
 -- Demand 3: "No log tells a secret. Take any two messages of one length, read as AUTHENTICATE and accepted or refused, that
 -- are alike in their first 64 bytes. If after that they differ only inside the LM response, the NT response, the session
 -- key where it counts, or a MIC that is there, reading gives both the same answer and both get the same log line."
-use Rattle.std.specs.Prelude.{ℕ, ◌≤◌, ◌<◌, ◌≡◌, ◌⊎◌, List, length, get_or, set, take, replicate}
+use Rattle.std.specs.Prelude.{Ok, ℕ, ◌≤◌, ◌<◌, ◌≡◌, ◌⊎◌, List, length, get_or, set, take, replicate}
 use Rattle.read_authenticate.specs.declared.Authenticate.{Authenticate}
-use Rattle.read_authenticate.specs.declared.Reading.TheVariants.{Taken}
 use Rattle.read_authenticate.specs.Authenticate.{read_authenticate}
 use Rattle.head.specs.declared.Kind.TheVariants.{Authenticate as AsAuthenticate}
 use Rattle.head.specs.Head.{kind_of}
 use Rattle.verdict.specs.Verdict.{read_as}
 use Rattle.line.specs.Line.{authenticate_line, ntlm_line, shown_line}
-use Rattle.place.specs.declared.written.Written.TheVariants.{Length}
 use Rattle.place.specs.Written.{bytes_answer, bytes_after}
 use Rattle.respond.specs.declared.answer.Answer.{Answer}
-use Rattle.respond.specs.declared.answer.Answered.TheVariants.{Sent}
 use Rattle.respond.specs.declared.decision.Settings.{Settings}
 use Rattle.respond.specs.Answer.{Supplied, Effect, respond_to}
 use Rattle.demands.specs.Bench.{p1, user_offset}
@@ -39,7 +36,7 @@ pub record DifferInSecrets (s t : List ℕ) : Type 0 where
 -- what it leaves is in `LineKept`. So it is enough that two messages have the same line, below
 pub record WrittenAlike (line out out' : List ℕ) : Type 0 where
   pub answer : bytes_answer line out ≡ bytes_answer line out'
-  pub bytes : (n : ℕ) → bytes_answer line out ≡ Length n → take n (bytes_after line out) ≡ take n (bytes_after line out')
+  pub bytes : (n : ℕ) → bytes_answer line out ≡ Ok n → take n (bytes_after line out) ≡ take n (bytes_after line out')
 
 abbrev pub LineWrittenAlike : Type 0
 LineWrittenAlike = (line out out' : List ℕ) → length out ≡ length out' → WrittenAlike line out out'
@@ -49,9 +46,9 @@ LineWrittenAlike = (line out out' : List ℕ) → length out ≡ length out' →
 pub record SamePublic (s t : List ℕ) : Type 0 where
   pub reading : (read_authenticate s).reading ≡ (read_authenticate t).reading
   pub from_c : two_array_outcome (read_authenticate_call s) ≡ two_array_outcome (read_authenticate_call t)
-  pub domain : (a : Authenticate) → (read_authenticate s).reading ≡ Taken a → SameBytes s t a.fields.domain
-  pub user : (a : Authenticate) → (read_authenticate s).reading ≡ Taken a → SameBytes s t a.fields.user
-  pub workstation : (a : Authenticate) → (read_authenticate s).reading ≡ Taken a → SameBytes s t a.fields.workstation
+  pub domain : (a : Authenticate) → (read_authenticate s).reading ≡ Ok a → SameBytes s t a.fields.domain
+  pub user : (a : Authenticate) → (read_authenticate s).reading ≡ Ok a → SameBytes s t a.fields.user
+  pub workstation : (a : Authenticate) → (read_authenticate s).reading ≡ Ok a → SameBytes s t a.fields.workstation
   -- where no MIC is there, or the message is refused, the sixteen bytes are zeros in both
   pub no_mic : (IsTaken (read_as AsAuthenticate s) → MicThere authenticate s → ⊥) →
       ((read_authenticate s).mic ≡ replicate 16 0) × ((read_authenticate t).mic ≡ replicate 16 0)
@@ -118,7 +115,7 @@ with_secrets x out m l n k =
 -- two effects of one answer
 pub record AnsweredAlike (x y : Effect) : Type 0 where
   pub answer : x.answer ≡ y.answer
-  pub messages : (a : Answer) → x.answer ≡ Sent a → AlikeOutside (take a.len x.output) (take a.len y.output)
+  pub messages : (a : Answer) → x.answer ≡ Ok a → AlikeOutside (take a.len x.output) (take a.len y.output)
 
 -- a call that goes by these settings
 abbrev pub SecretAnsweredBy : Settings → Type 0

@@ -1,12 +1,10 @@
 -- Request 5/12, the call that writes one string's text alone: "The line joins labels with a full stop", and demands 1 and 2 for it.
-use Rattle.std.specs.Prelude.{ℕ, ◌-◌, ◌≤◌, ◌<◌, ◌≡◌, false, cond, List, [], ◌∷◌, ◌++◌, length, get_or}
+use Rattle.std.specs.Prelude.{Ok, Err, ℕ, ◌-◌, ◌≤◌, ◌<◌, ◌≡◌, false, cond, List, [], ◌∷◌, ◌++◌, length, get_or}
 use Rattle.wire.specs.Text.{ascii}
 use Rattle.wire.specs.declared.refusal.Refusal.TheVariants.{NoRoom}
 use Rattle.wire.specs.Number.{has}
-use Rattle.place.specs.declared.written.Written.TheVariants.{Length, Refused}
 use Rattle.place.specs.Written.{at_front}
 use Rattle.read_nl_auth.specs.declared.NlAuth.{NlAuth}
-use Rattle.read_nl_auth.specs.declared.Reading.TheVariants.{Taken}
 use Rattle.read_nl_auth.specs.NlAuth.{read_nl_auth}
 use Rattle.line_nl_string.specs.StringText.{string_text, text_answer, text_after}
 use Rattle.line_words.specs.Words.{line_end}
@@ -34,9 +32,9 @@ TextsAsInLine =
 -- one of the three holds of every message, number and output: the reading's refusal, 33, or the text
 pub record Shown (s : List ℕ) (which : ℕ) (out : List ℕ) : Type 0 where
   pub refused : (n i : ℕ) → NlFirst s n i → WritingRefusedWith (text_answer s which out) n i
-  pub no_room : (m : NlAuth) → read_nl_auth s ≡ Taken m → length out < length (string_text s m which) → text_answer s which out ≡ Refused NoRoom
-  pub text : (m : NlAuth) → read_nl_auth s ≡ Taken m → length (string_text s m which) ≤ length out →
-      (text_answer s which out ≡ Length (length (string_text s m which)))
+  pub no_room : (m : NlAuth) → read_nl_auth s ≡ Ok m → length out < length (string_text s m which) → text_answer s which out ≡ Err NoRoom
+  pub text : (m : NlAuth) → read_nl_auth s ≡ Ok m → length (string_text s m which) ≤ length out →
+      (text_answer s which out ≡ Ok (length (string_text s m which)))
       × (text_after s which out ≡ at_front (string_text s m which) out)
 
 abbrev pub StringShown : Type 0
@@ -59,7 +57,7 @@ TextIgnored =
 
 -- a text is no longer than the message's line, so it has under 2^20 bytes
 abbrev pub TextShort : Type 0
-TextShort = (s : List ℕ) (m : NlAuth) (which : ℕ) → read_nl_auth s ≡ Taken m → length (string_text s m which) < 0x100000
+TextShort = (s : List ℕ) (m : NlAuth) (which : ℕ) → read_nl_auth s ≡ Ok m → length (string_text s m which) < 0x100000
 
 -- so that from C no length of a text is taken for a refusal
 abbrev pub TextDecodes : Type 0

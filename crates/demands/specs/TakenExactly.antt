@@ -1,20 +1,14 @@
 -- Demand 2: "A message is taken exactly when every check there holds", and demand 1: "It answers, or refuses by a
 -- number from document 01 in the order given there." One record says both of each reader, as `WrittenExactly` does of each
 -- writer. It goes by the reader's verdict: what was read is taken, or refused with a refusal.
-use Rattle.std.specs.Prelude.{ℕ, ◌+◌, ◌≤◌, ◌≡◌, ◌↔◌, List, [], take, drop}
-use Rattle.wire.specs.declared.check.Verdict.{Verdict}
-use Rattle.wire.specs.declared.check.Verdict.TheVariants.{Clear, Refused}
+use Rattle.read_nl_auth.specs.declared.NlAuth.{NlAuth}
+use Rattle.std.specs.Prelude.{Result, Ok, Err, ⊤, ℕ, ◌+◌, ◌≤◌, ◌≡◌, ◌↔◌, List, [], take, drop}
 use Rattle.wire.specs.declared.refusal.Refusal.{Refusal}
 use Rattle.wire.specs.Refusal.{number_of, field_of, place_of}
-use Rattle.av_pairs.specs.declared.Count.{Count}
-use Rattle.av_pairs.specs.declared.Count.TheVariants.{Pairs, Refused as Uncounted}
 use Rattle.av_pairs.specs.AvPairs.{count_pairs}
 use Rattle.read_negotiate.specs.Negotiate.{read_negotiate}
 use Rattle.read_authenticate.specs.Authenticate.{read_authenticate}
-use Rattle.read_challenge.specs.declared.Reading.TheVariants.{Refused as ChallengeRefused}
 use Rattle.read_challenge.specs.Challenge.{read_challenge}
-use Rattle.read_nl_auth.specs.declared.Reading.{Reading as NlReading}
-use Rattle.read_nl_auth.specs.declared.Reading.TheVariants.{Taken as NlTaken, Refused as NlRefused}
 use Rattle.read_nl_auth.specs.NlAuth.{read_nl_auth}
 use Rattle.verdict.specs.Verdict.{nego_verdict, chal_verdict, auth_verdict}
 use Rattle.demands.specs.NlAuth.{NlFails, NlFirst}
@@ -24,19 +18,19 @@ use Rattle.demands.specs.PairList.{Holds, ListFails}
 
 -- ---- taken exactly, refused exactly
 
-abbrev pub IsTaken : Verdict → Type 0
-IsTaken Clear = Unit
-IsTaken (Refused e) = ⊥
+abbrev pub IsTaken : Result ⊤ Refusal → Type 0
+IsTaken (Ok tt) = Unit
+IsTaken (Err e) = ⊥
 
 -- a refusal by all that it returns: number, field and place
 abbrev pub RefusalIs : Refusal → ℕ → ℕ → ℕ → Type 0
 RefusalIs e n i p = (number_of e ≡ n) × (field_of e ≡ i) × (place_of e ≡ p)
 
-abbrev pub RefusedWith : Verdict → ℕ → ℕ → ℕ → Type 0
-RefusedWith Clear n i p = ⊥
-RefusedWith (Refused e) n i p = RefusalIs e n i p
+abbrev pub RefusedWith : Result ⊤ Refusal → ℕ → ℕ → ℕ → Type 0
+RefusedWith (Ok tt) n i p = ⊥
+RefusedWith (Err e) n i p = RefusalIs e n i p
 
-pub record Judged (verdict : Verdict) (AllHold : Type 0) (FailsFirst : ℕ → ℕ → ℕ → Type 0) : Type 0 where
+pub record Judged (verdict : Result ⊤ Refusal) (AllHold : Type 0) (FailsFirst : ℕ → ℕ → ℕ → Type 0) : Type 0 where
   -- it is taken if and only if this holds
   pub taken : IsTaken verdict ↔ AllHold
   -- and refused with number n, field i and place p if and only if that is what fails first
@@ -65,13 +59,13 @@ PlaceOfPairsOnly = (e : Refusal) → ((10 ≤ number_of e) × (number_of e ≤ 1
 
 -- ---- a pair list
 
-abbrev pub count_verdict : Count → Verdict
-count_verdict (Pairs n) = Clear
-count_verdict (Uncounted e) = Refused e
+abbrev pub count_verdict : Result ℕ Refusal → Result ⊤ Refusal
+count_verdict (Ok n) = Ok tt
+count_verdict (Err e) = Err e
 
 -- it is taken, with its count, if and only if it is empty or well-formed
 abbrev pub PairsTaken : Type 0
-PairsTaken = (s : List ℕ) (n : ℕ) → (count_pairs s ≡ Pairs n) ↔ Holds s n
+PairsTaken = (s : List ℕ) (n : ℕ) → (count_pairs s ≡ Ok n) ↔ Holds s n
 
 -- and refused with a number, field 2 and a place if and only if the earliest faulty pair has that fault and starts there
 abbrev pub PairsRefused : Type 0
@@ -102,7 +96,7 @@ pub data ChallengeFails (s b : List ℕ) (n i p : ℕ) : Type 0 where
 
 -- a place in a message has 16 bits
 abbrev pub PlaceInMessage : Type 0
-PlaceInMessage = (s : List ℕ) (e : Refusal) → (read_challenge s).reading ≡ ChallengeRefused e → place_of e ≤ 65535
+PlaceInMessage = (s : List ℕ) (e : Refusal) → (read_challenge s).reading ≡ Err e → place_of e ≤ 65535
 
 -- CHALLENGE is taken, or refused with a number, a field and a place, if and only if so
 abbrev pub ChallengeJudged : Type 0
@@ -110,9 +104,9 @@ ChallengeJudged = (s b : List ℕ) → InfoBytes s b → Judged (chal_verdict (r
 
 -- ---- NL_AUTH: no check fails, or the first that does; it has no pairs, so the place is 0
 
-abbrev pub nl_verdict : NlReading → Verdict
-nl_verdict (NlTaken m) = Clear
-nl_verdict (NlRefused e) = Refused e
+abbrev pub nl_verdict : Result NlAuth Refusal → Result ⊤ Refusal
+nl_verdict (Ok m) = Ok tt
+nl_verdict (Err e) = Err e
 
 abbrev pub NlAuthJudged : Type 0
 NlAuthJudged = (s : List ℕ) → Judged (nl_verdict (read_nl_auth s)) (NoneFails (NlFails s)) (λ n i p. NlFirst s n i × (p ≡ 0))

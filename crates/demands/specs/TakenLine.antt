@@ -3,7 +3,7 @@
 -- 9/12: "The `auth`, `chal` and `nego` lines get a last word `max=` with a digit for each field in order"; 11/12: "lengths 1 to 23 and 25
 -- to 43 are `odd`, not `v2`". The line of every taken message, whole, by the message's bytes; `hex` and `decimal` give H, T and D
 -- (`Digits.antt`).
-use Rattle.std.specs.Prelude.{ℕ, ◌-◌, ◌*◌, ◌%◌, ◌≤◌, ◌<◌, ◌≡◌, ◌⊎◌, List, [], ◌∷◌, ◌++◌, length, get_or, take, drop, replicate}
+use Rattle.std.specs.Prelude.{Option, Some, None, ℕ, ◌-◌, ◌*◌, ◌%◌, ◌≤◌, ◌<◌, ◌≡◌, ◌⊎◌, List, [], ◌∷◌, ◌++◌, length, get_or, take, drop, replicate}
 use Rattle.std.proofs.lemmas.List.Edits.{sets}
 use Rattle.wire.specs.Text.{ascii}
 use Rattle.wire.specs.Number.{u16_at, u32_at}
@@ -11,8 +11,6 @@ use Rattle.line_words.specs.Digits.{hex, decimal}
 use Rattle.read_dns_name.specs.Rfc1035.{NameAt}
 use Rattle.head.specs.declared.Kind.TheVariants.{Negotiate, Challenge, Authenticate}
 use Rattle.verdict.specs.Verdict.{read_as}
-use Rattle.target_info.specs.declared.Timestamp.{Timestamp}
-use Rattle.target_info.specs.declared.Timestamp.TheVariants.{Time, Nothing}
 use Rattle.read_nl_auth.specs.NlAuth.{read_nl_auth}
 use Rattle.line.specs.Line.{negotiate_line, challenge_line, authenticate_line, nl_auth_line}
 use Rattle.demands.specs.Answering.{TimestampIs}
@@ -111,9 +109,9 @@ pub record KindShown (nt : ℕ) (text : List ℕ) : Type 0 where
   pub odd : (nt ≡ 0 → ⊥) → (nt ≡ 24 → ⊥) → nt < 44 → text ≡ ascii "odd"
 
 -- "T is the timestamp, read as a number, in sixteen such digits; with no timestamp, the last word and its space are left out"
-abbrev pub time_shown : Timestamp → List ℕ
-time_shown (Time t) = ascii " time=" ++ hex 16 t
-time_shown Nothing = []
+abbrev pub time_shown : Option ℕ → List ℕ
+time_shown (Some t) = ascii " time=" ++ hex 16 t
+time_shown None = []
 
 -- ---- the lines; "Each line ends with 0A"
 
@@ -175,7 +173,7 @@ pub record ChalLine (s b line : List ℕ) : Type 0 where
   pub set : List ℕ
   pub target : List ℕ
   pub pairs : ℕ
-  pub time : Timestamp
+  pub time : Option ℕ
   pub digits : List ℕ
   pub line_is : line ≡ together (
       ascii "chal flags=" ∷ hex 8 (u32_at s 20) ∷

@@ -1,13 +1,11 @@
 -- A name of a taken message with UNICODE has no odd byte left: every two bytes of it are one unit of its word in the log line.
-use Rattle.std.specs.Prelude.{ℕ, ◌*◌, ◌%◌, ◌<◌, ◌≡◌, List, length, get_or}
+use Rattle.std.specs.Prelude.{Ok, ℕ, ◌*◌, ◌%◌, ◌<◌, ◌≡◌, List, length, get_or}
 use Rattle.wire.specs.Number.{u16_at}
 use Rattle.field.specs.Field.{field_bytes}
 use Rattle.line_words.specs.Name.{numbers16}
 use Rattle.read_authenticate.specs.declared.Authenticate.{Authenticate}
-use Rattle.read_authenticate.specs.declared.Reading.TheVariants.{Taken}
 use Rattle.read_authenticate.specs.Authenticate.{read_authenticate}
 use Rattle.read_challenge.specs.declared.Challenge.{Challenge}
-use Rattle.read_challenge.specs.declared.Reading.TheVariants.{Taken as ChallengeTaken}
 use Rattle.read_challenge.specs.Challenge.{read_challenge}
 use Rattle.demands.specs.Message.{authenticate, challenge, Set}
 
@@ -29,10 +27,10 @@ pub record NamesWhole (s : List ℕ) (a : Authenticate) : Type 0 where
 
 abbrev pub AuthenticateNamesWhole : Type 0
 AuthenticateNamesWhole =
-    (s : List ℕ) (a : Authenticate) → (read_authenticate s).reading ≡ Taken a → Set authenticate s 0x1 → NamesWhole s a
+    (s : List ℕ) (a : Authenticate) → (read_authenticate s).reading ≡ Ok a → Set authenticate s 0x1 → NamesWhole s a
 
 -- TargetName of a taken CHALLENGE
 abbrev pub TargetNameWhole : Type 0
 TargetNameWhole =
-    (s : List ℕ) (c : Challenge) → (read_challenge s).reading ≡ ChallengeTaken c → Set challenge s 0x1 →
+    (s : List ℕ) (c : Challenge) → (read_challenge s).reading ≡ Ok c → Set challenge s 0x1 →
     WholeUnits (field_bytes s c.fields.target_name)

@@ -1,11 +1,10 @@
 -- Demand 1: "It answers, or refuses by a number from document 01 in the order given there." When a writing or a line
 -- succeeds, and by what it is refused, said by its arguments and the length of its output alone. Nothing here names a
 -- writer's definition but the answer itself.
-use Rattle.std.specs.Prelude.{ℕ, ◌+◌, ◌-◌, ◌/◌, ◌%◌, ◌≤◌, ◌<◌, ◌≡◌, cond, ◌⊎◌, ◌↔◌, List, [], ◌∷◌, eqb, length, take, get_or}
+use Rattle.wire.specs.declared.refusal.Refusal.{Refusal}
+use Rattle.std.specs.Prelude.{Result, Ok, Err, ℕ, ◌+◌, ◌-◌, ◌/◌, ◌%◌, ◌≤◌, ◌<◌, ◌≡◌, cond, ◌⊎◌, ◌↔◌, List, [], ◌∷◌, eqb, length, take, get_or}
 use Rattle.wire.specs.Refusal.{number_of, field_of}
 use Rattle.negotiate_flags.specs.declared.NegotiateFlags.{NegotiateFlags}
-use Rattle.place.specs.declared.written.Written.{Written}
-use Rattle.place.specs.declared.written.Written.TheVariants.{Length, Refused}
 use Rattle.place.specs.Written.{bytes_answer, bytes_after}
 use Rattle.write_authenticate.specs.Writing.{write_answer}
 use Rattle.write_negotiate.specs.Writing.{write_answer as negotiate_answer}
@@ -17,16 +16,16 @@ use Rattle.demands.specs.Message.{FlagSet}
 use Rattle.demands.specs.DnsName.{LabelsFail, coded_size}
 use Rattle.demands.specs.NlAuth.{mask_of}
 
-abbrev pub WritingRefusedWith : Written → ℕ → ℕ → Type 0
-WritingRefusedWith (Length m) n i = ⊥
-WritingRefusedWith (Refused e) n i = (number_of e ≡ n) × (field_of e ≡ i)
+abbrev pub WritingRefusedWith : Result ℕ Refusal → ℕ → ℕ → Type 0
+WritingRefusedWith (Ok m) n i = ⊥
+WritingRefusedWith (Err e) n i = (number_of e ≡ n) × (field_of e ≡ i)
 
 -- a writing of so many bytes, whose checks are made in this order; `F n i` says that check n fails at field i
-pub record WrittenExactly (answer : Written) (order : List ℕ) (F : ℕ → ℕ → Type 0) (size : ℕ) : Type 0 where
+pub record WrittenExactly (answer : Result ℕ Refusal) (order : List ℕ) (F : ℕ → ℕ → Type 0) (size : ℕ) : Type 0 where
   -- it is refused with number n and field i if and only if that is the first failure in this order
   pub refused : (n i : ℕ) → WritingRefusedWith answer n i ↔ FirstIn order F n i
   -- and answered with a length if and only if no check fails and that is the number of bytes
-  pub written : (n : ℕ) → (answer ≡ Length n) ↔ (((m j : ℕ) → F m j → ⊥) × (n ≡ size))
+  pub written : (n : ℕ) → (answer ≡ Ok n) ↔ (((m j : ℕ) → F m j → ⊥) × (n ≡ size))
 
 -- rows 5, 30 and 33, of a message with these flags and of so many bytes, for an output of `room` bytes
 abbrev pub Fails5 : ℕ → ℕ → Type 0

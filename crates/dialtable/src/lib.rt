@@ -40,7 +40,7 @@ use c_respond::settings::SettingsBits;
 use negotiate_flags::NegotiateFlags;
 use nl_auth_flags::NlAuthFlags;
 use respond::domain::domain_to_send;
-use write_authenticate::write;
+use write_authenticate::{Parts, write};
 use write_nl_auth::{write_request, write_response};
 
 #[unsafe(no_mangle)]
@@ -151,11 +151,7 @@ pub extern "C" fn dialtable_respond<'a>(
         (supplied out.old clock version.now mic.now lm.now nt.now domain.now user.now workstation.now key.now)
         result out.new numbers.old numbers.new }
 {
-    c_respond::respond(
-        out,
-        challenge,
-        settings,
-        clock,
+    let parts = Parts {
         version,
         mic,
         lm,
@@ -164,8 +160,8 @@ pub extern "C" fn dialtable_respond<'a>(
         user,
         workstation,
         key,
-        numbers,
-    )
+    };
+    c_respond::respond(out, challenge, settings, clock, &parts, numbers)
 }
 
 #[unsafe(no_mangle)]
@@ -188,11 +184,7 @@ pub extern "C" fn dialtable_respond_for_bench<'a>(
         (supplied out.old clock version.now mic.now lm.now nt.now domain.now user.now workstation.now key.now)
         result out.new numbers.old numbers.new }
 {
-    c_respond::respond(
-        out,
-        challenge,
-        SettingsBits::for_bench(demand_128).bits,
-        clock,
+    let parts = Parts {
         version,
         mic,
         lm,
@@ -201,6 +193,13 @@ pub extern "C" fn dialtable_respond_for_bench<'a>(
         user,
         workstation,
         key,
+    };
+    c_respond::respond(
+        out,
+        challenge,
+        SettingsBits::for_bench(demand_128).bits,
+        clock,
+        &parts,
         numbers,
     )
 }
@@ -224,11 +223,7 @@ pub extern "C" fn dialtable_respond_to_old_server<'a>(
         (supplied out.old clock version.now mic.now lm.now nt.now domain.now user.now workstation.now key.now)
         result out.new numbers.old numbers.new }
 {
-    c_respond::respond(
-        out,
-        challenge,
-        SettingsBits::OLD_SERVER,
-        clock,
+    let parts = Parts {
         version,
         mic,
         lm,
@@ -237,6 +232,13 @@ pub extern "C" fn dialtable_respond_to_old_server<'a>(
         user,
         workstation,
         key,
+    };
+    c_respond::respond(
+        out,
+        challenge,
+        SettingsBits::OLD_SERVER,
+        clock,
+        &parts,
         numbers,
     )
 }
@@ -260,11 +262,7 @@ pub extern "C" fn dialtable_respond_for_relay<'a>(
         (supplied out.old clock version.now mic.now lm.now nt.now domain.now user.now workstation.now key.now)
         result out.new numbers.old numbers.new }
 {
-    c_respond::respond(
-        out,
-        challenge,
-        SettingsBits::DEFAULTS,
-        clock,
+    let parts = Parts {
         version,
         mic,
         lm,
@@ -273,6 +271,13 @@ pub extern "C" fn dialtable_respond_for_relay<'a>(
         user,
         workstation,
         key,
+    };
+    c_respond::respond(
+        out,
+        challenge,
+        SettingsBits::DEFAULTS,
+        clock,
+        &parts,
         numbers,
     )
 }
@@ -388,7 +393,12 @@ pub extern "C" fn dialtable_write_negotiate(
     ensures content { out.new ≡ negotiate_out out.old (record { bits = flags }) version.now domain.now workstation.now }
 {
     let flags = NegotiateFlags { bits: flags };
-    written_number(write_negotiate::write(out, flags, version, domain, workstation))
+    let parts = write_negotiate::Parts {
+        version,
+        domain,
+        workstation,
+    };
+    written_number(write_negotiate::write(out, flags, &parts))
 }
 
 #[unsafe(no_mangle)]
@@ -410,9 +420,7 @@ pub extern "C" fn dialtable_write_authenticate(
         lm.now nt.now domain.now user.now workstation.now key.now }
 {
     let flags = NegotiateFlags { bits: flags };
-    written_number(write(
-        out,
-        flags,
+    let parts = Parts {
         version,
         mic,
         lm,
@@ -421,7 +429,8 @@ pub extern "C" fn dialtable_write_authenticate(
         user,
         workstation,
         key,
-    ))
+    };
+    written_number(write(out, flags, &parts))
 }
 
 #[unsafe(no_mangle)]

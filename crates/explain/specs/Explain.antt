@@ -1,8 +1,6 @@
 -- Why a message is refused (document 02, 4/12): the checks of the kind that the NTLM program reads it as, one to a line, and the
 -- figures of the one that failed.
-use Rattle.std.specs.Prelude.{ℕ, ◌+◌, ◌≤◌, min, ◌≡◌, true, cond, List, [], ◌∷◌, eqb, length}
-use Rattle.wire.specs.declared.check.Verdict.{Verdict}
-use Rattle.wire.specs.declared.check.Verdict.TheVariants.{Clear, Refused as Not}
+use Rattle.std.specs.Prelude.{Result, Ok, Err, ⊤, ℕ, ◌+◌, ◌≤◌, min, ◌≡◌, true, cond, List, [], ◌∷◌, eqb, length}
 use Rattle.wire.specs.declared.refusal.Refusal.{Refusal}
 use Rattle.wire.specs.Number.{u16_at}
 use Rattle.wire.specs.Refusal.{number_of, field_of, place_of}
@@ -56,9 +54,9 @@ figures_of s head e =
 abbrev pub no_figures : Figures
 no_figures = record { number = 0; field = 0; head = no_field; message = 0; at = 0; id = 0; size = 0 }
 
-abbrev pub figures_on : List ℕ → List (ℕ × Field) → Verdict → Figures
-figures_on s fields Clear = no_figures
-figures_on s fields (Not e) = figures_of s (field_numbered (field_of e) fields) e
+abbrev pub figures_on : List ℕ → List (ℕ × Field) → Result ⊤ Refusal → Figures
+figures_on s fields (Ok tt) = no_figures
+figures_on s fields (Err e) = figures_of s (field_numbered (field_of e) fields) e
 
 unfoldable pub figures_as : Kind → List ℕ → Figures
 figures_as kind s = figures_on s (fields_by_number kind s) (read_as kind s)

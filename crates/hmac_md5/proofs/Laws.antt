@@ -1,38 +1,19 @@
 -- Laws of HMAC.
-use Prim.Native.Nat.{ℕ, zero, suc, ◌+◌, ◌-◌, ◌≤◌, ◌<◌}
-use mathlib.Core.Path.{◌≡◌, refl, sym, ap, ◌∙◌}
-use mathlib.Core.List.{List, [], ◌∷◌, ◌++◌}
-use native.Mathlib.Omega.{arith}
-use borrow.Author.Count.{below_more, below_none}
+use Rattle.std.proofs.Common.{◌≡◌, ℕ, ◌+◌, ◌-◌, ◌≤◌, ◌<◌, List, ◌++◌, length, take, drop, set, get_or, replicate, sym, ap, ◌∙◌, arith, length-take, length-drop}
+use Rattle.std.proofs.lemmas.List.{drop-replicate, length-replicate, length-append, length-map, get_or_default}
+use Rattle.std.proofs.lemmas.List.Edits.{map_over_more}
+use Rattle.std.specs.Int.Bits.{bit_xor}
+use Rattle.std.proofs.Math.ListN.{drop_of_length-le}
+use Rattle.std.proofs.Math.Seq.{take_all}
+use mathlib.Core.List.{append-nil}
 use borrow.Author.Tests.{lt-ltb, le-ltb}
-use lib.Bits.{bit_xor}
-use lib.ListN.{length, get_or, set, replicate, length-set, length-append, length-replicate}
-use lib.Seq.{ext_get_or, get_or-set_same, get_or-set_other}
+use borrow.Rule.Slice.PartMut.{put_mid}
 use Rattle.md5_digest.specs.Digest.{word_bytes, md5}
 use Rattle.md5_digest.specs.State.{fresh, taken, finished}
 use Rattle.md5_digest.specs.declared.state.State.{State}
 use Rattle.md5_digest.proofs.States.{taken_append}
 use Rattle.md5_digest.proofs.Whole.{is_md5}
 use Rattle.hmac_md5.specs.Hmac.{filled_out, key_block, xored, hmac, begun, hmac_finished}
-
-abbrev zeros : ℕ → List ℕ
-zeros n = replicate n 0
-
-get_or-zeros : (n k : ℕ) → get_or (zeros n) k 0 ≡ 0
-get_or-zeros zero k = refl
-get_or-zeros (suc n) zero = refl
-get_or-zeros (suc n) (suc k) = get_or-zeros n k
-
-pub past_end : (key : List ℕ) (i : ℕ) → length key ≤ i → 0 ≡ get_or key i 0
-past_end [] i h = refl
-past_end (b ∷ key) zero h = absurd (omega arith)
-past_end (b ∷ key) (suc i) h = past_end key i (omega arith)
-
--- a key with zero bytes after it has its own bytes, and then zeros
-get_or-filled : (key : List ℕ) (n k : ℕ) → get_or (key ++ zeros n) k 0 ≡ get_or key k 0
-get_or-filled [] n k = get_or-zeros n k
-get_or-filled (b ∷ key) n zero = refl
-get_or-filled (b ∷ key) n (suc k) = get_or-filled key n k
 
 short_block : (key : List ℕ) → length key ≤ 64 → key_block key ≡ filled_out key
 unfolding key_block
@@ -48,53 +29,32 @@ unfolding hmac key_block
 of_long key d text r h e f =
     f ∙ simp (e, le-ltb 64 (length (md5 key)) (digest_short key), lt-ltb 64 (length key) h)
 
--- a block of which i bytes stand, each the key's XOR x
-pub record Xored (pad key : List ℕ) (x i : ℕ) : Type 0 where
-  pub long : length pad ≡ 64
-  pub same : (k : ℕ) → k < i → get_or pad k 0 ≡ bit_xor (get_or key k 0) x
-
-pub none_xored : (key : List ℕ) (x : ℕ) → Xored (zeros 64) key x 0
-none_xored key x = record { long = refl; same = below_none _ }
-
-pub one_xored : (pad key : List ℕ) (x i b : ℕ) → Xored pad key x i → i < 64 → b ≡ get_or key i 0 → Xored (set pad i (bit_xor b x)) key x (i + 1)
-one_xored pad key x i b d h e =
-    record {
-      long = simp (length-set, d.long);
-      same =
-          below_more _ i
-          (λ k l. get_or-set_other pad i k _ 0 (λ e. omega arith) ∙ d.same k l)
-          (get_or-set_same pad i _ 0 (omega (arith, d.long)) ∙ ap (λ (y : ℕ). bit_xor y x) e);
-    }
-
-get_or-xored : (block : List ℕ) (x k : ℕ) → k < length block → get_or (xored x block) k 0 ≡ bit_xor (get_or block k 0) x
-get_or-xored [] x k h = absurd (omega arith)
-get_or-xored (b ∷ block) x zero h = refl
-get_or-xored (b ∷ block) x (suc k) h = get_or-xored block x k (omega arith)
-
-length-xored : (block : List ℕ) (x : ℕ) → length (xored x block) ≡ length block
-length-xored [] x = refl
-length-xored (b ∷ block) x = ap suc (length-xored block x)
-
-all_xored : (pad key : List ℕ) (x i : ℕ) → Xored pad key x i → length key ≤ 64 → 64 ≤ i → pad ≡ xored x (key_block key)
+pub length-key_block : (key : List ℕ) → length key ≤ 64 → length (key_block key) ≡ 64
 unfolding filled_out
-all_xored pad key x i d n h =
-    let block : List ℕ = key ++ zeros (64 - length key) in
-    let m : length block ≡ 64 = simp (length-append, length-replicate) (omega arith) in
-    ext_get_or 0 pad (xored x block) (d.long ∙ sym (length-xored block x ∙ m))
-    (λ k l. d.same k (omega (arith, d.long)) ∙ ap (λ (y : ℕ). bit_xor y x) (sym (get_or-filled key (64 - length key) k))
-    ∙ sym (get_or-xored block x k (omega (arith, d.long, m))))
-    ∙ ap (xored x) (sym (short_block key n))
+length-key_block key h = ap length (short_block key h) ∙ length-append key (replicate (64 - length key) 0) ∙ simp length-replicate (omega arith)
 
-pub is_padded : (key pad : List ℕ) (x i : ℕ) (t : State) → Xored pad key x i → length key ≤ 64 → 64 ≤ i → t ≡ taken fresh pad → t ≡ taken fresh (xored x (key_block key))
-is_padded key pad x i t d n h e = e ∙ ap (taken fresh) (all_xored pad key x i d n h)
+-- a key that was stored at the front of a block of zero bytes
+pub is_filled : (key ys : List ℕ) → ys ≡ key → length key ≤ 64 → put_mid 0 (length key) (replicate 64 0) ys ≡ key_block key
+unfolding filled_out
+is_filled key ys e h =
+    ap (λ (r : List ℕ). r ++ drop (length key) (replicate 64 0)) e ∙ ap (λ (r : List ℕ). key ++ r) (drop-replicate (length key) 64 0) ∙ sym (short_block key h)
 
-pub is_begun : (key : List ℕ) (t : State) → t ≡ taken fresh (xored 0x36 (key_block key)) → t ≡ begun key
-unfolding begun
-is_begun key t e = e
+-- a block of which the first i bytes stand XOR x, and then one more
+pub one_more : (key ys : List ℕ) (x i : ℕ) → length key ≤ 64 → i < 64 → ys ≡ xored x (take i (key_block key)) ++ drop i (key_block key) →
+    set ys i (bit_xor (get_or ys i 0) x) ≡ xored x (take (i + 1) (key_block key)) ++ drop (i + 1) (key_block key)
+one_more key ys x i h l e =
+    let n = length-key_block key h in
+    let m : length ys ≡ 64 = ap length e ∙ simp (length-append, length-map, length-take, length-drop) (omega arith) in
+    map_over_more (λ b. bit_xor b x) (key_block key) ys i (get_or ys i 0) (omega arith) e (get_or_default ys i 0 (get_or ys i 0) (omega arith))
 
-pub is_ended : (key d r : List ℕ) (s o u : State) → d ≡ finished s → o ≡ taken fresh (xored 0x5C (key_block key)) → u ≡ taken o d → r ≡ finished u → r ≡ hmac_finished key s
-unfolding hmac_finished
-is_ended key d r s o u e f g h = simp (h, g, f, e)
+-- and then all
+pub is_padded : (key r : List ℕ) (x i : ℕ) (t : State) → length key ≤ 64 → 64 ≤ i → r ≡ xored x (take i (key_block key)) ++ drop i (key_block key) →
+    t ≡ taken fresh r → t ≡ taken fresh (xored x (key_block key))
+is_padded key r x i t n h f g =
+    let block : List ℕ = key_block key in
+    let long : length block ≤ i = omega (arith, length-key_block key n) in
+    g ∙ ap (taken fresh) (f ∙ ap (λ (l : List ℕ). xored x l ++ drop i block) (take_all i block long)
+    ∙ ap (λ (l : List ℕ). xored x block ++ l) (drop_of_length-le block long) ∙ append-nil (xored x block))
 
 -- what is begun, taken and ended is the HMAC of what was taken
 pub of_pieces : (key m : List ℕ) → hmac_finished key (taken (begun key) m) ≡ hmac key m

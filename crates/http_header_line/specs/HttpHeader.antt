@@ -1,12 +1,10 @@
 -- A message in an HTTP header line (request 12/12): the scheme word `NTLM`, a space, and the message in base64.
-use Rattle.std.specs.Prelude.{ℕ, ◌-◌, cond, ◌&&◌, List, [], ◌∷◌, ◌++◌, eqb, leb, length, get_or, drop}
+use Rattle.wire.specs.declared.refusal.Refusal.{Refusal}
+use Rattle.std.specs.Prelude.{Result, Ok, Err, ⊤, ℕ, ◌-◌, cond, ◌&&◌, List, [], ◌∷◌, ◌++◌, eqb, leb, length, get_or, drop}
 use Rattle.wire.specs.Text.{ascii}
 use Rattle.wire.specs.declared.check.Checked.{Checked}
-use Rattle.wire.specs.declared.check.Verdict.{Verdict}
-use Rattle.wire.specs.declared.check.Verdict.TheVariants.{Clear, Refused as Not}
 use Rattle.wire.specs.declared.refusal.Refusal.TheVariants.{TooLong, NoRoom, WrongScheme, WrongBase64}
 use Rattle.wire.specs.Check.{checked, after}
-use Rattle.place.specs.declared.written.Written.{Written}
 use Rattle.place.specs.Written.{room_holds, answered, out_after}
 use Rattle.base64_text.specs.Base64.{encode, is_base64, decode}
 
@@ -21,13 +19,13 @@ unfoldable pub header_line : List ℕ → List ℕ
 header_line m = ascii "NTLM " ++ encode m
 
 -- for an output of so many bytes: 1, 33
-unfoldable pub check_export : ℕ → List ℕ → Verdict
+unfoldable pub check_export : ℕ → List ℕ → Result ⊤ Refusal
 check_export room m =
-    after (message_holds (length m)) (Not TooLong) (
-    after (room_holds (length (header_line m)) room) (Not NoRoom)
-    Clear)
+    after (message_holds (length m)) (Err TooLong) (
+    after (room_holds (length (header_line m)) room) (Err NoRoom)
+    (Ok tt))
 
-unfoldable pub export_answer : ℕ → List ℕ → Written
+unfoldable pub export_answer : ℕ → List ℕ → Result ℕ Refusal
 export_answer room m = answered (check_export room m) (header_line m)
 
 unfoldable pub export_out : List ℕ → List ℕ → List ℕ
@@ -59,17 +57,17 @@ abbrev pub base64_holds : List ℕ → Checked
 base64_holds text = checked (is_base64 text)
 
 -- for an output of so many bytes: 58, 1, 33; the room goes by the message's own length
-unfoldable pub check_text : ℕ → List ℕ → Verdict
+unfoldable pub check_text : ℕ → List ℕ → Result ⊤ Refusal
 check_text room text =
-    after (base64_holds text) (Not WrongBase64) (
-    after (message_holds (length (decode text))) (Not TooLong) (
-    after (room_holds (length (decode text)) room) (Not NoRoom)
-    Clear))
+    after (base64_holds text) (Err WrongBase64) (
+    after (message_holds (length (decode text))) (Err TooLong) (
+    after (room_holds (length (decode text)) room) (Err NoRoom)
+    (Ok tt)))
 
-unfoldable pub check_import : ℕ → List ℕ → Verdict
-check_import room t = after (scheme_holds t) (Not WrongScheme) (check_text room (text_after_scheme t))
+unfoldable pub check_import : ℕ → List ℕ → Result ⊤ Refusal
+check_import room t = after (scheme_holds t) (Err WrongScheme) (check_text room (text_after_scheme t))
 
-unfoldable pub import_answer : ℕ → List ℕ → Written
+unfoldable pub import_answer : ℕ → List ℕ → Result ℕ Refusal
 import_answer room t = answered (check_import room t) (decode (text_after_scheme t))
 
 unfoldable pub import_out : List ℕ → List ℕ → List ℕ

@@ -2,40 +2,23 @@
 #![tactic(auto)]
 
 ghost use Rattle.std.specs.Prelude.{◌≡◌, ◌+◌, ◌^◌, ◌<◌, ◌≤◌, IfOk, length, take};
-ghost use Rattle.input.specs.Input.{answer_of, after_read, InBuffer, Further, WasRead, OnceRead};
+ghost use Rattle.input.specs.Input.{after_read, InBuffer, Further, WasRead, OnceRead};
 
 use std::io;
 use std::io::Read;
 
-// The input, or as much of it as its buffer holds: how many bytes; or that it couldn't be read to its end.
-#[derive(Drop)]
-pub enum Input {
-    Whole(usize),
-    Failed,
-}
-
-// After a read: how many bytes are there, with more to come, or that reading is over.
-#[derive(Drop)]
-pub enum Reading {
-    On(usize),
-    Over(Input),
-}
-
-fn after_read(at: usize, got: io::Result<usize>) -> Reading
+// After a read: how many bytes are there, with more to come, or `None` at the input's end. A read that failed is passed on.
+fn after_read(at: usize, got: io::Result<usize>) -> io::Result<Option<usize>>
     requires { IfOk got (λ n. at + n < 2 ^ 64) }
-    ensures { result ≡ after_read at (answer_of got) }
+    ensures { result ≡ after_read at got }
 {
-    let Ok(n) = got else {
-        return Reading::Over(Input::Failed);
-    };
-    if n == 0 {
-        return Reading::Over(Input::Whole(at));
-    }
-    Reading::On(at + n)
+    let n = got?;
+    Ok((n > 0).then_some(at + n))
 }
 
 // One read, into the part of the buffer from `at` on. A read that is interrupted is not tried again here: it failed.
-fn read_once<R: Read>(reader: &mut R, buf: &mut [u8], at: usize) -> Reading
+#[tactic(auto, using(crate::proofs::Laws::reads))]
+fn read_once<R: Read>(reader: &mut R, buf: &mut [u8], at: usize) -> io::Result<Option<usize>>
     requires { at ≤ length buf.old }
     ensures further { Further at result buf.new }
     ensures before { take at buf.new ≡ take at buf.old }
@@ -45,24 +28,21 @@ fn read_once<R: Read>(reader: &mut R, buf: &mut [u8], at: usize) -> Reading
     after_read(at, got)
 }
 
-// Reads until the buffer is full or the input ends.
-pub fn read_whole<R: Read>(reader: &mut R, buf: &mut [u8]) -> Input
+// Reads until the buffer is full or the input ends: how many bytes it has, or as many of them as the buffer holds.
+#[tactic(auto, using(crate::proofs::Laws::reads))]
+pub fn read_whole<R: Read>(reader: &mut R, buf: &mut [u8]) -> io::Result<usize>
     ensures in_buffer { InBuffer result buf.new }
     ensures bytes { WasRead (R.remaining reader.old) (R.remaining reader.new) result buf.new }
 {
-    let mut at: usize = 0;
+    // Only a read tells how far it went, so no iterator counts `at`.
+    let mut at = 0;
     while at < buf.len() {
-        let reading = read_once(reader, buf, at);
-        match reading {
-            Reading::On(next) => {
-                at = next;
-            }
-            Reading::Over(input) => {
-                return input;
-            }
-        }
+        let Some(next) = read_once(reader, buf, at)? else {
+            break;
+        };
+        at = next;
     }
-    Input::Whole(at)
+    Ok(at)
 }
 
 #[cfg(test)]
@@ -111,10 +91,7 @@ mod tests {
                 bytes: b"hello",
                 before,
             };
-            let read = match read_whole(&mut reader, &mut space[..room]) {
-                Input::Whole(n) => Some(n),
-                Input::Failed => None,
-            };
+            let read = read_whole(&mut reader, &mut space[..room]).ok();
             assert_eq!(rt; read, want, "a room of {room}");
             let n = want.unwrap_or(0);
             assert!(rt; b"hello".starts_with(&space[..n]), "a room of {room}");

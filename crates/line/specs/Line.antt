@@ -1,22 +1,19 @@
 -- The log line of a message of each kind, and what the programs print.
-use Rattle.std.specs.Prelude.{ℕ, List, length}
+use Rattle.read_authenticate.specs.declared.Authenticate.{Authenticate as AuthenticateMessage}
+use Rattle.read_challenge.specs.declared.Challenge.{Challenge as ChallengeMessage}
+use Rattle.read_negotiate.specs.declared.Negotiate.{Negotiate as NegotiateMessage}
+use Rattle.read_nl_auth.specs.declared.NlAuth.{NlAuth}
+use Rattle.wire.specs.declared.refusal.Refusal.{Refusal}
+use Rattle.std.specs.Prelude.{Result, Ok, Err, ℕ, List, length}
 use Rattle.wire.specs.declared.refusal.Refusal.TheVariants.{NoRoom}
 use Rattle.wire.specs.Check.{after}
 use Rattle.place.specs.Written.{room_holds}
 use Rattle.head.specs.declared.Kind.{Kind}
 use Rattle.head.specs.declared.Kind.TheVariants.{Negotiate, Challenge, Authenticate}
 use Rattle.head.specs.Head.{kind_of}
-use Rattle.read_negotiate.specs.declared.Reading.{Reading as NegoReading}
-use Rattle.read_negotiate.specs.declared.Reading.TheVariants.{Taken as NegoTaken, Refused as NegoRefused}
 use Rattle.read_negotiate.specs.Negotiate.{read_negotiate}
-use Rattle.read_authenticate.specs.declared.Reading.{Reading}
-use Rattle.read_authenticate.specs.declared.Reading.TheVariants.{Taken, Refused}
 use Rattle.read_authenticate.specs.Authenticate.{read_authenticate}
-use Rattle.read_nl_auth.specs.declared.Reading.{Reading as NlReading}
-use Rattle.read_nl_auth.specs.declared.Reading.TheVariants.{Taken as NlTaken, Refused as NlRefused}
 use Rattle.read_nl_auth.specs.NlAuth.{read_nl_auth}
-use Rattle.read_challenge.specs.declared.Reading.{Reading as ChalReading}
-use Rattle.read_challenge.specs.declared.Reading.TheVariants.{Taken as ChalTaken, Refused as ChalRefused}
 use Rattle.read_challenge.specs.Challenge.{read_challenge}
 use Rattle.line_refused.specs.Refused.{refused_line}
 use Rattle.line_negotiate.specs.Nego.{nego_text}
@@ -25,33 +22,33 @@ use Rattle.line_nl_auth.specs.Nl.{nl_text}
 use Rattle.line_challenge.specs.Chal.{chal_text}
 
 -- the line of a message read as AUTHENTICATE
-abbrev pub auth_line : List ℕ → Reading → List ℕ
-auth_line s (Taken a) = auth_text s a
-auth_line s (Refused e) = refused_line e
+abbrev pub auth_line : List ℕ → Result AuthenticateMessage Refusal → List ℕ
+auth_line s (Ok a) = auth_text s a
+auth_line s (Err e) = refused_line e
 
 unfoldable pub authenticate_line : List ℕ → List ℕ
 authenticate_line s = auth_line s (read_authenticate s).reading
 
 -- the line of a message read as NL_AUTH
-abbrev pub nl_line : List ℕ → NlReading → List ℕ
-nl_line s (NlTaken m) = nl_text s m
-nl_line s (NlRefused e) = refused_line e
+abbrev pub nl_line : List ℕ → Result NlAuth Refusal → List ℕ
+nl_line s (Ok m) = nl_text s m
+nl_line s (Err e) = refused_line e
 
 unfoldable pub nl_auth_line : List ℕ → List ℕ
 nl_auth_line s = nl_line s (read_nl_auth s)
 
 -- the line of a message read as CHALLENGE
-abbrev pub chal_line : List ℕ → ChalReading → List ℕ
-chal_line s (ChalTaken c) = chal_text s c
-chal_line s (ChalRefused e) = refused_line e
+abbrev pub chal_line : List ℕ → Result ChallengeMessage Refusal → List ℕ
+chal_line s (Ok c) = chal_text s c
+chal_line s (Err e) = refused_line e
 
 unfoldable pub challenge_line : List ℕ → List ℕ
 challenge_line s = chal_line s (read_challenge s).reading
 
 -- the line of a message read as NEGOTIATE
-abbrev pub nego_line : List ℕ → NegoReading → List ℕ
-nego_line s (NegoTaken m) = nego_text s m
-nego_line s (NegoRefused e) = refused_line e
+abbrev pub nego_line : List ℕ → Result NegotiateMessage Refusal → List ℕ
+nego_line s (Ok m) = nego_text s m
+nego_line s (Err e) = refused_line e
 
 unfoldable pub negotiate_line : List ℕ → List ℕ
 negotiate_line s = nego_line s (read_negotiate s)

@@ -1,9 +1,8 @@
 // The line of an AUTHENTICATE message that was taken.
 #![tactic(auto)]
 
-ghost use Rattle.std.specs.Prelude.{◌≡◌, ◌+◌, ◌-◌, ◌≤◌, length};
+ghost use Rattle.std.specs.Prelude.{◌≡◌, ◌+◌, ◌-◌, ◌≤◌, length, Ok};
 ghost use Rattle.negotiate_flags.specs.Flags.{unicode};
-ghost use Rattle.read_authenticate.specs.declared.Reading.TheVariants.{Taken};
 ghost use Rattle.read_authenticate.specs.Authenticate.{read_authenticate};
 ghost use Rattle.place.specs.Place.{Wrote};
 ghost use Rattle.place.specs.Written.{room_holds, bytes_answer, bytes_after};
@@ -11,13 +10,14 @@ ghost use Rattle.line_words.specs.Words.{Room, mic_word, kind_word};
 ghost use Rattle.line_authenticate.specs.Auth.{auth_names, auth_lengths, auth_end, auth_text};
 
 use field::Field;
-use line_max::put_six;
+use line_max::put_max;
+use line_words::name::Names;
 use line_words::words::{
     put_name_word, put_number_word, put_start, room_after_name_word, room_after_number_word,
     surely_fits,
 };
 use place::Place;
-use place::written::{Written, room_holds};
+use place::written::room_holds;
 use read_authenticate::{Authenticate, Fields};
 use wire::check::Checked;
 use wire::refusal::Refusal;
@@ -25,17 +25,16 @@ use wire::refusal::Refusal;
 // What the names leave of a room.
 fn room_after_names(
     room: usize,
-    msg: &[u8],
+    names: Names,
     domain: Field,
     user: Field,
     workstation: Field,
-    unicode: bool,
 ) -> usize
-    ensures { result ≡ room - length (auth_names unicode msg.now domain user workstation) }
+    ensures { result ≡ room - length (auth_names names.entry.unicode names.entry.msg.now domain user workstation) }
 {
-    let left = room_after_name_word(room, b" domain=", msg, domain, unicode);
-    let left = room_after_name_word(left, b" user=", msg, user, unicode);
-    room_after_name_word(left, b" work=", msg, workstation, unicode)
+    let left = room_after_name_word(room, b" domain=", names, domain);
+    let left = room_after_name_word(left, b" user=", names, user);
+    room_after_name_word(left, b" work=", names, workstation)
 }
 
 // What the lengths leave of a room.
@@ -82,7 +81,8 @@ fn fits(msg: &[u8], a: Authenticate, room: usize) -> Checked
         return Checked::Held;
     }
     let unicode = a.flags.unicode();
-    let left = room_after_names(room, msg, f.domain, f.user, f.workstation, unicode);
+    let names = Names { msg, unicode };
+    let left = room_after_names(room, names, f.domain, f.user, f.workstation);
     let left = room_after_lengths(left, f.lm.len, f.nt.len, f.key.len);
     room_holds(25 + 6 + kind_size(f.nt.len) + 12, left)
 }
@@ -90,18 +90,17 @@ fn fits(msg: &[u8], a: Authenticate, room: usize) -> Checked
 fn put_names(
     p: Place,
     out: &mut [u8],
-    msg: &[u8],
+    names: Names,
     domain: Field,
     user: Field,
     workstation: Field,
-    unicode: bool,
 ) -> Place
-    requires { Room p.at (auth_names unicode msg.now domain user workstation) (length out.old) }
-    ensures { Wrote out.old out.new p.at result.at (auth_names unicode msg.now domain user workstation) }
+    requires { Room p.at (auth_names names.unicode names.msg.now domain user workstation) (length out.old) }
+    ensures { Wrote out.old out.new p.at result.at (auth_names names.entry.unicode names.entry.msg.now domain user workstation) }
 {
-    let p = put_name_word(p, out, b" domain=", msg, domain, unicode);
-    let p = put_name_word(p, out, b" user=", msg, user, unicode);
-    put_name_word(p, out, b" work=", msg, workstation, unicode)
+    let p = put_name_word(p, out, b" domain=", names, domain);
+    let p = put_name_word(p, out, b" user=", names, user);
+    put_name_word(p, out, b" work=", names, workstation)
 }
 
 fn put_lengths(p: Place, out: &mut [u8], lm: u16, nt: u16, key: u16) -> Place
@@ -145,7 +144,8 @@ fn put_end(p: Place, out: &mut [u8], mic: bool, f: Fields) -> Place
 {
     let p = put_mic(p, out, mic);
     let p = put_kind(p, out, f.nt.len);
-    put_six(p, out, f.lm, f.nt, f.domain, f.user, f.workstation, f.key)
+    let fields = [f.lm, f.nt, f.domain, f.user, f.workstation, f.key];
+    put_max(p, out, &fields)
 }
 
 fn put(out: &mut [u8], msg: &[u8], a: Authenticate, wide: bool) -> Place
@@ -155,20 +155,21 @@ fn put(out: &mut [u8], msg: &[u8], a: Authenticate, wide: bool) -> Place
 {
     let f = a.fields;
     let p = put_start(out, b"auth", a.flags, wide);
-    let p = put_names(p, out, msg, f.domain, f.user, f.workstation, wide);
+    let names = Names { msg, unicode: wide };
+    let p = put_names(p, out, names, f.domain, f.user, f.workstation);
     let p = put_lengths(p, out, f.lm.len, f.nt.len, f.key.len);
     put_end(p, out, a.mic_present, f)
 }
 
 // The line of `a`, which was read from the message: a record that wasn't could show a secret's bytes as a name's.
-pub fn write(out: &mut [u8], msg: &[u8], a: Authenticate) -> Written
-    requires { (read_authenticate msg.now).reading ≡ Taken a }
+pub fn write(out: &mut [u8], msg: &[u8], a: Authenticate) -> Result<usize, Refusal>
+    requires { (read_authenticate msg.now).reading ≡ Ok a }
     ensures answer { result ≡ bytes_answer (auth_text msg.now a) out.old }
     ensures content { out.new ≡ bytes_after (auth_text msg.now a) out.old }
 {
     let Checked::Held = fits(msg, a, out.len()) else {
-        return Written::Refused(Refusal::NoRoom);
+        return Err(Refusal::NoRoom);
     };
     let p = put(out, msg, a, a.flags.unicode());
-    Written::Length(p.at)
+    Ok(p.at)
 }

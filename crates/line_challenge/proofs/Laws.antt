@@ -1,4 +1,5 @@
 -- Laws of the timestamp's word, of the line's length, and of what the reader found in the list.
+use Rattle.std.specs.Prelude.{Option, Ok, Some, None}
 use Prim.Native.Nat.{ℕ, ◌+◌, ◌-◌, ◌≤◌, ◌<◌}
 use mathlib.Core.Path.{◌≡◌, refl, sym, ap}
 use mathlib.Core.Bool.{Bool}
@@ -13,12 +14,9 @@ use Rattle.negotiate_flags.specs.Flags.{unicode}
 use Rattle.av_pairs.proofs.Walks.{few_pairs}
 use Rattle.read_challenge.specs.declared.Challenge.{Challenge}
 use Rattle.read_challenge.specs.declared.FullChallenge.{FullChallenge}
-use Rattle.read_challenge.specs.declared.FullReading.TheVariants.{Taken}
 use Rattle.read_challenge.specs.Challenge.{info_of, full_reading_of}
 use Rattle.read_challenge.proofs.Laws.{full_holds}
 use Rattle.target_info.specs.declared.Contents.{Contents}
-use Rattle.target_info.specs.declared.Timestamp.{Timestamp}
-use Rattle.target_info.specs.declared.Timestamp.TheVariants.{Time, Nothing as NoTime}
 use Rattle.wire.specs.declared.check.Checked.{Checked}
 use Rattle.line_max.proofs.Laws.{two_size}
 use Rattle.place.specs.Written.{room_holds}
@@ -38,8 +36,8 @@ time_text_size t = simp length-hex
 pub time_text_room : (at n t : ℕ) → Room at (time_text t) n → at + 22 ≤ n
 time_text_room at n t r = omega (arith, r.fits, time_text_size t)
 
-module _ (w : Timestamp) where
-  module _ (t : ℕ) (h : w ≡ Time t) where
+module _ (w : Option ℕ) where
+  module _ (t : ℕ) (h : w ≡ Some t) where
     pub time_size : 22 ≡ length (time_word w)
     unfolding time_word
     time_size = rw h (sym (time_text_size t))
@@ -52,7 +50,7 @@ module _ (w : Timestamp) where
     unfolding time_word
     wrote_time l k i q v = rw h v
 
-  module _ (h : w ≡ NoTime) where
+  module _ (h : w ≡ None) where
     pub no_time_size : 0 ≡ length (time_word w)
     unfolding time_word
     no_time_size = rw h
@@ -63,7 +61,7 @@ module _ (w : Timestamp) where
 
 -- ---- the line's length
 
-module _ (unicode : Bool) (s : List ℕ) (c : Challenge) (pairs : ℕ) (time : Timestamp) where
+module _ (unicode : Bool) (s : List ℕ) (c : Challenge) (pairs : ℕ) (time : Option ℕ) where
   abbrev target : List ℕ
   target = name_word (ascii " target=") unicode (field_bytes s c.fields.target_name)
 
@@ -76,7 +74,7 @@ module _ (unicode : Bool) (s : List ℕ) (c : Challenge) (pairs : ℕ) (time : T
 
 -- ---- what the reader found in the list
 
-module _ (s : List ℕ) (f : FullChallenge) (h : full_reading_of s ≡ Taken f) where
+module _ (s : List ℕ) (f : FullChallenge) (h : full_reading_of s ≡ Ok f) where
   pub count_fits : f.challenge.fields.target_info.len < 65536 → f.contents.pairs < 4294967296
   count_fits n =
       let l = info_of s f.challenge in

@@ -1,5 +1,5 @@
 -- The line of CHALLENGE: chal flags=H set=S target=N pairs=D time=T max=BB
-use Rattle.std.specs.Prelude.{ℕ, Bool, List, [], ◌++◌, length}
+use Rattle.std.specs.Prelude.{Option, Some, None, ℕ, Bool, List, [], ◌++◌, length}
 use Rattle.wire.specs.Text.{ascii}
 use Rattle.field.specs.Field.{field_bytes}
 use Rattle.negotiate_flags.specs.Flags.{unicode}
@@ -7,8 +7,6 @@ use Rattle.av_pairs.specs.AvPairs.{pairs_of}
 use Rattle.read_challenge.specs.declared.Challenge.{Challenge}
 use Rattle.read_challenge.specs.declared.Fields.{Fields}
 use Rattle.read_challenge.specs.Challenge.{all_fields, info_of}
-use Rattle.target_info.specs.declared.Timestamp.{Timestamp}
-use Rattle.target_info.specs.declared.Timestamp.TheVariants.{Time, Nothing}
 use Rattle.target_info.specs.TargetInfo.{timestamp_in}
 use Rattle.line_max.specs.Max.{max_end}
 use Rattle.line_words.specs.Digits.{hex}
@@ -19,15 +17,15 @@ unfoldable pub time_text : ℕ → List ℕ
 time_text t = ascii " time=" ++ hex 16 t
 
 -- with no timestamp the word is left out
-unfoldable pub time_word : Timestamp → List ℕ
-time_word (Time t) = time_text t
-time_word Nothing = []
+unfoldable pub time_word : Option ℕ → List ℕ
+time_word (Some t) = time_text t
+time_word None = []
 
-unfoldable pub chal_end : ℕ → Timestamp → Fields → List ℕ
+unfoldable pub chal_end : ℕ → Option ℕ → Fields → List ℕ
 chal_end pairs time f = number_word (ascii " pairs=") pairs ++ (time_word time ++ max_end (all_fields f))
 
 -- the words
-unfoldable pub chal_words : Bool → List ℕ → Challenge → ℕ → Timestamp → List ℕ
+unfoldable pub chal_words : Bool → List ℕ → Challenge → ℕ → Option ℕ → List ℕ
 chal_words unicode s c pairs time =
     start_text (ascii "chal") c.flags unicode ++ (
     name_word (ascii " target=") unicode (field_bytes s c.fields.target_name) ++

@@ -1,30 +1,29 @@
 // The line of a CHALLENGE message that was taken.
 #![tactic(auto)]
 
-ghost use Rattle.std.specs.Prelude.{◌≡◌, ◌+◌, ◌≤◌, length};
+ghost use Rattle.std.specs.Prelude.{◌≡◌, ◌+◌, ◌≤◌, length, Ok};
 ghost use Rattle.place.specs.Place.{Wrote};
 ghost use Rattle.place.specs.Written.{room_holds, bytes_answer, bytes_after};
 ghost use Rattle.line_words.specs.Words.{Room};
-ghost use Rattle.read_challenge.specs.declared.FullReading.TheVariants.{Taken};
 ghost use Rattle.read_challenge.specs.Challenge.{full_reading_of};
 ghost use Rattle.line_challenge.specs.Chal.{time_text, time_word, chal_end, chal_words, chal_text};
 
-use line_max::put_two;
+use line_max::put_max;
 use line_words::digits::put_hex;
+use line_words::name::Names;
 use line_words::words::{
     put_name_word, put_number_word, put_start, room_after_name_word, room_after_number_word,
 };
 use place::Place;
-use place::written::{Written, room_holds};
+use place::written::room_holds;
 use read_challenge::{Challenge, Fields, FullChallenge};
-use target_info::Timestamp;
 use wire::check::Checked;
 use wire::refusal::Refusal;
 
-fn time_size(time: Timestamp) -> usize
+fn time_size(time: Option<u64>) -> usize
     ensures { (result ≡ length (time_word time)) × (result ≤ 22) }
 {
-    let Timestamp::Time(_) = time else {
+    let Some(_) = time else {
         return 0;
     };
     22
@@ -37,12 +36,13 @@ fn fits(
     c: Challenge,
     unicode: bool,
     pairs: u32,
-    time: Timestamp,
+    time: Option<u64>,
     room: usize,
 ) -> Checked
     ensures { result ≡ room_holds (length (chal_words unicode msg.now c pairs time)) room }
 {
-    let left = room_after_name_word(room, b" target=", msg, c.fields.target_name, unicode);
+    let names = Names { msg, unicode };
+    let left = room_after_name_word(room, b" target=", names, c.fields.target_name);
     let left = room_after_number_word(left, b" pairs=", pairs);
     room_holds(25 + time_size(time) + 8, left)
 }
@@ -57,23 +57,23 @@ fn put_time_text(p: Place, out: &mut [u8], t: u64) -> Place
     Place { at: at + digits.at }
 }
 
-fn put_time(p: Place, out: &mut [u8], time: Timestamp) -> Place
+fn put_time(p: Place, out: &mut [u8], time: Option<u64>) -> Place
     requires { Room p.at (time_word time) (length out.old) }
     ensures { Wrote out.old out.new p.at result.at (time_word time) }
 {
-    let Timestamp::Time(t) = time else {
+    let Some(t) = time else {
         return p;
     };
     put_time_text(p, out, t)
 }
 
-fn put_end(p: Place, out: &mut [u8], pairs: u32, time: Timestamp, f: Fields) -> Place
+fn put_end(p: Place, out: &mut [u8], pairs: u32, time: Option<u64>, f: Fields) -> Place
     requires { Room p.at (chal_end pairs time f) (length out.old) }
     ensures { Wrote out.old out.new p.at result.at (chal_end pairs time f) }
 {
     let p = put_number_word(p, out, b" pairs=", pairs);
     let p = put_time(p, out, time);
-    put_two(p, out, f.target_name, f.target_info)
+    put_max(p, out, &[f.target_name, f.target_info])
 }
 
 fn put(
@@ -82,13 +82,14 @@ fn put(
     c: Challenge,
     unicode: bool,
     pairs: u32,
-    time: Timestamp,
+    time: Option<u64>,
 ) -> Place
     requires { Room 0 (chal_words unicode msg.now c pairs time) (length out.old) }
     ensures { Wrote out.old out.new 0 result.at (chal_words unicode msg.now c pairs time) }
 {
     let p = put_start(out, b"chal", c.flags, unicode);
-    let p = put_name_word(p, out, b" target=", msg, c.fields.target_name, unicode);
+    let names = Names { msg, unicode };
+    let p = put_name_word(p, out, b" target=", names, c.fields.target_name);
     put_end(p, out, pairs, time, c.fields)
 }
 
@@ -98,21 +99,21 @@ fn write_words(
     c: Challenge,
     unicode: bool,
     pairs: u32,
-    time: Timestamp,
-) -> Written
+    time: Option<u64>,
+) -> Result<usize, Refusal>
     ensures answer { result ≡ bytes_answer (chal_words unicode msg.now c pairs time) out.old }
     ensures content { out.new ≡ bytes_after (chal_words unicode msg.now c pairs time) out.old }
 {
     let Checked::Held = fits(msg, c, unicode, pairs, time, out.len()) else {
-        return Written::Refused(Refusal::NoRoom);
+        return Err(Refusal::NoRoom);
     };
     let p = put(out, msg, c, unicode, pairs, time);
-    Written::Length(p.at)
+    Ok(p.at)
 }
 
 // The line of `f`, which the reader made of the message. Its list has at most 65,535 bytes, and no more pairs.
-pub fn write(out: &mut [u8], msg: &[u8], f: FullChallenge) -> Written
-    requires { full_reading_of msg.now ≡ Taken f }
+pub fn write(out: &mut [u8], msg: &[u8], f: FullChallenge) -> Result<usize, Refusal>
+    requires { full_reading_of msg.now ≡ Ok f }
     ensures answer { result ≡ bytes_answer (chal_text msg.now f.challenge) out.old }
     ensures content { out.new ≡ bytes_after (chal_text msg.now f.challenge) out.old }
 {

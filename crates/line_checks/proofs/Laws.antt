@@ -1,22 +1,21 @@
 -- Laws of the lines of checks.
-use Prim.Native.Nat.{ℕ, ◌+◌, ◌-◌, ◌≤◌, ◌<◌}
-use mathlib.Core.Path.{◌≡◌, refl, ap, ◌∙◌}
+use Prim.Native.Nat.{ℕ, ◌+◌, ◌-◌, ◌<◌}
+use mathlib.Core.Path.{◌≡◌}
 use mathlib.Core.Bool.{Bool, true, false, ◌&&◌, not}
-use mathlib.Core.List.{List, [], ◌++◌, append_assoc, append-nil}
+use mathlib.Core.List.{List, ◌++◌}
 use native.Mathlib.Numerals.{add-one}
 use native.Mathlib.Omega.{arith}
 use lib.Dec.{eqb}
-use lib.ListN.{length, get_or, drop, length-append, drop_of_length-le}
+use lib.ListN.{length, get_or, drop, length-append}
 use lib.Seq.{drop-cons}
-use borrow.Author.Tests.{eq-eqb, ne_eqb, le-leb, lt-leb}
+use borrow.Author.Tests.{eq-eqb, ne_eqb}
 use Rattle.wire.specs.Text.{ascii}
-use Rattle.wire.specs.declared.check.Checked.TheVariants.{Held, Failed}
 use Rattle.place.specs.Place.{Wrote}
-use Rattle.place.specs.Written.{room_holds}
-use Rattle.place.proofs.Laws.{and_then, nothing, kept}
+use Rattle.place.proofs.Laws.{nothing}
+use Rattle.place.proofs.Parts.{Partly, goes_on}
 use Rattle.line_words.specs.Words.{Room, number_word}
 use Rattle.line_checks.specs.declared.Figures.{Figures}
-use Rattle.line_checks.specs.Checks.{plain_words, about_pair, pair_figures, pair_words, message_words, figure_words, failed_words, words_of, check_line, lines_from, check_lines}
+use Rattle.line_checks.specs.Checks.{plain_words, about_pair, pair_figures, pair_words, message_words, figure_words, failed_words, words_of, check_line, lines_from}
 
 -- ---- a pair's words, where the check is about one
 
@@ -119,91 +118,21 @@ plain_leaves word n room p q i j = simp length-append (omega arith)
 
 -- ---- the checks from a place on
 
--- whether the next check is reached
-abbrev pub onward : Bool → Figures → ℕ → Bool
-onward reached f n = reached && not (eqb n f.number)
+module _ (f : Figures) (reached : Bool) (checks : List ℕ) (i : ℕ) where
+  lines_next : i < length checks →
+      lines_from reached f (drop i checks) ≡
+      check_line reached f (get_or checks i 0) ++ lines_from (reached && not (eqb (get_or checks i 0) f.number)) f (drop (i + 1) checks)
+  lines_next h = simp (drop-cons checks i 0 h, add-one)
 
-lines_next : (f : Figures) (reached : Bool) (checks : List ℕ) (i : ℕ) → i < length checks →
-    lines_from reached f (drop i checks) ≡ check_line reached f (get_or checks i 0) ++ lines_from (onward reached f (get_or checks i 0)) f (drop (i + 1) checks)
-lines_next f reached checks i h = simp (drop-cons checks i 0 h, add-one)
+  -- their length
+  pub next_size : i < length checks →
+      length (lines_from reached f (drop i checks)) ≡
+      length (words_of reached f (get_or checks i 0)) + 1 + length (lines_from (reached && not (eqb (get_or checks i 0) f.number)) f (drop (i + 1) checks))
+  unfolding check_line
+  next_size h = simp (lines_next h, length-append)
 
-lines_last : (f : Figures) (reached : Bool) (checks : List ℕ) (i : ℕ) → length checks ≤ i → lines_from reached f (drop i checks) ≡ []
-lines_last f reached checks i h = simp (drop_of_length-le checks {i = i} h)
-
-line_size : (f : Figures) (reached : Bool) (n : ℕ) → length (check_line reached f n) ≡ length (words_of reached f n) + 1
-unfolding check_line
-line_size f reached n = simp length-append
-
--- ---- passing over the lines: what those before i left of the room is for those from i on
-
-pub record Passed (f : Figures) (checks : List ℕ) (room left : ℕ) (reached : Bool) (i : ℕ) : Type 0 where
-  pub within : i ≤ length checks
-  pub done : ℕ
-  pub left_is : left + done ≡ room
-  pub split : length (check_lines f checks) ≡ done + length (lines_from reached f (drop i checks))
-
-pub none_passed : (f : Figures) (checks : List ℕ) (room : ℕ) → Passed f checks room room true 0
-unfolding check_lines
-none_passed f checks room = record { within = omega arith; done = 0; left_is = omega arith; split = omega arith }
-
-module _ (f : Figures) (checks : List ℕ) (room left : ℕ) (reached : Bool) (i : ℕ) (m : Passed f checks room left reached i) where
-  module _ (k : ℕ) (h : i < length checks) (e : k ≡ left - length (words_of reached f (get_or checks i 0))) where
-    next_size : length (lines_from reached f (drop i checks)) ≡
-        length (words_of reached f (get_or checks i 0)) + 1 + length (lines_from (onward reached f (get_or checks i 0)) f (drop (i + 1) checks))
-    next_size = simp (lines_next f reached checks i h, length-append, line_size)
-
-    pub one_passed : (k ≡ 0 → ⊥) → Passed f checks room (k - 1) (reached && not (eqb (get_or checks i 0) f.number)) (i + 1)
-    one_passed g =
-        record {
-          within = omega arith;
-          done = m.done + (length (words_of reached f (get_or checks i 0)) + 1);
-          left_is = omega (arith, m.left_is);
-          split = omega (arith, m.split, next_size);
-        }
-
-    pub no_line_room : k ≡ 0 → Failed ≡ room_holds (length (check_lines f checks)) room
-    no_line_room g = simp (lt-leb (length (check_lines f checks)) room (omega (arith, m.left_is, m.split, next_size)))
-
-  pub all_passed : length checks ≤ i → Held ≡ room_holds (length (check_lines f checks)) room
-  all_passed h =
-      let none : length (lines_from reached f (drop i checks)) ≡ 0 = simp (lines_last f reached checks i h) in
-      simp (le-leb (length (check_lines f checks)) room (omega (arith, m.left_is, m.split, none)))
-
--- ---- writing them: the lines of the checks before i are written
-
-pub record Listed (f : Figures) (l k checks : List ℕ) (q : ℕ) (reached : Bool) (i : ℕ) : Type 0 where
-  pub within : i ≤ length checks
-  pub done : List ℕ
-  pub wrote : Wrote l k 0 q done
-  pub split : check_lines f checks ≡ done ++ lines_from reached f (drop i checks)
-
-pub none_listed : (f : Figures) (l checks : List ℕ) → Listed f l l checks 0 true 0
-unfolding check_lines
-none_listed f l checks = record { within = omega arith; done = []; wrote = nothing l 0; split = refl }
-
-module _ (f : Figures) (l k checks : List ℕ) (q : ℕ) (reached : Bool) (i : ℕ) (n : Listed f l k checks q reached i) where
-  pub listed_kept : length k ≡ length l
-  listed_kept = kept l k n.done 0 q n.wrote
-
-  module _ (h : i < length checks) where
-    pub line_room : Room 0 (check_lines f checks) (length l) → Room q (check_line reached f (get_or checks i 0)) (length k)
-    line_room r =
-        let sizes : length (check_lines f checks) ≡ length n.done + (length (check_line reached f (get_or checks i 0))
-        + length (lines_from (onward reached f (get_or checks i 0)) f (drop (i + 1) checks))) =
-        ap length n.split ∙ simp (length-append, lines_next f reached checks i h) in
-        record { fits = omega (arith, sizes, listed_kept, n.wrote.place, r.fits) }
-
-    pub one_listed : (m : List ℕ) (p : ℕ) → Wrote k m q p (check_line reached f (get_or checks i 0)) →
-        Listed f l m checks p (reached && not (eqb (get_or checks i 0) f.number)) (i + 1)
-    one_listed m p v =
-        record {
-          within = omega arith;
-          done = n.done ++ check_line reached f (get_or checks i 0);
-          wrote = and_then l k m _ _ 0 q p n.wrote v;
-          split = n.split ∙ simp (append_assoc, lines_next f reached checks i h);
-        }
-
-  pub all_listed : length checks ≤ i → Wrote l k 0 q (check_lines f checks)
-  all_listed h =
-      let all : check_lines f checks ≡ n.done = n.split ∙ simp (lines_last f reached checks i h, append-nil) in
-      rw all n.wrote
+  -- one more line is written
+  module _ (l k all : List ℕ) (at q : ℕ) (w : Partly l k at q (lines_from reached f (drop i checks)) all) (h : i < length checks) where
+    pub line_written : (m : List ℕ) (p : ℕ) → Wrote k m q p (check_line reached f (get_or checks i 0)) →
+        Partly l m at p (lines_from (reached && not (eqb (get_or checks i 0) f.number)) f (drop (i + 1) checks)) all
+    line_written m p v = goes_on l k _ _ at q w _ _ (lines_next h) m p v

@@ -10,12 +10,12 @@ ghost use Rattle.line_checks.specs.Checks.{plain_words, about_pair, pair_figures
 use field::Field;
 use line_words::words::{put_number_word, room_after_number_word};
 use place::Place;
-use place::written::{Written, room_after};
+use place::written::room_after;
 use wire::check::Checked;
 use wire::refusal::Refusal;
 
 // What the print shows of the check that failed; all are 0 where none did.
-#[derive(Clone, Copy)]
+#[derive(Clone, Copy, Default)]
 pub struct Figures {
     pub number: u8,
     pub field: u8,
@@ -97,16 +97,13 @@ fn lines_fit(checks: &[u8], f: Figures, room: usize) -> Checked
 {
     let mut left = room;
     let mut reached = true;
-    let mut i: usize = 0;
-    while i < checks.len() {
-        let n = checks[i];
+    for &n in checks {
         left = room_after_words(left, reached, f, n);
         if left == 0 {
             return Checked::Failed;
         }
         left = left - 1;
         reached = reached & (n != f.number);
-        i = i + 1;
     }
     Checked::Held
 }
@@ -204,25 +201,22 @@ fn put(out: &mut [u8], checks: &[u8], f: Figures) -> Place
 {
     let mut p = Place { at: 0 };
     let mut reached = true;
-    let mut i: usize = 0;
-    while i < checks.len() {
-        let check = checks[i];
+    for &check in checks {
         p = put_line(p, out, reached, f, check);
         reached = reached & (check != f.number);
-        i = i + 1;
     }
     p
 }
 
 // The lines of these checks, given the figures of the one that failed, at the start of the output: their length, or 33 with the
 // output as it was.
-pub fn write(out: &mut [u8], checks: &[u8], f: Figures) -> Written
+pub fn write(out: &mut [u8], checks: &[u8], f: Figures) -> Result<usize, Refusal>
     ensures answer { result ≡ bytes_answer (check_lines f checks.now) out.old }
     ensures content { out.new ≡ bytes_after (check_lines f checks.now) out.old }
 {
     let Checked::Held = fits(checks, f, out.len()) else {
-        return Written::Refused(Refusal::NoRoom);
+        return Err(Refusal::NoRoom);
     };
     let p = put(out, checks, f);
-    Written::Length(p.at)
+    Ok(p.at)
 }

@@ -1,11 +1,11 @@
--- Laws of a label's text: a byte of it, and the label byte by byte.
-use Prim.Native.Nat.{ℕ, ◌+◌, ◌*◌, ◌≤◌, ◌<◌}
-use mathlib.Core.Path.{◌≡◌, ap}
+-- Laws of a label's text: a byte of it, and one byte more.
+use Prim.Native.Nat.{ℕ, ◌+◌, ◌≤◌, ◌<◌}
+use mathlib.Core.Path.{◌≡◌}
 use mathlib.Core.Bool.{false}
-use mathlib.Core.List.{List, [], ◌∷◌, ◌++◌}
+use mathlib.Core.List.{List, ◌∷◌, ◌++◌}
 use native.Mathlib.Numerals.{add-one}
 use native.Mathlib.Omega.{arith}
-use lib.ListN.{length, get_or, drop, length-append, drop_of_length-le}
+use lib.ListN.{length, get_or, drop}
 use lib.Seq.{drop-cons}
 use borrow.Author.Tests.{eq-eqb, ne_eqb}
 use Rattle.place.specs.Place.{Wrote}
@@ -14,7 +14,7 @@ use Rattle.line_words.specs.Name.{escape, unit_text}
 use Rattle.line_words.proofs.Numbers.{length-hex}
 use Rattle.line_words.proofs.Names.{byte_bound}
 use Rattle.line_dns_name.specs.DnsNameText.{byte_text, label_text}
-use Rattle.place.proofs.Parts.{Partly, none_written, all_written, still_kept, room_left, goes_on}
+use Rattle.place.proofs.Parts.{Partly, goes_on}
 
 -- ---- a full stop, and any other byte
 
@@ -49,59 +49,10 @@ module _ (b : ℕ) where
     pub wrote_other : (l k : List ℕ) (i j : ℕ) → (b ≡ 0x2E → ⊥) → Wrote l k i j (unit_text false w) → Wrote l k i j (byte_text b)
     wrote_other l k i j h v = rw (text_other h, ← q) v
 
--- ---- a label from a place of it on
-
-rest_byte : (s : List ℕ) (i : ℕ) → i < length s → label_text (drop i s) ≡ byte_text (get_or s i 0) ++ label_text (drop (i + 1) s)
+-- one more byte of a label is written
+pub byte_written : (s l k m all : List ℕ) (at q p i : ℕ) → Partly l k at q (label_text (drop i s)) all → i < length s →
+    Wrote k m q p (byte_text (get_or s i 0)) → Partly l m at p (label_text (drop (i + 1) s)) all
 unfolding label_text
-rest_byte s i h = simp (drop-cons s i 0 h, add-one)
-
-rest_none : (s : List ℕ) (i : ℕ) → length s ≤ i → label_text (drop i s) ≡ []
-unfolding label_text
-rest_none s i h = simp (drop_of_length-le s {i = i} h)
-
-pub record Sized (s : List ℕ) (n i : ℕ) : Type 0 where
-  pub within : i ≤ length s
-  pub small : n ≤ 4 * i
-  pub same : n + length (label_text (drop i s)) ≡ length (label_text s)
-
-pub none_sized : (s : List ℕ) → Sized s 0 0
-none_sized s = record { within = omega arith; small = omega arith; same = omega arith }
-
-module _ (s : List ℕ) (n i : ℕ) (w : Sized s n i) where
-  pub byte_sized : (k : ℕ) → i < length s → (k ≡ length (byte_text (get_or s i 0))) × (k ≤ 4) → Sized s (n + k) (i + 1)
-  byte_sized k h e =
-      record {
-        within = omega arith;
-        small = omega (arith, w.small, e.1);
-        same = omega (arith, w.same, e.0, ap length (rest_byte s i h), length-append (byte_text (get_or s i 0)) (label_text (drop (i + 1) s)));
-      }
-
-  pub all_sized : length s ≤ i → n ≡ length (label_text s)
-  all_sized h = omega (arith, w.same, ap length (rest_none s i h))
-
-  pub size_small : n ≤ 4 * length s
-  size_small = omega (arith, w.small, w.within)
-
-pub record Labelled (l k s : List ℕ) (at q i : ℕ) : Type 0 where
-  pub within : i ≤ length s
-  pub partly : Partly l k at q (label_text (drop i s)) (label_text s)
-
-pub none_labelled : (l s : List ℕ) (at : ℕ) → Labelled l l s at at 0
-none_labelled l s at = record { within = omega arith; partly = none_written l (label_text s) at }
-
-module _ (l k s : List ℕ) (at q i : ℕ) (w : Labelled l k s at q i) where
-  pub label_kept : length k ≡ length l
-  label_kept = still_kept l k _ _ at q w.partly
-
-  pub label_room : i < length s → at + length (label_text s) ≤ length l → q + length (byte_text (get_or s i 0)) ≤ length k
-  label_room h r = room_left l k _ _ at q w.partly (byte_text (get_or s i 0)) (label_text (drop (i + 1) s)) (rest_byte s i h) r
-
-  pub byte_labelled : (m : List ℕ) (p : ℕ) → i < length s → Wrote k m q p (byte_text (get_or s i 0)) → Labelled l m s at p (i + 1)
-  byte_labelled m p h v =
-      record {
-        within = omega arith;
-        partly = goes_on l k _ _ at q w.partly (byte_text (get_or s i 0)) (label_text (drop (i + 1) s)) (rest_byte s i h) m p v;
-      }
-
-  pub all_labelled : length s ≤ i → Wrote l k at q (label_text s)
-  all_labelled h = all_written l k _ _ at q w.partly (rest_none s i h)
+byte_written s l k m all at q p i w h v =
+    let next : label_text (drop i s) ≡ byte_text (get_or s i 0) ++ label_text (drop (i + 1) s) = simp (drop-cons s i 0 h, add-one) in
+    goes_on l k _ _ at q w _ _ next m p v

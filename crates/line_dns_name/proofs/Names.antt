@@ -1,4 +1,5 @@
 -- Laws of a name's text: a label with its full stop, and the name label by label.
+use Rattle.std.specs.Prelude.{Result, Ok, Err}
 use Prim.Native.Nat.{ℕ, zero, suc, ◌+◌, ◌*◌, ◌-◌, ◌≤◌}
 use mathlib.Core.Path.{◌≡◌, refl, ap, ◌∙◌}
 use mathlib.Core.Bool.{Bool, true, false, cond}
@@ -12,7 +13,7 @@ use Rattle.place.proofs.Laws.{and_then, kept}
 use Rattle.read_dns_name.specs.declared.Cursor.{Cursor}
 use Rattle.read_dns_name.specs.declared.Fault.{Fault}
 use Rattle.read_dns_name.specs.declared.Step.{Step}
-use Rattle.read_dns_name.specs.declared.Step.TheVariants.{Label, Jump, End, Refused}
+use Rattle.read_dns_name.specs.declared.Step.TheVariants.{Label, Jump, End}
 use Rattle.read_dns_name.specs.DnsName.{step_at, begin, past_label, jumped, on_step, labels_from, max_steps, labels_at}
 use Rattle.read_dns_name.proofs.Judged.{JudgedS, step_judged}
 use Rattle.read_dns_name.proofs.Walks.{Remaining, all_remain, split, remain_jump, none_at_end, none_at_fault, given_label}
@@ -64,7 +65,7 @@ module _ (first : Bool) (s : List ℕ) where
 abbrev pub lent : List ℕ → Cursor → ℕ → List ℕ
 lent s c n = take (c.at + 1 + n - (c.at + 1)) (drop (c.at + 1) s)
 
-module _ (s : List ℕ) (c : Cursor) (ls : List (List ℕ)) (w : Remaining s c ls) (r : Step) (e : r ≡ step_at s c) (n : ℕ) (h : r ≡ Label n) where
+module _ (s : List ℕ) (c : Cursor) (ls : List (List ℕ)) (w : Remaining s c ls) (r : Result Step Fault) (e : r ≡ step_at s c) (n : ℕ) (h : r ≡ (Ok (Label n))) where
   lent_small : length (lent s c n) ≤ n
   lent_small = simp (length-take, length-drop) (omega arith)
 
@@ -96,8 +97,8 @@ module _ (s : List ℕ) (start : ℕ) (c : Cursor) (first : Bool) (n : ℕ) (w :
   pub sizing_small : n ≤ 4 * 255
   sizing_small = omega (arith, w.small, sizing_short)
 
-  module _ (r : Step) (e : r ≡ step_at s c) where
-    module _ (i : ℕ) (h : r ≡ Label i) where
+  module _ (r : Result Step Fault) (e : r ≡ step_at s c) where
+    module _ (i : ℕ) (h : r ≡ (Ok (Label i))) where
       pub lent_short : length (lent s c i) ≤ 255
       lent_short = omega (arith, lent_small s c w.ls w.remain r e i h, (given_label s c w.remain.sound r e i h).0.most)
 
@@ -116,7 +117,7 @@ module _ (s : List ℕ) (start : ℕ) (c : Cursor) (first : Bool) (n : ℕ) (w :
             same = omega (arith, w.same, f.0, sizes s c w.ls w.remain r e i h first);
           })
 
-    pub sizing_jump : (to : ℕ) → r ≡ Jump to → (d : Cursor) → d ≡ jumped c to → Sizing s start d first n
+    pub sizing_jump : (to : ℕ) → r ≡ (Ok (Jump to)) → (d : Cursor) → d ≡ jumped c to → Sizing s start d first n
     sizing_jump to h d q =
         record {
           ls = w.ls;
@@ -129,10 +130,10 @@ module _ (s : List ℕ) (start : ℕ) (c : Cursor) (first : Bool) (n : ℕ) (w :
     unfolding joined
     sizing_stop z = omega (arith, w.same, ap (λ (x : List (List ℕ)). length (joined first x)) z)
 
-    pub sizing_end : r ≡ End → n ≡ length (dns_name_text (labels_at s start))
+    pub sizing_end : r ≡ Ok End → n ≡ length (dns_name_text (labels_at s start))
     sizing_end h = sizing_stop (none_at_end s c w.ls w.remain r e h)
 
-    pub sizing_fault : (f : Fault) → r ≡ Refused f → n ≡ length (dns_name_text (labels_at s start))
+    pub sizing_fault : (f : Fault) → r ≡ Err f → n ≡ length (dns_name_text (labels_at s start))
     sizing_fault f h = sizing_stop (none_at_fault s c w.ls w.remain r e f h)
 
 -- ---- writing it
@@ -154,8 +155,8 @@ module _ (l k s : List ℕ) (start at q : ℕ) (c : Cursor) (first : Bool) (w : 
   pub writing_kept : length k ≡ length l
   writing_kept = still_kept l k _ _ at q w.partly
 
-  module _ (r : Step) (e : r ≡ step_at s c) where
-    module _ (i : ℕ) (h : r ≡ Label i) where
+  module _ (r : Result Step Fault) (e : r ≡ step_at s c) where
+    module _ (i : ℕ) (h : r ≡ (Ok (Label i))) where
       pub writing_room : at + length (dns_name_text (labels_at s start)) ≤ length l → q + length (part_text first (lent s c i)) ≤ length k
       writing_room f = room_left l k _ _ at q w.partly (part_text first (lent s c i)) (joined false (split s c w.ls w.remain r e i h).more) (joined_label s c w.ls w.remain r e i h first) f
 
@@ -170,7 +171,7 @@ module _ (l k s : List ℕ) (start at q : ℕ) (c : Cursor) (first : Bool) (w : 
             partly = goes_on l k _ _ at q w.partly (part_text first (lent s c i)) (joined false (split s c w.ls w.remain r e i h).more) (joined_label s c w.ls w.remain r e i h first) m p v;
           })
 
-    pub writing_jump : (to : ℕ) → r ≡ Jump to → (d : Cursor) → d ≡ jumped c to → Writing l k s start at q d first
+    pub writing_jump : (to : ℕ) → r ≡ (Ok (Jump to)) → (d : Cursor) → d ≡ jumped c to → Writing l k s start at q d first
     writing_jump to h d f =
         record { ls = w.ls; remain = remain_jump s c w.ls w.remain r e to h d f; partly = w.partly }
 
@@ -178,10 +179,10 @@ module _ (l k s : List ℕ) (start at q : ℕ) (c : Cursor) (first : Bool) (w : 
     unfolding joined
     writing_stop z = all_written l k _ _ at q w.partly (ap (λ (x : List (List ℕ)). joined first x) z)
 
-    pub writing_end : r ≡ End → Wrote l k at q (dns_name_text (labels_at s start))
+    pub writing_end : r ≡ Ok End → Wrote l k at q (dns_name_text (labels_at s start))
     writing_end h = writing_stop (none_at_end s c w.ls w.remain r e h)
 
-    pub writing_fault : (f : Fault) → r ≡ Refused f → Wrote l k at q (dns_name_text (labels_at s start))
+    pub writing_fault : (f : Fault) → r ≡ Err f → Wrote l k at q (dns_name_text (labels_at s start))
     writing_fault f h = writing_stop (none_at_fault s c w.ls w.remain r e f h)
 
 -- ---- the text of a name has at most four bytes for each of its coded length
@@ -207,18 +208,18 @@ bound_from : (k : ℕ) (s : List ℕ) (c : Cursor) (first : Bool) → c.coded �
 unfolding joined
 bound_from zero s c first short few = omega arith
 bound_from (suc k) s c first short few = go (step_at s c) (step_judged s c few) (λ d b f g. bound_from k s d b f g) where
-  go : (x : Step) → JudgedS s c x →
+  go : (x : Result Step Fault) → JudgedS s c x →
       ((d : Cursor) (b : Bool) → d.coded ≤ 255 → d.jumps ≤ 16 → length (joined b (labels_from k s d)) + 4 * d.coded ≤ 1020) →
       length (joined first (on_step x (λ n. take n (drop (c.at + 1) s) ∷ labels_from k s (past_label c n)) (λ to. labels_from k s (jumped c to)) [] (λ e. [])))
       + 4 * c.coded ≤ 1020
-  go (Label n) j rest =
+  go (Ok (Label n)) j rest =
       let l : List ℕ = take n (drop (c.at + 1) s) in
       let more : List (List ℕ) = labels_from k s (past_label c n) in
       let short_label : length l ≤ n = simp length-take (omega arith) in
       omega (arith, rest (past_label c n) false j.1 few, part_bound first l, short_label, length-append (part_text first l) (joined false more))
-  go (Jump to) j rest = rest (jumped c to) first short (omega (arith, j.2))
-  go End j rest = omega arith
-  go (Refused e) j rest = omega arith
+  go (Ok (Jump to)) j rest = rest (jumped c to) first short (omega (arith, j.2))
+  go (Ok End) j rest = omega arith
+  go (Err e) j rest = omega arith
 
 pub text_bound : (s : List ℕ) (start : ℕ) → length (dns_name_text (labels_at s start)) ≤ 1020
 unfolding dns_name_text labels_at

@@ -10,19 +10,13 @@ use line_words::name::{put_escape, put_unit, unit_size};
 use place::Place;
 use read_dns_name::{Cursor, Step, step_at};
 
-fn wide(x: u8) -> u16
-    ensures { result ≡ x }
-{
-    x as u16
-}
-
 fn byte_size(b: u8) -> usize
     ensures { (result ≡ length (byte_text b)) × (result ≤ 4) }
 {
     if b == b'.' {
         return 4;
     }
-    unit_size(wide(b), false)
+    unit_size(u16::from(b), false)
 }
 
 fn put_byte(p: Place, out: &mut [u8], b: u8) -> Place
@@ -30,33 +24,31 @@ fn put_byte(p: Place, out: &mut [u8], b: u8) -> Place
     ensures { Wrote out.old out.new p.at result.at (byte_text b) }
 {
     if b == b'.' {
-        return put_escape(p, out, b'x', wide(b), 2);
+        return put_escape(p, out, b'x', u16::from(b), 2);
     }
-    put_unit(p, out, wide(b), false)
+    put_unit(p, out, u16::from(b), false)
 }
 
+#[tactic(auto, unfolding(crate::specs::DnsNameText::label_text))]
 fn label_size(label: &[u8]) -> usize
     requires { length label.now ≤ 255 }
     ensures { (result ≡ length (label_text label.now)) × (result ≤ 4 * length label.now) }
 {
-    let mut size: usize = 0;
-    let mut i: usize = 0;
-    while i < label.len() {
-        size = size + byte_size(label[i]);
-        i = i + 1;
+    let mut size = 0;
+    for &b in label {
+        size += byte_size(b);
     }
     size
 }
 
+#[tactic(auto, unfolding(crate::specs::DnsNameText::label_text))]
 fn put_label(p: Place, out: &mut [u8], label: &[u8]) -> Place
     requires { p.at + length (label_text label.now) ≤ length out.old }
     ensures { Wrote out.old out.new p.at result.at (label_text label.now) }
 {
     let mut q = p;
-    let mut i: usize = 0;
-    while i < label.len() {
-        q = put_byte(q, out, label[i]);
-        i = i + 1;
+    for &b in label {
+        q = put_byte(q, out, b);
     }
     q
 }
@@ -90,23 +82,20 @@ pub fn name_size(buf: &[u8], start: usize) -> usize
     let mut c = Cursor::begin(start);
     let mut first = true;
     let mut size: usize = 0;
-    let all = loop {
-        match step_at(buf, c) {
+    while let Ok(step) = step_at(buf, c) {
+        match step {
             Step::Label(n) => {
                 let from = c.at + 1;
                 let to = from + n;
-                size = size + part_size(&buf[from..to], first);
+                size += part_size(&buf[from..to], first);
                 first = false;
                 c = c.past_label(n);
             }
-            Step::Jump(to) => {
-                c = c.jumped(to);
-            }
-            Step::End => break size,
-            Step::Refused(_) => break size,
+            Step::Jump(to) => c = c.jumped(to),
+            Step::End => return size,
         }
-    };
-    all
+    }
+    size
 }
 
 // The text of the name at a place, from `p` on.
@@ -117,8 +106,8 @@ pub fn put_name(p: Place, out: &mut [u8], buf: &[u8], start: usize) -> Place
     let mut c = Cursor::begin(start);
     let mut first = true;
     let mut q = p;
-    let end = loop {
-        match step_at(buf, c) {
+    while let Ok(step) = step_at(buf, c) {
+        match step {
             Step::Label(n) => {
                 let from = c.at + 1;
                 let to = from + n;
@@ -126,12 +115,9 @@ pub fn put_name(p: Place, out: &mut [u8], buf: &[u8], start: usize) -> Place
                 first = false;
                 c = c.past_label(n);
             }
-            Step::Jump(to) => {
-                c = c.jumped(to);
-            }
-            Step::End => break q,
-            Step::Refused(_) => break q,
+            Step::Jump(to) => c = c.jumped(to),
+            Step::End => return q,
         }
-    };
-    end
+    }
+    q
 }

@@ -1,7 +1,8 @@
 // The last word of the lines of NTLM messages, which marks the fields whose MaxLen is unlike Len, and the line's end.
 #![tactic(auto)]
 
-ghost use Rattle.std.specs.Prelude.{◌≡◌, [], ◌∷◌, length};
+ghost use Rattle.std.specs.Prelude.{◌≡◌, map, length};
+ghost use Rattle.std.specs.List.{enumerate_from};
 ghost use Rattle.place.specs.Place.{Wrote};
 ghost use Rattle.line_words.specs.Words.{Room};
 ghost use Rattle.line_max.specs.Max.{max_digit, max_end};
@@ -10,6 +11,7 @@ use field::Field;
 use place::Place;
 
 // One that doesn't count has neither MaxLen nor Len.
+#[tactic(auto, unfolding(crate::specs::Max::max_digit))]
 fn digit(f: Field) -> u8
     ensures { result ≡ max_digit f }
 {
@@ -19,63 +21,24 @@ fn digit(f: Field) -> u8
     b'1'
 }
 
-fn of_two(first: Field, second: Field) -> [u8; 8]
-    ensures { result ≡ max_end ((1, first) ∷ (2, second) ∷ []) }
+// The digit of each field, in the order given.
+fn put_digits(p: Place, out: &mut [u8], fields: &[Field]) -> Place
+    requires { Room p.at (map max_digit fields.now) (length out.old) }
+    ensures { Wrote out.old out.new p.at result.at (map max_digit fields.now) }
 {
-    [
-        b' ',
-        b'm',
-        b'a',
-        b'x',
-        b'=',
-        digit(first),
-        digit(second),
-        b'\n',
-    ]
+    let mut p = p;
+    for f in fields {
+        p = p.put_u8(out, digit(*f));
+    }
+    p
 }
 
-fn of_six(a: Field, b: Field, c: Field, d: Field, e: Field, f: Field) -> [u8; 12]
-    ensures { result ≡ max_end ((1, a) ∷ (2, b) ∷ (3, c) ∷ (4, d) ∷ (5, e) ∷ (6, f) ∷ []) }
+// The end of the line of a message with these fields, which are given in field order.
+pub fn put_max(p: Place, out: &mut [u8], fields: &[Field]) -> Place
+    requires { Room p.at (max_end (enumerate_from 1 fields.now)) (length out.old) }
+    ensures { Wrote out.old out.new p.at result.at (max_end (enumerate_from 1 fields.now)) }
 {
-    [
-        b' ',
-        b'm',
-        b'a',
-        b'x',
-        b'=',
-        digit(a),
-        digit(b),
-        digit(c),
-        digit(d),
-        digit(e),
-        digit(f),
-        b'\n',
-    ]
-}
-
-// The end of the line of a message of two fields, which are given in field order.
-pub fn put_two(p: Place, out: &mut [u8], a: Field, b: Field) -> Place
-    requires { Room p.at (max_end ((1, a) ∷ (2, b) ∷ [])) (length out.old) }
-    ensures { Wrote out.old out.new p.at result.at (max_end ((1, a) ∷ (2, b) ∷ [])) }
-{
-    let end = of_two(a, b);
-    p.put_bytes(out, &end)
-}
-
-// And that of a message of six.
-pub fn put_six(
-    p: Place,
-    out: &mut [u8],
-    a: Field,
-    b: Field,
-    c: Field,
-    d: Field,
-    e: Field,
-    f: Field,
-) -> Place
-    requires { Room p.at (max_end ((1, a) ∷ (2, b) ∷ (3, c) ∷ (4, d) ∷ (5, e) ∷ (6, f) ∷ [])) (length out.old) }
-    ensures { Wrote out.old out.new p.at result.at (max_end ((1, a) ∷ (2, b) ∷ (3, c) ∷ (4, d) ∷ (5, e) ∷ (6, f) ∷ [])) }
-{
-    let end = of_six(a, b, c, d, e, f);
-    p.put_bytes(out, &end)
+    let p = p.put_bytes(out, b" max=");
+    let p = put_digits(p, out, fields);
+    p.put_u8(out, b'\n')
 }

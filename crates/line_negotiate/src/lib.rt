@@ -1,18 +1,18 @@
 // The line of a NEGOTIATE message that was taken.
 #![tactic(auto)]
 
-ghost use Rattle.std.specs.Prelude.{◌≡◌, ◌-◌, length};
+ghost use Rattle.std.specs.Prelude.{◌≡◌, ◌-◌, length, Ok};
 ghost use Rattle.place.specs.Place.{Wrote};
 ghost use Rattle.place.specs.Written.{room_holds, bytes_answer, bytes_after};
 ghost use Rattle.line_words.specs.Words.{Room};
-ghost use Rattle.read_negotiate.specs.declared.Reading.TheVariants.{Taken};
 ghost use Rattle.read_negotiate.specs.Negotiate.{read_negotiate};
 ghost use Rattle.line_negotiate.specs.Nego.{nego_names, nego_text};
 
-use line_max::put_two;
+use line_max::put_max;
+use line_words::name::Names;
 use line_words::words::{put_flags_word, put_name_word, room_after_name_word, surely_fits};
 use place::Place;
-use place::written::{Written, room_holds};
+use place::written::room_holds;
 use read_negotiate::Negotiate;
 use wire::check::Checked;
 use wire::refusal::Refusal;
@@ -22,8 +22,12 @@ fn room_after_names(room: usize, msg: &[u8], m: Negotiate) -> usize
     ensures { result ≡ room - length (nego_names msg.now m) }
 {
     let f = m.fields;
-    let left = room_after_name_word(room, b" domain=", msg, f.domain, false);
-    room_after_name_word(left, b" work=", msg, f.workstation, false)
+    let names = Names {
+        msg,
+        unicode: false,
+    };
+    let left = room_after_name_word(room, b" domain=", names, f.domain);
+    room_after_name_word(left, b" work=", names, f.workstation)
 }
 
 // Check 33. Besides the names a line has 41 bytes, 14 of them for the names' labels. Where it doesn't surely fit, it is measured,
@@ -43,8 +47,12 @@ fn put_names(p: Place, out: &mut [u8], msg: &[u8], m: Negotiate) -> Place
     ensures { Wrote out.old out.new p.at result.at (nego_names msg.now m) }
 {
     let f = m.fields;
-    let p = put_name_word(p, out, b" domain=", msg, f.domain, false);
-    put_name_word(p, out, b" work=", msg, f.workstation, false)
+    let names = Names {
+        msg,
+        unicode: false,
+    };
+    let p = put_name_word(p, out, b" domain=", names, f.domain);
+    put_name_word(p, out, b" work=", names, f.workstation)
 }
 
 fn put(out: &mut [u8], msg: &[u8], m: Negotiate) -> Place
@@ -54,18 +62,18 @@ fn put(out: &mut [u8], msg: &[u8], m: Negotiate) -> Place
     let p = Place { at: 0 }.put_bytes(out, b"nego");
     let p = put_flags_word(p, out, m.flags.bits);
     let p = put_names(p, out, msg, m);
-    put_two(p, out, m.fields.domain, m.fields.workstation)
+    put_max(p, out, &[m.fields.domain, m.fields.workstation])
 }
 
 // The line of `m`, which was read from the message.
-pub fn write(out: &mut [u8], msg: &[u8], m: Negotiate) -> Written
-    requires { read_negotiate msg.now ≡ Taken m }
+pub fn write(out: &mut [u8], msg: &[u8], m: Negotiate) -> Result<usize, Refusal>
+    requires { read_negotiate msg.now ≡ Ok m }
     ensures answer { result ≡ bytes_answer (nego_text msg.now m) out.old }
     ensures content { out.new ≡ bytes_after (nego_text msg.now m) out.old }
 {
     let Checked::Held = fits(msg, m, out.len()) else {
-        return Written::Refused(Refusal::NoRoom);
+        return Err(Refusal::NoRoom);
     };
     let p = put(out, msg, m);
-    Written::Length(p.at)
+    Ok(p.at)
 }

@@ -1,1 +1,2 @@
 pub mod Nl
+pub mod NlWord

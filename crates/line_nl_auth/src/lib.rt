@@ -1,73 +1,119 @@
 // The line of an NL_AUTH message that was taken.
 #![tactic(auto)]
 
-ghost use Rattle.std.specs.Prelude.{◌≡◌, ◌++◌, ◌+◌, ◌-◌, ◌≤◌, length};
+ghost use Rattle.std.specs.Prelude.{◌≡◌, ◌++◌, ◌+◌, ◌-◌, ◌≤◌, length, Ok};
 ghost use Rattle.place.specs.Place.{Wrote};
 ghost use Rattle.place.specs.Written.{room_holds, bytes_answer, bytes_after};
 ghost use Rattle.wire.specs.Text.{ascii};
-ghost use Rattle.line_words.specs.Words.{Room, number_word, string_word};
-ghost use Rattle.read_nl_auth.specs.declared.Reading.TheVariants.{Taken};
+ghost use Rattle.line_words.specs.Words.{Room, number_word};
+ghost use Rattle.line_nl_auth.specs.NlWord.{word_text};
 ghost use Rattle.read_nl_auth.specs.NlAuth.{read_nl_auth};
-ghost use Rattle.line_nl_string.specs.StringText.{either_text};
 ghost use Rattle.line_nl_auth.specs.Nl.{nl_start, nl_oem, nl_utf8, nl_text};
 
 use line_nl_string::{put_text, room_after_text};
 use line_words::words::{put_flags_word, put_number_word, room_after_number_word, surely_fits};
 use place::Place;
-use place::written::{Written, room_after, room_holds};
+use place::written::{room_after, room_holds};
 use read_nl_auth::NlAuth;
 use read_nl_auth::string::NlString;
 use wire::check::Checked;
 use wire::refusal::Refusal;
 
-// What the word of a string leaves of a room; it is left out where its bit is clear. `utf8` is set for strings C, D and E.
-fn room_after_string(
-    room: usize,
-    label: &[u8],
-    msg: &[u8],
-    set: bool,
+// The word of a string of a message; it is left out where the string's bit is clear. `utf8` is set for strings C, D and E.
+#[derive(Clone, Copy)]
+struct Word<'a> {
+    label: [u8; 3],
+    msg: &'a [u8],
+    given: bool,
     utf8: bool,
     string: NlString,
-) -> usize
-    ensures { result ≡ room - length (string_word label.now set (either_text utf8 msg.now string)) }
-{
-    if set {
-        return room_after_text(room_after(room, label.len()), msg, utf8, string);
+}
+
+impl Word<'_> {
+    // What the word leaves of a room.
+    #[tactic(auto, unfolding(crate::specs::NlWord::word_text, line_words::specs::Words::string_word))]
+    fn room_after(self, room: usize) -> usize
+        ensures { result ≡ room - length (word_text self.entry) }
+    {
+        if self.given {
+            let room = room_after(room, self.label.len());
+            return room_after_text(room, self.msg, self.utf8, self.string);
+        }
+        room
     }
-    room
+
+    // The word, from `p` on.
+    #[tactic(auto, unfolding(crate::specs::NlWord::word_text, line_words::specs::Words::string_word))]
+    fn put(self, p: Place, out: &mut [u8]) -> Place
+        requires { Room p.at (word_text self) (length out.old) }
+        ensures { Wrote out.old out.new p.at result.at (word_text self.entry) }
+    {
+        if !self.given {
+            return p;
+        }
+        let p = p.put_bytes(out, &self.label);
+        let at = p.at;
+        let text = put_text(&mut out[at..], self.msg, self.utf8, self.string);
+        Place { at: at + text.at }
+    }
 }
 
-// What the OEM strings leave of a room.
-fn room_after_oem(room: usize, msg: &[u8], m: NlAuth) -> usize
-    ensures { result ≡ room - length (nl_oem msg.now m) }
+// The OEM strings' words, A and B.
+#[tactic(auto, unfolding(crate::specs::NlWord::word_text, crate::specs::Nl::nl_oem, line_nl_string::specs::StringText::either_text))]
+fn oem_words(msg: &[u8], m: NlAuth) -> (Word<'_>, Word<'_>)
+    ensures { word_text result.0 ++ word_text result.1 ≡ nl_oem msg.entry.now m }
 {
-    let s = m.strings;
-    let left = room_after_string(room, b" a=", msg, m.flags.nb_domain(), false, s.nb_domain);
-    room_after_string(
-        left,
-        b" b=",
+    let a = Word {
+        label: *b" a=",
         msg,
-        m.flags.nb_computer(),
-        false,
-        s.nb_computer,
-    )
+        given: m.flags.nb_domain(),
+        utf8: false,
+        string: m.strings.nb_domain,
+    };
+    let b = Word {
+        label: *b" b=",
+        given: m.flags.nb_computer(),
+        string: m.strings.nb_computer,
+        ..a
+    };
+    (a, b)
 }
 
-// What the UTF-8 strings leave of a room.
-fn room_after_utf8(room: usize, msg: &[u8], m: NlAuth) -> usize
-    ensures { result ≡ room - length (nl_utf8 msg.now m) }
+// The UTF-8 strings' words, C to E.
+#[tactic(auto, unfolding(crate::specs::NlWord::word_text, crate::specs::Nl::nl_utf8, line_nl_string::specs::StringText::either_text))]
+fn utf8_words(msg: &[u8], m: NlAuth) -> (Word<'_>, Word<'_>, Word<'_>)
+    ensures { word_text result.0 ++ (word_text result.1 ++ word_text result.2) ≡ nl_utf8 msg.entry.now m }
 {
-    let s = m.strings;
-    let left = room_after_string(room, b" c=", msg, m.flags.dns_domain(), true, s.dns_domain);
-    let left = room_after_string(left, b" d=", msg, m.flags.dns_host(), true, s.dns_host);
-    room_after_string(
-        left,
-        b" e=",
+    let c = Word {
+        label: *b" c=",
         msg,
-        m.flags.utf8_computer(),
-        true,
-        s.utf8_computer,
-    )
+        given: m.flags.dns_domain(),
+        utf8: true,
+        string: m.strings.dns_domain,
+    };
+    let d = Word {
+        label: *b" d=",
+        given: m.flags.dns_host(),
+        string: m.strings.dns_host,
+        ..c
+    };
+    let e = Word {
+        label: *b" e=",
+        given: m.flags.utf8_computer(),
+        string: m.strings.utf8_computer,
+        ..c
+    };
+    (c, d, e)
+}
+
+// What the strings' words leave of a room.
+fn room_after_words(room: usize, msg: &[u8], m: NlAuth) -> usize
+    ensures { result ≡ room - (length (nl_oem msg.now m) + length (nl_utf8 msg.now m)) }
+{
+    let (a, b) = oem_words(msg, m);
+    let (c, d, e) = utf8_words(msg, m);
+    let left = b.room_after(a.room_after(room));
+    e.room_after(d.room_after(c.room_after(left)))
 }
 
 // The most bytes that a line has besides strings A and B: 18 for the type's word, 15 for the flags', 3 for each of the five labels,
@@ -90,10 +136,10 @@ fn fits(msg: &[u8], m: NlAuth, room: usize) -> Checked
         return Checked::Held;
     }
     let left = room_after_number_word(room, b"nl type=", m.message_type);
-    let left = room_after_oem(left, msg, m);
-    room_holds(15 + 1, room_after_utf8(left, msg, m))
+    room_holds(15 + 1, room_after_words(left, msg, m))
 }
 
+#[tactic(auto, unfolding(crate::specs::Nl::nl_start))]
 fn put_start(out: &mut [u8], message_type: u32, bits: u32) -> Place
     requires { Room 0 (nl_start message_type bits) (length out.old) }
     ensures { Wrote out.old out.new 0 result.at (nl_start message_type bits) }
@@ -103,84 +149,26 @@ fn put_start(out: &mut [u8], message_type: u32, bits: u32) -> Place
     put_flags_word(p, out, bits)
 }
 
-fn put_word(
-    p: Place,
-    out: &mut [u8],
-    label: &[u8],
-    msg: &[u8],
-    utf8: bool,
-    string: NlString,
-) -> Place
-    requires { Room p.at (label.now ++ either_text utf8 msg.now string) (length out.old) }
-    ensures { Wrote out.old out.new p.at result.at (label.now ++ either_text utf8 msg.now string) }
-{
-    let p = p.put_bytes(out, label);
-    let at = p.at;
-    let text = put_text(&mut out[at..], msg, utf8, string);
-    Place { at: at + text.at }
-}
-
-fn put_string(
-    p: Place,
-    out: &mut [u8],
-    label: &[u8],
-    msg: &[u8],
-    set: bool,
-    utf8: bool,
-    string: NlString,
-) -> Place
-    requires { Room p.at (string_word label.now set (either_text utf8 msg.now string)) (length out.old) }
-    ensures { Wrote out.old out.new p.at result.at (string_word label.now set (either_text utf8 msg.now string)) }
-{
-    if set {
-        return put_word(p, out, label, msg, utf8, string);
-    }
-    p
-}
-
 fn put_oem(p: Place, out: &mut [u8], msg: &[u8], m: NlAuth) -> Place
     requires { Room p.at (nl_oem msg.now m) (length out.old) }
     ensures { Wrote out.old out.new p.at result.at (nl_oem msg.now m) }
 {
-    let s = m.strings;
-    let p = put_string(p, out, b" a=", msg, m.flags.nb_domain(), false, s.nb_domain);
-    put_string(
-        p,
-        out,
-        b" b=",
-        msg,
-        m.flags.nb_computer(),
-        false,
-        s.nb_computer,
-    )
+    let (a, b) = oem_words(msg, m);
+    let p = a.put(p, out);
+    b.put(p, out)
 }
 
 fn put_utf8(p: Place, out: &mut [u8], msg: &[u8], m: NlAuth) -> Place
     requires { Room p.at (nl_utf8 msg.now m) (length out.old) }
     ensures { Wrote out.old out.new p.at result.at (nl_utf8 msg.now m) }
 {
-    let s = m.strings;
-    let p = put_string(
-        p,
-        out,
-        b" c=",
-        msg,
-        m.flags.dns_domain(),
-        true,
-        s.dns_domain,
-    );
-    let p = put_string(p, out, b" d=", msg, m.flags.dns_host(), true, s.dns_host);
-    put_string(
-        p,
-        out,
-        b" e=",
-        msg,
-        m.flags.utf8_computer(),
-        true,
-        s.utf8_computer,
-    )
+    let (c, d, e) = utf8_words(msg, m);
+    let p = c.put(p, out);
+    let p = d.put(p, out);
+    e.put(p, out)
 }
 
+#[tactic(auto, unfolding(crate::specs::Nl::nl_text))]
 fn put(out: &mut [u8], msg: &[u8], m: NlAuth) -> Place
     requires { Room 0 (nl_text msg.now m) (length out.old) }
     ensures { Wrote out.old out.new 0 result.at (nl_text msg.now m) }
@@ -192,14 +180,13 @@ fn put(out: &mut [u8], msg: &[u8], m: NlAuth) -> Place
 }
 
 // The line of `m`, which was read from the message.
-pub fn write(out: &mut [u8], msg: &[u8], m: NlAuth) -> Written
-    requires { read_nl_auth msg.now ≡ Taken m }
+pub fn write(out: &mut [u8], msg: &[u8], m: NlAuth) -> Result<usize, Refusal>
+    requires { read_nl_auth msg.now ≡ Ok m }
     ensures answer { result ≡ bytes_answer (nl_text msg.now m) out.old }
     ensures content { out.new ≡ bytes_after (nl_text msg.now m) out.old }
 {
     let Checked::Held = fits(msg, m, out.len()) else {
-        return Written::Refused(Refusal::NoRoom);
+        return Err(Refusal::NoRoom);
     };
-    let p = put(out, msg, m);
-    Written::Length(p.at)
+    Ok(put(out, msg, m).at)
 }

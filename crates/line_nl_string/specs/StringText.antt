@@ -1,15 +1,11 @@
 -- The text of an NL_AUTH string, as the message's line has it, and the call that writes it alone.
-use Rattle.std.specs.Prelude.{ℕ, Bool, false, ◌&&◌, cond, List, [], eqb}
+use Rattle.std.specs.Prelude.{Result, Ok, Err, ℕ, Bool, false, ◌&&◌, cond, List, [], eqb}
 use Rattle.wire.specs.declared.refusal.Refusal.{Refusal}
-use Rattle.place.specs.declared.written.Written.{Written}
-use Rattle.place.specs.declared.written.Written.TheVariants.{Refused}
 use Rattle.place.specs.Written.{bytes_answer, bytes_after}
 use Rattle.line_words.specs.Name.{name_text}
 use Rattle.line_dns_name.specs.DnsNameText.{dns_name_text as dns_text}
 use Rattle.nl_auth_flags.specs.Flags.{nb_domain, nb_computer, dns_domain, dns_host, utf8_computer}
 use Rattle.read_nl_auth.specs.declared.NlAuth.{NlAuth}
-use Rattle.read_nl_auth.specs.declared.Reading.{Reading}
-use Rattle.read_nl_auth.specs.declared.Reading.TheVariants.{Taken, Refused as Not}
 use Rattle.read_nl_auth.specs.declared.string.NlString.{NlString}
 use Rattle.read_nl_auth.specs.NlAuth.{string_bytes, labels_of, read_nl_auth}
 
@@ -41,12 +37,12 @@ string_text s m which =
 
 -- ---- the call: the reading's refusals, then 33
 
-abbrev pub on_reading : {A : Type 0} → Reading → (NlAuth → A) → (Refusal → A) → A
-on_reading (Taken m) x f = x m
-on_reading (Not e) x f = f e
+abbrev pub on_reading : {A : Type 0} → Result NlAuth Refusal → (NlAuth → A) → (Refusal → A) → A
+on_reading (Ok m) x f = x m
+on_reading (Err e) x f = f e
 
-unfoldable pub text_answer : List ℕ → ℕ → List ℕ → Written
-text_answer s which out = on_reading (read_nl_auth s) (λ m. bytes_answer (string_text s m which) out) (λ e. Refused e)
+unfoldable pub text_answer : List ℕ → ℕ → List ℕ → Result ℕ Refusal
+text_answer s which out = on_reading (read_nl_auth s) (λ m. bytes_answer (string_text s m which) out) (λ e. Err e)
 
 unfoldable pub text_after : List ℕ → ℕ → List ℕ → List ℕ
 text_after s which out = on_reading (read_nl_auth s) (λ m. bytes_after (string_text s m which) out) (λ e. out)

@@ -1,24 +1,14 @@
 -- Laws of a refusal's line.
-use Prim.Native.Nat.{ℕ, ◌+◌, ◌-◌, ◌^◌, ◌<◌}
+use Prim.Native.Nat.{ℕ, ◌+◌, ◌-◌}
 use mathlib.Core.Path.{◌≡◌}
 use native.Mathlib.Omega.{arith}
 use lib.ListN.{length, length-append}
 use Rattle.wire.specs.Text.{ascii}
 use Rattle.wire.specs.declared.check.Checked.{Checked}
-use Rattle.wire.specs.declared.refusal.Refusal.{Refusal}
-use Rattle.wire.specs.Refusal.{number_of, field_of, place_of}
 use Rattle.place.specs.Written.{room_holds}
 use Rattle.line_words.specs.Words.{number_word}
 use Rattle.line_words.proofs.Calls.{of_left}
-use Rattle.line_refused.specs.Refused.{refused_end, refused_text, refused_line}
-
--- the line, by the number, the field and the place that it was asked for
-pub refusal_line : (e : Refusal) (n f at : ℕ) → n ≡ number_of e → f ≡ field_of e → at ≡ place_of e → refused_text n f at ≡ refused_line e
-unfolding refused_line
-refusal_line e n f at p q r = rw (← p, ← q, ← r)
-
-pub place_fits : (e : Refusal) (at : ℕ) → at ≡ place_of e → place_of e < 2 ^ 32 → at < 4294967296
-place_fits e at p h = omega arith
+use Rattle.line_refused.specs.Refused.{refused_end, refused_text}
 
 -- check 33 by what the words leave
 pub refused_fits : (n f at room p q v : ℕ) (r : Checked) → p ≡ room - length (number_word (ascii "refused ") n) →

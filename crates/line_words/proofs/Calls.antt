@@ -1,4 +1,6 @@
 -- Laws of the call of a line: check 33 by what its words leave of the room.
+use Rattle.std.specs.Prelude.{Result, Ok, Err}
+use Rattle.wire.specs.declared.refusal.Refusal.{Refusal}
 use Prim.Native.Nat.{ℕ, ◌+◌, ◌-◌, ◌≤◌, ◌<◌}
 use mathlib.Core.Path.{◌≡◌, refl, sym, ap, ◌∙◌}
 use mathlib.Core.Bool.{Bool, true, false}
@@ -9,12 +11,9 @@ use lib.ListN.{length}
 use borrow.Author.Tests.{leb-true, leb-false, le-leb, lt-leb}
 use Rattle.wire.specs.declared.check.Checked.{Checked}
 use Rattle.wire.specs.declared.check.Checked.TheVariants.{Held, Failed}
-use Rattle.wire.specs.declared.check.Verdict.TheVariants.{Clear, Refused as Not}
 use Rattle.wire.specs.declared.refusal.Refusal.TheVariants.{NoRoom}
 use Rattle.wire.specs.Check.{checked}
 use Rattle.wire.proofs.Laws.{held_true}
-use Rattle.place.specs.declared.written.Written.{Written}
-use Rattle.place.specs.declared.written.Written.TheVariants.{Length, Refused}
 use Rattle.place.specs.Place.{Wrote}
 use Rattle.place.specs.Written.{room_holds, bytes_hold, bytes_answer, bytes_after}
 use Rattle.place.proofs.Writings.{written, stored}
@@ -40,13 +39,13 @@ module _ (line out : List ℕ) (r : Checked) (p : r ≡ room_holds (length line)
       let fits : length line ≤ length out = leb-true (length line) (length out) (held_true (leb (length line) (length out)) (sym p ∙ h)) in
       record { fits = omega arith }
 
-  clear : r ≡ Held → Clear ≡ bytes_hold line out
+  clear : r ≡ Held → (Ok tt) ≡ bytes_hold line out
   clear h = simp (← p, h)
 
-  refused : r ≡ Failed → Not NoRoom ≡ bytes_hold line out
+  refused : r ≡ Failed → Err NoRoom ≡ bytes_hold line out
   refused h = simp (← p, h)
 
-  pub no_room : r ≡ Failed → Refused NoRoom ≡ bytes_answer line out
+  pub no_room : r ≡ Failed → Err NoRoom ≡ bytes_answer line out
   unfolding bytes_answer
   no_room h = simp (← refused h)
 
@@ -55,17 +54,17 @@ module _ (line out : List ℕ) (r : Checked) (p : r ≡ room_holds (length line)
   as_it_was h = simp (← refused h)
 
   module _ (k : List ℕ) (q : ℕ) (h : r ≡ Held) (w : Wrote out k 0 q line) where
-    pub its_length : Length q ≡ bytes_answer line out
+    pub its_length : Ok q ≡ bytes_answer line out
     unfolding bytes_answer
-    its_length = written (bytes_hold line out) Clear (clear h) refl out k line q w
+    its_length = written (bytes_hold line out) (Ok tt) (clear h) refl out k line q w
 
     pub its_bytes : k ≡ bytes_after line out
     unfolding bytes_after
-    its_bytes = stored (bytes_hold line out) Clear (clear h) refl out k line q w (omega (arith, (has_room h).fits))
+    its_bytes = stored (bytes_hold line out) (Ok tt) (clear h) refl out k line q w (omega (arith, (has_room h).fits))
 
 -- the call of one line is that of another that is the same
 module _ (x y out : List ℕ) where
-  pub same_answer : (r : Written) → r ≡ bytes_answer x out → x ≡ y → r ≡ bytes_answer y out
+  pub same_answer : (r : Result ℕ Refusal) → r ≡ bytes_answer x out → x ≡ y → r ≡ bytes_answer y out
   same_answer r h e = rw (← e) h
 
   pub same_after : (k : List ℕ) → k ≡ bytes_after x out → x ≡ y → k ≡ bytes_after y out

@@ -21,10 +21,6 @@ module _ (at n : ℕ) where
 pub leaves : (xs ys : List ℕ) (room m n : ℕ) → m ≡ room - length xs → n ≡ m - length ys → n ≡ room - length (xs ++ ys)
 leaves xs ys room m n e f = omega (arith, length-append xs ys)
 
--- and by its length
-pub leaves_by : (xs : List ℕ) (room n m : ℕ) → n ≡ length xs → m ≡ room - n → m ≡ room - length xs
-leaves_by xs room n m e f = rw (← e) f
-
 -- what is written at a place, and then what a writer put into its own part of the output from there on
 pub then_lent : (l k m zs xs ys : List ℕ) (i p q r : ℕ) → Wrote l k i p xs →
     Wrote (take (length k - p) (drop p k)) zs 0 r ys → m ≡ put_mid p (length k - p) k zs → q ≡ p + r → Wrote l m i q (xs ++ ys)

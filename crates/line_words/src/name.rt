@@ -1,42 +1,20 @@
 // A name in a log line, unit by unit.
-ghost use Rattle.std.specs.Prelude.{◌≡◌, cond, ◌+◌, ◌-◌, ◌≤◌, length, get_or, ◌∷◌};
-ghost use Rattle.wire.specs.Number.{u16_at};
+ghost use Rattle.std.specs.Prelude.{◌≡◌, ◌+◌, ◌-◌, ◌≤◌, length, ◌∷◌};
+ghost use Rattle.std.specs.Iterator.{YieldsFirst, item_count};
 ghost use Rattle.field.specs.Field.{field_bytes};
 ghost use Rattle.place.specs.Place.{Wrote};
 ghost use Rattle.line_words.specs.Digits.{hex};
-ghost use Rattle.line_words.specs.Name.{plain, unit_text, name_text};
+ghost use Rattle.line_words.specs.Name.{plain, unit_text, units, name_text};
 
 use crate::digits::put_hex;
 use field::Field;
 use place::Place;
-use wire::number::u16_at;
 
 // Whether a unit stands for itself.
 fn is_plain(u: u16) -> bool
     ensures { result ≡ plain u }
 {
     (0x21 <= u) & (u <= 0x7E) & (u != 0x5C)
-}
-
-// How many bytes a unit has.
-fn unit_width(unicode: bool) -> usize
-    ensures { (result ≡ cond unicode 2 1) × ((1 ≤ result) × (result ≤ 2)) }
-{
-    if unicode {
-        return 2;
-    }
-    1
-}
-
-// The unit at a place of a name.
-fn unit_at(name: &[u8], at: usize, unicode: bool) -> u16
-    requires { at + cond unicode 2 1 ≤ length name.now }
-    ensures { result ≡ cond unicode (u16_at name.now at) (get_or name.now at 0) }
-{
-    if unicode {
-        return u16_at(name, at);
-    }
-    name[at] as u16
 }
 
 // How many bytes a unit's text has.
@@ -50,24 +28,6 @@ pub fn unit_size(u: u16, unicode: bool) -> usize
         return 6;
     }
     4
-}
-
-// What a name's text leaves of a room: nothing where it passes it, and the first unit that does is the last that is looked at.
-pub fn room_after_name(room: usize, name: &[u8], unicode: bool) -> usize
-    ensures { result ≡ room - length (name_text unicode name.now) }
-{
-    let width = unit_width(unicode);
-    let mut left = room;
-    let mut i: usize = 0;
-    while i + width <= name.len() {
-        let size = unit_size(unit_at(name, i, unicode), unicode);
-        if left < size {
-            return 0;
-        }
-        left = left - size;
-        i = i + width;
-    }
-    left
 }
 
 // A backslash, a letter and so many hex digits.
@@ -96,32 +56,81 @@ pub fn put_unit(p: Place, out: &mut [u8], u: u16, unicode: bool) -> Place
     put_escape(p, out, b'x', u, 2)
 }
 
-// A name's text, at the start of the output.
-pub fn put_name(out: &mut [u8], name: &[u8], unicode: bool) -> Place
-    requires { length (name_text unicode name.now) ≤ length out.old }
-    ensures { Wrote out.old out.new 0 result.at (name_text unicode name.now) }
-{
-    let width = unit_width(unicode);
-    let mut p = Place { at: 0 };
-    let mut i: usize = 0;
-    while i + width <= name.len() {
-        p = put_unit(p, out, unit_at(name, i, unicode), unicode);
-        i = i + width;
+// The units of a name: 16-bit numbers, the low byte first, or bytes. A last byte that is half a unit is left out.
+#[derive(Clone, Copy)]
+pub struct Units<'a> {
+    pub bytes: &'a [u8],
+    pub unicode: bool,
+}
+
+impl Iterator for Units<'_> {
+    type Item = u16;
+
+    ghost next_gives = { YieldsFirst (λ s. units s.unicode s.bytes.now) };
+
+    ghost remaining = { item_count (λ s. units s.unicode s.bytes.now) };
+
+    fn next(&mut self) -> Option<u16> {
+        if self.unicode {
+            let [low, high, rest @ ..] = self.bytes else {
+                return None;
+            };
+            self.bytes = rest;
+            return Some(u16::from(*low) + 256 * u16::from(*high));
+        }
+        let (first, rest) = self.bytes.split_first()?;
+        self.bytes = rest;
+        Some(u16::from(*first))
     }
-    p
 }
 
-// The same of the name that a field holds.
-pub fn room_after_field(room: usize, msg: &[u8], f: Field, unicode: bool) -> usize
-    ensures { result ≡ room - length (name_text unicode (field_bytes msg.now f)) }
-{
-    room_after_name(room, f.bytes(msg), unicode)
+impl Units<'_> {
+    // What their text leaves of a room: nothing where it passes it, and the first unit that does is the last that is looked at.
+    #[tactic(auto, unfolding(crate::specs::Name::text_of, crate::specs::Name::name_text))]
+    pub fn room_after(self, room: usize) -> usize
+        ensures { result ≡ room - length (name_text self.entry.unicode self.entry.bytes.now) }
+    {
+        let mut left = room;
+        for u in self {
+            let size = unit_size(u, self.unicode);
+            if left < size {
+                return 0;
+            }
+            left -= size;
+        }
+        left
+    }
+
+    // Their text, at the start of the output.
+    #[tactic(auto, unfolding(crate::specs::Name::text_of, crate::specs::Name::name_text))]
+    pub fn put(self, out: &mut [u8]) -> Place
+        requires { length (name_text self.unicode self.bytes.now) ≤ length out.old }
+        ensures { Wrote out.old out.new 0 result.at (name_text self.entry.unicode self.entry.bytes.now) }
+    {
+        let mut p = Place { at: 0 };
+        for u in self {
+            p = put_unit(p, out, u, self.unicode);
+        }
+        p
+    }
 }
 
-// The text of the name that a field holds, at the start of the output.
-pub fn put_field(out: &mut [u8], msg: &[u8], f: Field, unicode: bool) -> Place
-    requires { length (name_text unicode (field_bytes msg.now f)) ≤ length out.old }
-    ensures { Wrote out.old out.new 0 result.at (name_text unicode (field_bytes msg.now f)) }
-{
-    put_name(out, f.bytes(msg), unicode)
+// The names of a message: its bytes, and whether a name's units are 16-bit numbers.
+#[derive(Clone, Copy)]
+pub struct Names<'a> {
+    pub msg: &'a [u8],
+    pub unicode: bool,
+}
+
+impl<'a> Names<'a> {
+    // The units of the name that a field holds.
+    pub fn units(self, f: Field) -> Units<'a>
+        ensures bytes { result.bytes.now ≡ field_bytes self.entry.msg.now f }
+        ensures unicode { result.unicode ≡ self.entry.unicode }
+    {
+        Units {
+            bytes: f.bytes(self.msg),
+            unicode: self.unicode,
+        }
+    }
 }

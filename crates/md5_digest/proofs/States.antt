@@ -1,25 +1,18 @@
 -- Laws of the state: bytes that go into the block that is being filled, and a piece that is taken part by part.
-use Prim.Native.Nat.{ℕ, suc, ◌+◌, ◌-◌, ◌%◌, ◌≤◌, ◌<◌, min}
-use mathlib.Core.Path.{◌≡◌, refl, sym, ap, ◌∙◌}
-use mathlib.Core.Bool.{Bool, true, false, cond}
-use mathlib.Core.List.{List, [], ◌∷◌, ◌++◌, append-nil}
-use native.Mathlib.Nat.{add-zero, zero-add}
-use native.Mathlib.Omega.{arith}
+use Rattle.std.proofs.Common.{◌≡◌, ℕ, zero, suc, ◌+◌, ◌*◌, ◌/◌, ◌%◌, ◌≤◌, ◌<◌, Bool, true, false, cond, List, [], ◌∷◌, ◌++◌, length, take, drop, set, get_or, refl, sym, ap, ◌∙◌, arith, append_assoc, add-zero, zero-add, length-take, length-drop, length-append, take-append-drop}
+use Rattle.std.proofs.lemmas.List.{length-replicate}
+use Rattle.std.specs.Simd.{first_chunks}
+use Rattle.std.proofs.Math.ListN.{drop_of_length-le}
+use Rattle.std.proofs.Math.Seq.{sets, sets-eq, drop-drop}
+use mathlib.Core.List.{append-nil}
 use borrow.Author.Tests.{lt-ltb, le-ltb}
-use borrow.Rule.Slice.PartMut.{put_mid, same_len_mid}
+use borrow.Rule.Slice.PartMut.{put_mid}
 use lib.Dec.{ltb}
-use lib.ListN.{length, take, drop, set, length-take, length-drop, length-replicate, drop_of_length-le, take-append-drop}
-use lib.Seq.{sets, sets-eq, length-sets, drop-drop}
-use Rattle.place.proofs.Laws.{filled as stored}
 use Rattle.md5_digest.specs.Block.{block_taken}
 use Rattle.md5_digest.specs.Digest.{start}
 use Rattle.md5_digest.specs.State.{blank, fresh, byte_taken, taken}
 use Rattle.md5_digest.specs.declared.block.Buffer.{Buffer}
 use Rattle.md5_digest.specs.declared.state.State.{State}
-
-pub is_fresh : (p : Buffer) → p ≡ start → ◌≡◌ {A = State} (record { buffer = p; tail = blank; count = 0 }) fresh
-unfolding fresh
-is_fresh p e = simp e
 
 either_count : (b : Bool) (p q : Buffer) (l k : List ℕ) (n : ℕ) →
     (cond {A = State} b (record { buffer = p; tail = l; count = n }) (record { buffer = q; tail = k; count = n })).count ≡ n
@@ -65,11 +58,6 @@ fills (y ∷ ys) x s at e h =
     ap (λ (u : State). taken u (y ∷ ys)) b ∙ fills ys y t (suc at) (omega arith) (omega arith)
     ∙ ap (λ (k : ℕ). record { buffer = block_taken s.buffer (sets s.tail at (x ∷ y ∷ ys)); tail = blank; count = k }) n
 
--- a part of a block that was lent whole and now holds src
-pub is_stored : (l src ys : List ℕ) (i : ℕ) → length l ≡ 64 → i + length src ≤ 64 → ys ≡ take (length (take (i + length src - i) (drop i l))) (drop 0 src) →
-    put_mid i (i + length src - i) l ys ≡ sets l i src
-is_stored l src ys i n h e = stored l src ys i (omega arith) e
-
 -- what the code leaves of bytes that don't fill the block, of bytes that do, and of a whole block
 pub unfilled : (s : State) (xs tail : List ℕ) → s.count % 64 + length xs < 64 → tail ≡ sets s.tail (s.count % 64) xs →
     ◌≡◌ {A = State} (record { buffer = s.buffer; tail = tail; count = s.count + length xs }) (taken s xs)
@@ -104,97 +92,75 @@ pub taken_append : (s : State) (a b : List ℕ) → taken s (a ++ b) ≡ taken (
 taken_append s [] b = refl
 taken_append s (x ∷ a) b = taken_append (byte_taken s x) a b
 
--- s is to take all of m; t has its first i bytes, and is to take the rest
-pub record Going (s t : State) (i : ℕ) (m : List ℕ) : Type 0 where
-  pub counted : t.count ≡ s.count + i
-  pub same : taken t (drop i m) ≡ taken s m
+-- a first block
+pub of_block : (m : List ℕ) (b : Buffer) → length m ≡ 64 → b ≡ block_taken start m →
+    ◌≡◌ {A = State} (record { buffer = b; tail = blank; count = 64 }) (taken fresh m)
+unfolding fresh
+of_block m b n e = whole fresh m b refl n refl e
 
-pub none_gone : (s : State) (m : List ℕ) → Going s s 0 m
-none_gone s m = record { counted = sym (add-zero s.count); same = refl }
+-- a part of a list that was lent whole and now holds bytes of its length
+pub put_stored : (l xs ys : List ℕ) (at n : ℕ) → xs ≡ ys → length ys ≡ n → at + n ≤ length l → put_mid at n l xs ≡ sets l at ys
+put_stored l xs ys at n e long h =
+    ap (λ (y : List ℕ). put_mid at n l y) e ∙ ap (λ (k : ℕ). take at l ++ (ys ++ drop k (drop at l))) (sym long)
+    ∙ ap (λ (y : List ℕ). take at l ++ (ys ++ y)) (drop-drop (length ys) at l)
+    ∙ sym (append_assoc (take at l) ys (drop (at + length ys) l)) ∙ sym (sets-eq ys l at (omega arith))
 
-pub part_gone : (m : List ℕ) (s t r : State) (i n : ℕ) → Going s t i m → i < length m → n ≡ min (length m - i) (64 - t.count % 64) → r.count ≡ t.count + length (take (i + n - i) (drop i m)) →
-    r ≡ taken t (take (i + n - i) (drop i m)) → Going s r (i + n) m
-part_gone m s t r i n g h j k f =
-    let b : i + n ≤ length m = omega arith in
-    let e : i + n - i ≡ n = omega arith in
-    let c : length (take (i + n - i) (drop i m)) ≡ n = simp (length-take, length-drop) (omega arith) in
+-- s is to take all of m, and b has the blocks of it but for what is left
+pub record Going (s : State) (m left : List ℕ) (b : Buffer) : Type 0 where
+  pub count : ℕ
+  pub between : count % 64 ≡ 0
+  pub counted : count + length left ≡ s.count + length m
+  pub same : taken (record { buffer = b; tail = blank; count = count }) left ≡ taken s m
+
+pub begun : (s : State) (m first tail : List ℕ) (b : Buffer) (room : ℕ) → s.count % 64 + room ≡ 64 → room ≤ length m → first ≡ take room m →
+    tail ≡ sets s.tail (s.count % 64) first → b ≡ block_taken s.buffer tail → Going s m (drop room m) b
+begun s m first tail b room k h e g i =
+    let rest : List ℕ = drop room m in
+    let n : length first ≡ room = ap length e ∙ simp length-take (omega arith) in
+    let all : first ++ rest ≡ m = ap (λ (l : List ℕ). l ++ rest) e ∙ take-append-drop room m in
     record {
-      counted = omega (arith, g.counted);
+      count = s.count + length first;
+      between = omega arith;
+      counted = omega (arith, ap length all, length-append first rest);
       same =
-          ap (λ (u : State). taken u (drop (i + n) m)) (f ∙ ap (λ (j : ℕ). taken t (take j (drop i m))) e)
-          ∙ ap (λ (l : List ℕ). taken (taken t (take n (drop i m))) l) (sym (drop-drop n i m))
-          ∙ sym (taken_append t (take n (drop i m)) (drop n (drop i m)))
-          ∙ ap (taken t) (take-append-drop n (drop i m)) ∙ g.same;
+          ap (λ (t : State). taken t rest) (filled s first tail b (omega arith) (omega arith) (omega arith) g i)
+          ∙ sym (taken_append s first rest) ∙ ap (taken s) all;
     }
 
-pub all_gone : (m : List ℕ) (s t : State) (i : ℕ) → Going s t i m → length m ≤ i → t ≡ taken s m
-all_gone m s t i g k = ap (taken t) (sym (drop_of_length-le m k)) ∙ g.same
+-- block i of those that a list is cut into
+block_at : (n k i : ℕ) (xs : List ℕ) → i < k → get_or (first_chunks n k xs) i [] ≡ take n (drop (n * i) xs)
+block_at n zero i xs h = absurd (omega arith)
+block_at n (suc k) zero xs h = let none : n * 0 ≡ 0 = omega arith in ap (λ (j : ℕ). take n (drop j xs)) (sym none)
+block_at n (suc k) (suc i) xs h = block_at n k i (drop n xs) (omega arith) ∙ ap (take n) (drop-drop (n * i) n xs ∙ ap (λ (j : ℕ). drop j xs) (omega arith))
 
--- a first block
-pub of_block : (m : List ℕ) (p q : Buffer) → p ≡ start → length m ≡ 64 → q ≡ block_taken p m →
-    ◌≡◌ {A = State} (record { buffer = q; tail = blank; count = 64 }) (taken fresh m)
-unfolding fresh
-of_block m p q e n f = whole fresh m q refl n refl (f ∙ ap (λ (b : Buffer). block_taken b m) e)
+-- the next block of those that the rest is cut into
+pub block_gone : (s : State) (m left rest : List ℕ) (blocks : List (List ℕ)) (b c : Buffer) (i : ℕ) → Going s m (drop (64 * i) left) b → rest ≡ left →
+    blocks ≡ first_chunks 64 (length rest / 64) rest → i < length rest / 64 → c ≡ block_taken b (get_or blocks i []) → Going s m (drop (64 * (i + 1)) left) c
+block_gone s m left rest blocks b c i g same cut h e =
+    let from : List ℕ = drop (64 * i) left in
+    let cuts : blocks ≡ first_chunks 64 (length left / 64) left = cut ∙ ap (λ (l : List ℕ). first_chunks 64 (length l / 64) l) same in
+    let more : i < length left / 64 = omega (arith, ap length same) in
+    let block : get_or blocks i [] ≡ take 64 from = ap (λ (l : List (List ℕ)). get_or l i []) cuts ∙ block_at 64 (length left / 64) i left more in
+    let next : drop 64 from ≡ drop (64 * (i + 1)) left = drop-drop 64 (64 * i) left ∙ ap (λ (k : ℕ). drop k left) (omega arith) in
+    let n : length (take 64 from) ≡ 64 = simp (length-take, length-drop) (omega arith) in
+    let t : State = record { buffer = b; tail = blank; count = g.count } in
+    record {
+      count = g.count + 64;
+      between = omega (arith, g.between);
+      counted = omega (arith, g.counted, ap length next, length-drop 64 from, length-drop (64 * i) left);
+      same =
+          ap (taken (record { buffer = c; tail = blank; count = g.count + 64 })) (sym next)
+          ∙ ap (λ (u : State). taken u (drop 64 from)) (whole t (take 64 from) c g.between n (length-replicate {A = ℕ} 64 0) (e ∙ ap (block_taken b) block))
+          ∙ sym (taken_append t (take 64 from) (drop 64 from)) ∙ ap (taken t) (take-append-drop 64 from) ∙ g.same;
+    }
 
--- a part of the block that was lent whole and now holds the n bytes of xs
-pub piece_stored : (l xs ys : List ℕ) (at n : ℕ) → length l ≡ 64 → at + n ≤ 64 → n ≡ length xs → ys ≡ take (length (take (at + n - at) (drop at l))) (drop 0 xs) →
-    put_mid at (at + n - at) l ys ≡ sets l at xs
-piece_stored l xs ys at n long h e f =
-    ap (λ (k : ℕ). put_mid at (at + k - at) l ys) e
-    ∙ is_stored l xs ys at long (omega arith) (f ∙ ap (λ (k : ℕ). take (length (take (at + k - at) (drop at l))) (drop 0 xs)) e)
-
-pub put_long : (l ys : List ℕ) (at k : ℕ) → length l ≡ 64 → length ys ≡ length (take k (drop at l)) → length (put_mid at k l ys) ≡ 64
-put_long l ys at k long e = same_len_mid at k l ys e ∙ long
-
--- a turn of the loop: t takes the next n bytes and is then of these parts
-turn : (m : List ℕ) (s t : State) (b : Buffer) (l : List ℕ) (i n : ℕ) → Going s t i m → i < length m → n ≡ min (length m - i) (64 - t.count % 64) →
-    ((e : n ≡ length (take (i + n - i) (drop i m))) →
-    ◌≡◌ {A = State} (record { buffer = b; tail = l; count = t.count + length (take (i + n - i) (drop i m)) }) (taken t (take (i + n - i) (drop i m)))) →
-    Going s (record { buffer = b; tail = l; count = t.count + n }) (i + n) m
-turn m s t b l i n g h j f =
-    let e : n ≡ length (take (i + n - i) (drop i m)) = simp (length-take, length-drop) (omega arith) in
-    part_gone m s t _ i n g h j (ap (λ (k : ℕ). t.count + k) e)
-    (ap (λ (k : ℕ). record { buffer = b; tail = l; count = t.count + k }) e ∙ f e)
-
-pub whole_turn : (m : List ℕ) (s : State) (p b : Buffer) (tail l : List ℕ) (k i n : ℕ) → Going s (record { buffer = p; tail = tail; count = k }) i m →
-    i < length m → n ≡ min (length m - i) (64 - k % 64) → length tail ≡ 64 → n ≡ 64 → b ≡ block_taken p (take (i + n - i) (drop i m)) → l ≡ blank →
-    (length l ≡ 64) × Going s (record { buffer = b; tail = l; count = k + n }) (i + n) m
-whole_turn m s p b tail l k i n g h j long z f y =
-    let t : State = record { buffer = p; tail = tail; count = k } in (
-      ap length y ∙ length-replicate {A = ℕ} 64 0,
-      turn m s t b l i n g h j
-          (λ e. ap (λ (x : List ℕ). record { buffer = b; tail = x; count = k + length (take (i + n - i) (drop i m)) }) y
-          ∙ ap (λ (x : ℕ). record { buffer = b; tail = blank; count = k + x }) (sym e ∙ z)
-          ∙ whole t (take (i + n - i) (drop i m)) b (omega arith) (sym e ∙ z) long f),
-    )
-
-pub filling_turn : (m : List ℕ) (s : State) (p b : Buffer) (tail l ys : List ℕ) (k i n : ℕ) → Going s (record { buffer = p; tail = tail; count = k }) i m →
-    i < length m → n ≡ min (length m - i) (64 - k % 64) → length tail ≡ 64 → k % 64 + n ≡ 64 →
-    ys ≡ take (length (take (k % 64 + n - k % 64) (drop (k % 64) tail))) (drop 0 (take (i + n - i) (drop i m))) →
-    b ≡ block_taken p (put_mid (k % 64) (k % 64 + n - k % 64) tail ys) → l ≡ blank →
-    (length l ≡ 64) × Going s (record { buffer = b; tail = l; count = k + n }) (i + n) m
-filling_turn m s p b tail l ys k i n g h j long z v f y =
-    let t : State = record { buffer = p; tail = tail; count = k } in
-    let xs : List ℕ = take (i + n - i) (drop i m) in (
-      ap length y ∙ length-replicate {A = ℕ} 64 0,
-      turn m s t b l i n g h j
-          (λ e. ap (λ (x : List ℕ). record { buffer = b; tail = x; count = k + length xs }) y
-          ∙ filled t xs (put_mid (k % 64) (k % 64 + n - k % 64) tail ys) b (omega arith) (omega arith) (omega arith)
-          (piece_stored tail xs ys (k % 64) n long (omega arith) e v) f),
-    )
-
-pub unfilled_turn : (m : List ℕ) (s : State) (p b : Buffer) (tail l ys : List ℕ) (k i n : ℕ) → Going s (record { buffer = p; tail = tail; count = k }) i m →
-    i < length m → n ≡ min (length m - i) (64 - k % 64) → length tail ≡ 64 → (k % 64 + n ≡ 64 → ⊥) →
-    ys ≡ take (length (take (k % 64 + n - k % 64) (drop (k % 64) tail))) (drop 0 (take (i + n - i) (drop i m))) →
-    b ≡ p → l ≡ put_mid (k % 64) (k % 64 + n - k % 64) tail ys →
-    (length l ≡ 64) × Going s (record { buffer = b; tail = l; count = k + n }) (i + n) m
-unfilled_turn m s p b tail l ys k i n g h j long z v f y =
-    let t : State = record { buffer = p; tail = tail; count = k } in
-    let xs : List ℕ = take (i + n - i) (drop i m) in
-    let c : n ≡ length xs = simp (length-take, length-drop) (omega arith) in
-    let w : l ≡ sets tail (k % 64) xs = y ∙ piece_stored tail xs ys (k % 64) n long (omega arith) c v in (
-      ap length w ∙ length-sets tail (k % 64) xs ∙ long,
-      turn m s t b l i n g h j
-          (λ e. ap (λ (q : Buffer). record { buffer = q; tail = l; count = k + length xs }) f
-          ∙ unfilled t xs l (omega arith) w),
-    )
+-- and what is left after the last
+pub rest_gone : (s : State) (m left rest last tail : List ℕ) (b : Buffer) (n i : ℕ) → Going s m (drop (64 * i) left) b → rest ≡ left → i ≤ length rest / 64 → length rest / 64 ≤ i →
+    last ≡ drop (length rest / 64 * 64) rest → tail ≡ sets blank 0 last → n ≡ s.count + length m → ◌≡◌ {A = State} (record { buffer = b; tail = tail; count = n }) (taken s m)
+rest_gone s m left rest last tail b n i g same low high e f k =
+    let t : State = record { buffer = b; tail = blank; count = g.count } in
+    let end : length left / 64 * 64 ≡ 64 * i = omega (arith, ap length same) in
+    let all : last ≡ drop (64 * i) left = e ∙ ap (λ (l : List ℕ). drop (length l / 64 * 64) l) same ∙ ap (λ (j : ℕ). drop j left) end in
+    let short : length last < 64 = omega (arith, ap length same, ap length all, length-drop (64 * i) left) in
+    ap (λ (j : ℕ). record { buffer = b; tail = tail; count = j }) (k ∙ sym g.counted ∙ ap (λ (l : List ℕ). g.count + length l) (sym all))
+    ∙ unfilled t last tail (omega (arith, g.between)) (f ∙ ap (λ (j : ℕ). sets blank j last) (sym g.between)) ∙ ap (taken t) all ∙ g.same

@@ -1,11 +1,10 @@
 -- What is taken byte by byte and finished is the digest of the whole.
-use Prim.Native.Nat.{ℕ, zero, suc, ◌+◌, ◌-◌, ◌*◌, ◌/◌, ◌%◌, ◌≤◌}
+use Prim.Native.Nat.{ℕ, zero, suc, ◌+◌, ◌*◌, ◌/◌, ◌%◌}
 use mathlib.Core.Path.{◌≡◌, refl, sym, ap, ◌∙◌}
 use mathlib.Core.List.{List, [], ◌∷◌, ◌++◌}
-use native.Mathlib.Nat.{add-zero, zero-add, sub-zero}
+use native.Mathlib.Nat.{add-zero, zero-add}
 use native.Mathlib.Omega.{arith}
-use lib.ListN.{length, take, drop, replicate, length-append, length-take, length-drop, length-replicate, take-append-drop, replicate-append-replicate}
-use lib.Seq.{take_at}
+use lib.ListN.{length, take, drop, length-append, length-take, length-drop, length-replicate, take-append-drop}
 use Rattle.md5_digest.specs.Block.{block_taken}
 use Rattle.md5_digest.specs.Digest.{padding, blocks_taken, word_bytes, md5}
 use Rattle.md5_digest.specs.State.{blank, fresh, byte_taken, taken, finished}
@@ -40,19 +39,6 @@ is_md5 m =
     ap (λ (k : ℕ). word_bytes (taken (taken fresh m) (padding k)).buffer) n
     ∙ ap (λ (u : State). word_bytes u.buffer) (sym (taken_append fresh m (padding (length m))))
     ∙ ap word_bytes (blocks (length p / 64) fresh p refl refl (padded_length m))
-
--- the front of a run of zeros
-abbrev zeros : ℕ → List ℕ
-zeros n = replicate n 0
-
-pub front : (n m : ℕ) → n ≤ m → take n (zeros m) ≡ zeros n
-front n m h =
-    let e : n + (m - n) ≡ m = omega arith in
-    ap (λ (k : ℕ). take n (zeros k)) (sym e) ∙ ap (take n) (sym (replicate-append-replicate n (m - n) 0))
-    ∙ take_at (zeros n) (zeros (m - n)) n (length-replicate n 0)
-
-pub of_zeros : (s r : State) (n : ℕ) → n ≤ 16 → r ≡ taken s (take (n - 0) (drop 0 (zeros 16))) → r ≡ taken s (replicate n 0)
-of_zeros s r n h e = e ∙ ap (λ (k : ℕ). taken s (take k (zeros 16))) (sub-zero n) ∙ ap (taken s) (front n 16 h)
 
 pub is_digest : (m d : List ℕ) (s t : State) → s ≡ fresh → t ≡ taken s m → d ≡ finished t → d ≡ md5 m
 is_digest m d s t e f g = g ∙ ap finished (f ∙ ap (λ (u : State). taken u m) e) ∙ is_md5 m

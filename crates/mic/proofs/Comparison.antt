@@ -1,12 +1,12 @@
 -- Sixteen bytes that are compared one by one.
-use Prim.Native.Nat.{ℕ, ◌+◌, ◌≤◌, ◌<◌}
+use Prim.Native.Nat.{ℕ, ◌+◌, ◌<◌}
 use mathlib.Core.Path.{◌≡◌, sym, ap, ◌∙◌}
 use mathlib.Core.Bool.{Bool, true, ◌&&◌}
 use mathlib.Core.List.{List, ◌∷◌}
 use native.Mathlib.Nat.{add-zero, add_assoc}
 use native.Mathlib.Numerals.{add-one}
 use native.Mathlib.Omega.{arith}
-use lib.Dec.{T, eqb, leb, leb→le}
+use lib.Dec.{eqb}
 use lib.ListN.{length, get_or, drop, drop_of_length-le}
 use lib.Seq.{drop-cons}
 use Rattle.wire.proofs.Bools.{and_assoc, and-true}
@@ -19,10 +19,10 @@ pub record Compared (s : List ℕ) (at : ℕ) (xs : List ℕ) (same : Bool) (i :
 pub stands_start : (s : List ℕ) (at : ℕ) (xs : List ℕ) → Compared s at xs true 0
 stands_start s at xs = record { rest = simp (add-zero at) }
 
-pub stands_next : (s : List ℕ) (at : ℕ) (xs : List ℕ) (same : Bool) (i n : ℕ) → Compared s at xs same i → length xs ≡ 16 → i < n → T (leb n 16) →
+pub stands_next : (s : List ℕ) (at : ℕ) (xs : List ℕ) (same : Bool) (i : ℕ) → Compared s at xs same i → length xs ≡ 16 → i < 16 →
     Compared s at xs (same && eqb (get_or s (at + i) 0) (get_or xs i 0)) (i + 1)
-stands_next s at xs same i n c l h b =
-    let k : i < length xs = omega (arith, leb→le n 16 b) in
+stands_next s at xs same i c l h =
+    let k : i < length xs = omega arith in
     let d : drop i xs ≡ get_or xs i 0 ∷ drop (i + 1) xs = rw (add-one, drop-cons xs i 0) in
     record {
       rest =
@@ -31,6 +31,8 @@ stands_next s at xs same i n c l h b =
           ∙ ap (λ (m : List ℕ). same && stands_at s (at + i) m) (sym d) ∙ c.rest;
     }
 
-pub stands_end : (s : List ℕ) (at : ℕ) (xs : List ℕ) (same : Bool) (i : ℕ) → Compared s at xs same i → length xs ≡ 16 → 16 ≤ i → same ≡ stands_at s at xs
-stands_end s at xs same i c l h =
-    sym (and-true same) ∙ ap (λ (m : List ℕ). same && stands_at s (at + i) m) (sym (drop_of_length-le xs {i = i} (omega arith))) ∙ c.rest
+pub stands_end : (s : List ℕ) (at : ℕ) (xs : List ℕ) (same : Bool) → Compared s at xs same 16 → length xs ≡ 16 → same ≡ stands_at s at xs
+stands_end s at xs same c l =
+    sym (and-true same) ∙ ap (λ (m : List ℕ). same && stands_at s (at + 16) m) (sym (drop_of_length-le xs {i = 16} (omega arith))) ∙ c.rest
+
+pub ruleset compared = (stands_start, stands_next, stands_end)

@@ -1,4 +1,7 @@
 -- Laws of the MIC's checks, and of the three messages that are taken one after the other.
+use Rattle.wire.specs.Check.{on_ok}
+use Rattle.std.specs.Prelude.{Result, Ok, Err, ⊤}
+use Rattle.read_negotiate.specs.declared.Negotiate.{Negotiate}
 use Prim.Native.Nat.{ℕ, ◌+◌, ◌-◌, ◌≤◌}
 use mathlib.Core.Path.{◌≡◌, refl, sym, ap, ◌∙◌}
 use mathlib.Core.Bool.{Bool}
@@ -8,30 +11,20 @@ use borrow.Author.Tests.{eqb-true}
 use lib.Dec.{eqb}
 use lib.ListN.{length, take, drop, replicate, length-drop}
 use lib.Seq.{take_all}
-use Rattle.wire.specs.declared.check.Verdict.{Verdict}
-use Rattle.wire.specs.declared.check.Verdict.TheVariants.{Clear, Refused as Not}
 use Rattle.wire.specs.declared.refusal.Refusal.{Refusal}
 use Rattle.wire.specs.declared.refusal.Refusal.TheVariants.{WrongSessionKey, NoMic}
 use Rattle.wire.specs.Check.{checked, after, on_clear}
 use Rattle.wire.specs.Number.{stands_at}
 use Rattle.wire.proofs.Laws.{after_clear}
-use Rattle.head.specs.declared.Head.{Head}
-use Rattle.head.specs.declared.Head.TheVariants.{Flags, Refused as Stopped}
-use Rattle.head.specs.Head.{read_head, on_flags}
+use Rattle.head.specs.Head.{read_head}
 use Rattle.head.proofs.Heads.{head_short}
 use Rattle.negotiate_flags.specs.declared.NegotiateFlags.{NegotiateFlags}
-use Rattle.read_negotiate.specs.declared.Reading.{Reading as NegotiateReading}
-use Rattle.read_negotiate.specs.declared.Reading.TheVariants.{Refused as NegotiateRefused}
 use Rattle.read_negotiate.specs.Negotiate.{layout as negotiate_layout, read_negotiate}
 use Rattle.read_challenge.specs.declared.Challenge.{Challenge}
-use Rattle.read_challenge.specs.declared.Reading.{Reading as ChallengeReading}
-use Rattle.read_challenge.specs.declared.Reading.TheVariants.{Taken as ChallengeTaken, Refused as ChallengeRefused}
-use Rattle.read_challenge.specs.Challenge.{fields_of, on_taken, reading_of, read_challenge}
+use Rattle.read_challenge.specs.Challenge.{fields_of, reading_of, read_challenge}
 use Rattle.read_challenge.proofs.Laws.{fields_short}
 use Rattle.read_authenticate.specs.declared.Answer.{Answer as AuthenticateAnswer}
 use Rattle.read_authenticate.specs.declared.Authenticate.{Authenticate}
-use Rattle.read_authenticate.specs.declared.Reading.{Reading as AuthenticateReading}
-use Rattle.read_authenticate.specs.declared.Reading.TheVariants.{Taken as AuthenticateTaken, Refused as AuthenticateRefused}
 use Rattle.read_authenticate.specs.Authenticate.{layout as authenticate_layout, reading_of as authenticate_reading_of, read_authenticate}
 use Rattle.read_authenticate.proofs.Laws.{taken_by}
 use Rattle.read_authenticate.proofs.Mic.{mic_room}
@@ -41,54 +34,54 @@ use Rattle.md5_digest.proofs.States.{taken_append}
 use Rattle.hmac_md5.specs.Hmac.{begun, hmac_finished}
 use Rattle.hmac_md5.proofs.Laws.{of_pieces}
 use Rattle.mic.specs.declared.Computed.{Computed}
-use Rattle.mic.specs.declared.Checking.TheVariants.{Compared}
 use Rattle.verdict.specs.Verdict.{nego_verdict, chal_verdict}
 use Rattle.mic.specs.Mic.{zeroed, mic_of, authenticate_verdict, check_inputs, computed_mic}
 
 -- ---- the AUTHENTICATE's verdict, by what its reading is known to be
 
-pub authenticate_taken : (q r : AuthenticateAnswer) (a : Authenticate) (v : Verdict) → r ≡ q → r.reading ≡ AuthenticateTaken a →
-    v ≡ after (checked a.mic_present) (Not NoMic) Clear → v ≡ authenticate_verdict q.reading
-authenticate_taken q r a v e f g = rw (← e, f) g
+module _ (q r : AuthenticateAnswer) (p : r ≡ q) where
+  pub authenticate_taken : (a : Authenticate) (v : Result ⊤ Refusal) → r.reading ≡ Ok a → v ≡ after (checked a.mic_present) (Err NoMic) (Ok tt) →
+      v ≡ authenticate_verdict q.reading
+  authenticate_taken a v f g = rw (← p, f) g
 
-pub authenticate_not : (q r : AuthenticateAnswer) (e : Refusal) → r ≡ q → r.reading ≡ AuthenticateRefused e → Not e ≡ authenticate_verdict q.reading
-authenticate_not q r e p f = rw (← p, f)
+  pub authenticate_not : (e : Refusal) → r.reading ≡ Err e → Err e ≡ authenticate_verdict q.reading
+  authenticate_not e f = rw (← p, f)
 
 -- ---- what no refusal tells
 
 zero_not_one : ◌≡◌ {A = ℕ} 0 1 → ⊥
 zero_not_one h = omega arith
 
-negotiate_short : (s : List ℕ) → nego_verdict (read_negotiate s) ≡ Clear → length s ≤ 65535
+negotiate_short : (s : List ℕ) → nego_verdict (read_negotiate s) ≡ Ok tt → length s ≤ 65535
 unfolding read_negotiate
 negotiate_short s h = go (read_head negotiate_layout s) _ refl h where
-  go : (k : Head) (x : NegotiateFlags → NegotiateReading) → read_head negotiate_layout s ≡ k → nego_verdict (on_flags NegotiateRefused k x) ≡ Clear →
+  go : (k : Result NegotiateFlags Refusal) (x : NegotiateFlags → Result Negotiate Refusal) → read_head negotiate_layout s ≡ k → nego_verdict (on_ok Err k x) ≡ Ok tt →
       length s ≤ 65535
-  go (Flags w) x e h = head_short negotiate_layout s (read_head negotiate_layout s) w refl e
-  go (Stopped d) x e h = absurd (zero_not_one cc)
+  go (Ok w) x e h = head_short negotiate_layout s (read_head negotiate_layout s) w refl e
+  go (Err d) x e h = absurd (zero_not_one cc)
 
-challenge_short : (s : List ℕ) → chal_verdict (read_challenge s).reading ≡ Clear → length s ≤ 65535
+challenge_short : (s : List ℕ) → chal_verdict (read_challenge s).reading ≡ Ok tt → length s ≤ 65535
 unfolding read_challenge reading_of
 challenge_short s h = go (fields_of s) _ refl h where
-  go : (k : ChallengeReading) (x : Challenge → ChallengeReading) → fields_of s ≡ k → chal_verdict (on_taken ChallengeRefused k x) ≡ Clear → length s ≤ 65535
-  go (ChallengeTaken c) x e h = fields_short s c e
-  go (ChallengeRefused d) x e h = absurd (zero_not_one cc)
+  go : (k : Result Challenge Refusal) (x : Challenge → Result Challenge Refusal) → fields_of s ≡ k → chal_verdict (on_ok Err k x) ≡ Ok tt → length s ≤ 65535
+  go (Ok c) x e h = fields_short s c e
+  go (Err d) x e h = absurd (zero_not_one cc)
 
 -- the AUTHENTICATE is not too long, and its MIC lies within it
-authenticate_room : (s : List ℕ) → authenticate_verdict (read_authenticate s).reading ≡ Clear → (length s ≤ 65535) × (88 ≤ length s)
+authenticate_room : (s : List ℕ) → authenticate_verdict (read_authenticate s).reading ≡ Ok tt → (length s ≤ 65535) × (88 ≤ length s)
 unfolding read_authenticate
 authenticate_room s h = go (authenticate_reading_of s) refl h where
-  go : (r : AuthenticateReading) → authenticate_reading_of s ≡ r → authenticate_verdict r ≡ Clear → (length s ≤ 65535) × (88 ≤ length s)
-  go (AuthenticateTaken a) e h =
+  go : (r : Result Authenticate Refusal) → authenticate_reading_of s ≡ r → authenticate_verdict r ≡ Ok tt → (length s ≤ 65535) × (88 ≤ length s)
+  go (Ok a) e h =
       let t = taken_by s a e in (
         head_short authenticate_layout s (read_head authenticate_layout s) t.flags refl t.head,
-        mic_room s (AuthenticateTaken a) a (sym e) refl (after_clear a.mic_present NoMic Clear h).0,
+        mic_room s (Ok a) a (sym e) refl (after_clear a.mic_present NoMic (Ok tt) h).0,
       )
-  go (AuthenticateRefused d) e h = absurd (zero_not_one cc)
+  go (Err d) e h = absurd (zero_not_one cc)
 
-on_clear_clear : (k x : Verdict) → on_clear Not k x ≡ Clear → (k ≡ Clear) × (x ≡ Clear)
-on_clear_clear Clear x h = (refl, h)
-on_clear_clear (Not e) x h = (cc, cc)
+on_clear_clear : (k x : Result ⊤ Refusal) → on_clear Err k x ≡ Ok tt → (k ≡ Ok tt) × (x ≡ Ok tt)
+on_clear_clear (Ok tt) x h = (refl, h)
+on_clear_clear (Err e) x h = (cc, cc)
 
 pub record Passed (n : ℕ) (nego chal auth : List ℕ) : Type 0 where
   pub key : n ≡ 16
@@ -97,7 +90,7 @@ pub record Passed (n : ℕ) (nego chal auth : List ℕ) : Type 0 where
   pub auth_short : length auth ≤ 65535
   pub mic_inside : 88 ≤ length auth
 
-pub passed : (n : ℕ) (nego chal auth : List ℕ) → check_inputs n nego chal auth ≡ Clear → Passed n nego chal auth
+pub passed : (n : ℕ) (nego chal auth : List ℕ) → check_inputs n nego chal auth ≡ Ok tt → Passed n nego chal auth
 unfolding check_inputs
 passed n nego chal auth h =
     let k = after_clear (eqb n 16) WrongSessionKey _ h in
@@ -112,7 +105,7 @@ passed n nego chal auth h =
       mic_inside = c.1;
     }
 
-module _ (key nego chal auth : List ℕ) (h : check_inputs (length key) nego chal auth ≡ Clear) where
+module _ (key nego chal auth : List ℕ) (h : check_inputs (length key) nego chal auth ≡ Ok tt) where
   pub key_fits : length key ≤ 64
   key_fits = omega (arith, (passed (length key) nego chal auth h).key)
 
@@ -132,29 +125,31 @@ pub ruleset fits = (key_fits, nego_fits, chal_fits, auth_fits, mic_fits)
 
 -- ---- the answers
 
-pub clear_of : (n : ℕ) (nego chal auth : List ℕ) (v : Verdict) → v ≡ check_inputs n nego chal auth → v ≡ Clear → check_inputs n nego chal auth ≡ Clear
+pub clear_of : (n : ℕ) (nego chal auth : List ℕ) (v : Result ⊤ Refusal) → v ≡ check_inputs n nego chal auth → v ≡ Ok tt → check_inputs n nego chal auth ≡ Ok tt
 clear_of n nego chal auth v e f = sym e ∙ f
 
-pub mic_there : (key nego chal auth : List ℕ) (v : Verdict) → v ≡ check_inputs (length key) nego chal auth → v ≡ Clear → 72 + 16 ≤ length auth
+pub mic_there : (key nego chal auth : List ℕ) (v : Result ⊤ Refusal) → v ≡ check_inputs (length key) nego chal auth → v ≡ Ok tt → 72 + 16 ≤ length auth
 mic_there key nego chal auth v e f = mic_fits key nego chal auth (clear_of (length key) nego chal auth v e f)
 
-pub worked_refused : (key nego chal auth : List ℕ) (v : Verdict) (e : Refusal) → v ≡ check_inputs (length key) nego chal auth → v ≡ Not e →
+pub worked_refused : (key nego chal auth : List ℕ) (v : Result ⊤ Refusal) (e : Refusal) → v ≡ check_inputs (length key) nego chal auth → v ≡ Err e →
     ◌≡◌ {A = Computed} (record { verdict = v; mic = replicate 16 0 }) (computed_mic key nego chal auth)
 unfolding computed_mic
 worked_refused key nego chal auth v e p q = rw (← p, q)
 
-pub worked_clear : (key nego chal auth mic : List ℕ) (v : Verdict) → v ≡ check_inputs (length key) nego chal auth → v ≡ Clear → mic ≡ mic_of key nego chal auth →
+pub worked_clear : (key nego chal auth mic : List ℕ) (v : Result ⊤ Refusal) → v ≡ check_inputs (length key) nego chal auth → v ≡ Ok tt → mic ≡ mic_of key nego chal auth →
     ◌≡◌ {A = Computed} (record { verdict = v; mic = mic }) (computed_mic key nego chal auth)
 unfolding computed_mic
 worked_clear key nego chal auth mic v p q r = rw (← p, q, r)
 
 pub compared : (key nego chal auth mic : List ℕ) (b : Bool) → b ≡ stands_at auth 72 mic → mic ≡ mic_of key nego chal auth →
-    Compared b ≡ Compared (stands_at auth 72 (mic_of key nego chal auth))
+    ◌≡◌ {A = Result Bool Refusal} (Ok b) (Ok (stands_at auth 72 (mic_of key nego chal auth)))
 compared key nego chal auth mic b p q = rw (p, q)
+
+pub ruleset worked = (clear_of, worked_refused, worked_clear)
 
 -- ---- the three messages
 
-pub is_zeroed : (s t u r : State) (m : List ℕ) → t ≡ taken s (take (72 - 0) (drop 0 m)) → u ≡ taken t (replicate 16 0) →
+pub is_zeroed : (s t u r : State) (m : List ℕ) → t ≡ taken s (take 72 m) → u ≡ taken t (replicate 16 0) →
     r ≡ taken u (take (length m - 88) (drop 88 m)) → r ≡ taken s (zeroed m)
 unfolding zeroed
 is_zeroed s t u r m e f g =
@@ -172,3 +167,5 @@ is_mic key a b m r s t e f g =
     g ∙ ap (hmac_finished key) (f ∙ ap (λ (u : State). taken u (zeroed m)) e ∙ sym (taken_append (taken (begun key) a) b (zeroed m))
     ∙ sym (taken_append (begun key) a (b ++ zeroed m)))
     ∙ of_pieces key (a ++ (b ++ zeroed m))
+
+pub ruleset keyed = (fits, is_mic)

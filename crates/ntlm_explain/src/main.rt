@@ -6,28 +6,11 @@ ghost use Rattle.std.specs.Prelude.{◌≡◌, OnOk, IfSome, take, length};
 ghost use Rattle.std.specs.Io.KnownBytes.{Appends, Keeps};
 ghost use Rattle.explain.specs.Explain.{explanation};
 
-use input::Input;
-use place::written::Written;
+use program::{Failure, Text};
 use std::io::{Read, Write};
 
-#[derive(Clone, Copy)]
-enum Failure {
-    NotRead,
-    NotWritten,
-}
-
-impl Failure {
-    fn message(self) -> &'static [u8] {
-        match self {
-            Failure::NotRead =>
-                b"ntlm_explain: standard input could not be read to its end, so nothing was printed; give it the whole message again\n",
-            Failure::NotWritten =>
-                b"ntlm_explain: the checks could not be written whole; what was printed does not count: make room for them and run this again\n",
-        }
-    }
-}
-
 // Writes the checks of the message that the reader gives, or of as much of it as `space` holds. Where reading fails, nothing is written.
+#[tactic(auto, using(line::proofs::Programs::written))]
 fn print_checks<R: Read, W: Write>(
     reader: &mut R,
     writer: &mut W,
@@ -38,23 +21,16 @@ fn print_checks<R: Read, W: Write>(
         Appends (W.contents writer.old) (W.contents writer.new) (explanation (take (length space.old) message)))) }
     ensures not_read { result ≡ Err Failure.NotRead → Keeps (W.contents writer.old) (W.contents writer.new) }
 {
-    let Input::Whole(n) = input::read_whole(reader, space) else {
-        return Err(Failure::NotRead);
-    };
-    let Written::Length(len) = explain::write(&space[..n], out) else {
-        return Err(Failure::NotWritten);
-    };
-    match writer.write_all(&out[..len]) {
-        Ok(()) => Ok(()),
-        Err(_) => Err(Failure::NotWritten),
-    }
+    program::print(reader, writer, space, out, Text::Checks, explain::write)
 }
 
+// One function for the three programs would be public, and no contract could say what it does.
 fn main(rt: HostRuntime) {
     // One byte more than the longest message, so that a longer one is refused and not cut.
     let mut space = [0u8; 65536];
     let mut out = [0u8; 65536];
     if let Err(failure) = print_checks(&mut rt.stdin(), &mut rt.stdout(), &mut space, &mut out) {
-        let _ = rt.stderr().write_all(failure.message());
+        // The status stays 0, so `main` returns no Result.
+        let _ = eprintln!(rt; "ntlm_explain: {failure}");
     }
 }

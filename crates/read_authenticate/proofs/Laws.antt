@@ -1,39 +1,32 @@
 -- Laws of AUTHENTICATE's chain of checks.
+use Rattle.wire.specs.Check.{on_ok}
+use Rattle.std.specs.Prelude.{Result, Ok, Err, ⊤}
+use Rattle.wire.specs.declared.refusal.Refusal.{Refusal}
 use Prim.Native.Nat.{ℕ}
 use mathlib.Core.Path.{◌≡◌, refl}
 use mathlib.Core.Bool.{Bool, true}
 use mathlib.Core.List.{List}
 use native.Mathlib.Omega.{arith}
 use lib.ListN.{length}
-use Rattle.wire.specs.declared.check.Verdict.{Verdict}
 use Rattle.field.specs.declared.Field.{Field}
 use Rattle.negotiate_flags.specs.declared.NegotiateFlags.{NegotiateFlags}
-use Rattle.wire.specs.declared.check.Verdict.TheVariants.{Clear, Refused as Not}
-use Rattle.head.specs.declared.Head.{Head}
-use Rattle.head.specs.declared.Head.TheVariants.{Flags, Refused as Stopped}
 use Rattle.wire.specs.Check.{on_clear}
 use Rattle.field.specs.Field.{field_at}
 use Rattle.negotiate_flags.specs.Flags.{unicode, key_exch}
-use Rattle.head.specs.Head.{read_head, on_flags}
-use Rattle.wire.proofs.Laws.{groups}
-use Rattle.head.proofs.Heads.{flagged}
+use Rattle.head.specs.Head.{read_head}
 use Rattle.read_authenticate.specs.declared.Authenticate.{Authenticate}
 use Rattle.read_authenticate.specs.declared.Fields.{Fields}
-use Rattle.read_authenticate.specs.declared.Reading.{Reading}
-use Rattle.read_authenticate.specs.declared.Reading.TheVariants.{Taken, Refused}
 use Rattle.read_authenticate.specs.Authenticate.{layout, fields_at, check_ends, check_begins, check_names, check_shared, check_fields, mic_present, reading_of}
 
 -- checks of the fields that were read are those of the definition's fields
 module _ (f g : Fields) (e : f ≡ g) where
-  pub of_fields : (n : ℕ) (b d : Bool) (r : Verdict) → b ≡ d → r ≡ check_fields n b f → r ≡ check_fields n d g
+  pub of_fields : (n : ℕ) (b d : Bool) (r : Result ⊤ Refusal) → b ≡ d → r ≡ check_fields n b f → r ≡ check_fields n d g
   of_fields n b d r p h = rw (← e, ← p) h
 
   pub taken : (w : NegotiateFlags) (n : ℕ) (b : Bool) → b ≡ mic_present n f →
-      Taken (record { flags = w; fields = f; mic_present = b }) ≡
-      Taken (record { flags = w; fields = g; mic_present = mic_present n g })
+      ◌≡◌ {A = Result Authenticate Refusal} (Ok (record { flags = w; fields = f; mic_present = b }))
+      (Ok (record { flags = w; fields = g; mic_present = mic_present n g }))
   taken w n b p = rw (p, e)
-
-pub ruleset reading = (groups, flagged, of_fields, taken)
 
 -- the six fields are those of their heads
 pub six : (s : List ℕ) (w : NegotiateFlags) (k : Bool) (a b c d e f : Field) →
@@ -46,36 +39,36 @@ six s w k a b c d e f pa pb pc pd pe pk pf = simp (pa, pb, pc, pd, pe, pf, pk)
 -- what a taken message went through
 pub record TakenBy (s : List ℕ) (a : Authenticate) : Type 0 where
   pub flags : NegotiateFlags
-  pub head : read_head layout s ≡ Flags flags
-  pub fields : check_fields (length s) (unicode flags) (fields_at s flags) ≡ Clear
+  pub head : read_head layout s ≡ Ok flags
+  pub fields : check_fields (length s) (unicode flags) (fields_at s flags) ≡ Ok tt
   pub answer : a ≡ record { flags = flags; fields = fields_at s flags; mic_present = mic_present (length s) (fields_at s flags) }
 
-on_clear_taken : (k : Verdict) (x : Reading) (a : Authenticate) → on_clear Refused k x ≡ Taken a → (k ≡ Clear) × (x ≡ Taken a)
-on_clear_taken Clear x a h = (refl, h)
-on_clear_taken (Not e) x a h = (cc, cc)
+on_clear_taken : (k : Result ⊤ Refusal) (x : Result Authenticate Refusal) (a : Authenticate) → on_clear Err k x ≡ Ok a → (k ≡ Ok tt) × (x ≡ Ok a)
+on_clear_taken (Ok tt) x a h = (refl, h)
+on_clear_taken (Err e) x a h = (cc, cc)
 
-on_flags_taken : (k : Head) (x : NegotiateFlags → Reading) (a : Authenticate) → on_flags Refused k x ≡ Taken a →
-    (w : NegotiateFlags) × (k ≡ Flags w) × (x w ≡ Taken a)
-on_flags_taken (Flags w) x a h = (w, refl, h)
-on_flags_taken (Stopped e) x a h = absurd (let z : ◌≡◌ {A = ℕ} 0 1 = cc in omega arith)
+on_flags_taken : (k : Result NegotiateFlags Refusal) (x : NegotiateFlags → Result Authenticate Refusal) (a : Authenticate) → on_ok Err k x ≡ Ok a →
+    (w : NegotiateFlags) × (k ≡ Ok w) × (x w ≡ Ok a)
+on_flags_taken (Ok w) x a h = (w, refl, h)
+on_flags_taken (Err e) x a h = absurd (let z : ◌≡◌ {A = ℕ} 0 1 = cc in omega arith)
 
-same_taken : (a b : Authenticate) → Taken b ≡ Taken a → a ≡ b
+same_taken : (a b : Authenticate) → ◌≡◌ {A = Result Authenticate Refusal} (Ok b) (Ok a) → a ≡ b
 same_taken a b h = cc
 
-pub taken_by : (s : List ℕ) (a : Authenticate) → reading_of s ≡ Taken a → TakenBy s a
+pub taken_by : (s : List ℕ) (a : Authenticate) → reading_of s ≡ Ok a → TakenBy s a
 unfolding reading_of
 taken_by s a h =
     let p = on_flags_taken (read_head layout s) _ a h in
     let c = on_clear_taken (check_fields (length s) (unicode p.0) (fields_at s p.0)) _ a p.2 in
     record { flags = p.0; head = p.1; fields = c.0; answer = same_taken a _ c.1 }
 
-on_clear_clear : (k x : Verdict) → on_clear Not k x ≡ Clear → (k ≡ Clear) × (x ≡ Clear)
-on_clear_clear Clear x h = (refl, h)
-on_clear_clear (Not e) x h = (cc, cc)
+on_clear_clear : (k x : Result ⊤ Refusal) → on_clear Err k x ≡ Ok tt → (k ≡ Ok tt) × (x ≡ Ok tt)
+on_clear_clear (Ok tt) x h = (refl, h)
+on_clear_clear (Err e) x h = (cc, cc)
 
 -- the fields of a taken message passed checks 6, 7, 8 and 9
-pub fields_held : (n : ℕ) (b : Bool) (f : Fields) → check_fields n b f ≡ Clear →
-    (check_ends n f ≡ Clear) × (check_begins f ≡ Clear) × (check_names b f ≡ Clear) × (check_shared f ≡ Clear)
+pub fields_held : (n : ℕ) (b : Bool) (f : Fields) → check_fields n b f ≡ Ok tt →
+    (check_ends n f ≡ Ok tt) × (check_begins f ≡ Ok tt) × (check_names b f ≡ Ok tt) × (check_shared f ≡ Ok tt)
 unfolding check_fields
 fields_held n b f h =
     let e = on_clear_clear (check_ends n f) _ h in

@@ -1,4 +1,6 @@
 -- Where a MIC is: the lowest offset, tested field by field.
+use Rattle.std.specs.Prelude.{Result, Ok, Err}
+use Rattle.wire.specs.declared.refusal.Refusal.{Refusal}
 use Prim.Native.Nat.{ℕ, ◌+◌, ◌≤◌, min}
 use mathlib.Core.Path.{◌≡◌, refl, sym, ap, ◌∙◌}
 use mathlib.Core.Bool.{Bool, true, false, ◌||◌, ◌&&◌, not, cond}
@@ -8,7 +10,6 @@ use native.Mathlib.Omega.{arith}
 use lib.Dec.{leb}
 use lib.ListN.{length, take, drop, replicate}
 use borrow.Author.Tests.{leb-true, leb-false, le-leb, lt-leb}
-use Rattle.wire.specs.declared.check.Verdict.TheVariants.{Clear}
 use Rattle.field.specs.declared.Field.{Field}
 use Rattle.wire.specs.declared.refusal.Refusal.TheVariants.{PastEnd}
 use Rattle.wire.specs.Check.{over_all}
@@ -17,8 +18,6 @@ use Rattle.wire.proofs.Bools.{and_assoc, and-true, or_assoc, or-false}
 use Rattle.wire.proofs.Laws.{after_clear}
 use Rattle.read_authenticate.specs.declared.Authenticate.{Authenticate}
 use Rattle.read_authenticate.specs.declared.Fields.{Fields}
-use Rattle.read_authenticate.specs.declared.Reading.{Reading}
-use Rattle.read_authenticate.specs.declared.Reading.TheVariants.{Taken, Refused}
 use Rattle.read_authenticate.specs.Authenticate.{fields_at, all_fields, check_ends, lowest_offset, mic_present, reading_of, mic_bytes, read_authenticate}
 use Rattle.read_authenticate.proofs.Laws.{TakenBy, taken_by, fields_held}
 
@@ -70,10 +69,10 @@ mic_is n f p q r s t u =
     simp (p, q, r, s, t, u, and_assoc, or_assoc) (sym (simp (and_assoc, or_assoc, and-true, or-false) at (lowest 88 (all_fields f) n)))
 
 -- where all fields end inside, the lowest offset is inside
-lowest_inside : (n : ℕ) (fs : List (ℕ × Field)) (d : ℕ) → d ≤ n → over_all (ends_inside n) PastEnd fs ≡ Clear → lowest_offset fs d ≤ n
+lowest_inside : (n : ℕ) (fs : List (ℕ × Field)) (d : ℕ) → d ≤ n → over_all (ends_inside n) PastEnd fs ≡ Ok tt → lowest_offset fs d ≤ n
 lowest_inside n [] d l h = l
 lowest_inside n (f ∷ fs) d l h =
-    let p : ((is_empty f.1 || leb (f.1.offset + f.1.len) n) ≡ true) × (over_all (ends_inside n) PastEnd fs ≡ Clear) = after_clear _ _ _ h in
+    let p : ((is_empty f.1 || leb (f.1.offset + f.1.len) n) ≡ true) × (over_all (ends_inside n) PastEnd fs ≡ Ok tt) = after_clear _ _ _ h in
     go (is_empty f.1) p.0 (lowest_inside n fs d l p.1)
   where
     go : (e : Bool) → (e || leb (f.1.offset + f.1.len) n) ≡ true → lowest_offset fs d ≤ n →
@@ -82,30 +81,32 @@ lowest_inside n (f ∷ fs) d l h =
     go false p q = omega (arith, leb-true (f.1.offset + f.1.len) n p)
 
 -- a MIC that reading found lies within the message
-abbrev MicInside : Reading → ℕ → Type 0
-MicInside (Taken a) n = a.mic_present ≡ true → 88 ≤ n
-MicInside (Refused e) n = Unit
+abbrev MicInside : Result Authenticate Refusal → ℕ → Type 0
+MicInside (Ok a) n = a.mic_present ≡ true → 88 ≤ n
+MicInside (Err e) n = Unit
 
-mic_inside : (s : List ℕ) (r : Reading) → r ≡ reading_of s → MicInside r (length s)
+mic_inside : (s : List ℕ) (r : Result Authenticate Refusal) → r ≡ reading_of s → MicInside r (length s)
 unfolding mic_present check_ends
-mic_inside s (Taken a) e = λ m.
+mic_inside s (Ok a) e = λ m.
     let t : TakenBy s a = taken_by s a (sym e) in
     let b : mic_present (length s) (fields_at s t.flags) ≡ true = sym (ap (λ (x : Authenticate). x.mic_present) t.answer) ∙ m in
     le_trans (leb-true 88 (lowest_offset (all_fields (fields_at s t.flags)) (length s)) b)
     (lowest_inside (length s) (all_fields (fields_at s t.flags)) (length s) (le_refl (length s)) (fields_held _ _ _ t.fields).0)
-mic_inside s (Refused d) e = tt
+mic_inside s (Err d) e = tt
 
 -- the bytes that a reading's MIC has, by what the reading is known to be
-pub mic_there : (s m : List ℕ) (r : Reading) (a : Authenticate) → r ≡ Taken a → a.mic_present ≡ true → m ≡ take 16 (drop 72 s) → m ≡ mic_bytes r s
+pub mic_there : (s m : List ℕ) (r : Result Authenticate Refusal) (a : Authenticate) → r ≡ Ok a → a.mic_present ≡ true → m ≡ take 16 (drop 72 s) → m ≡ mic_bytes r s
 mic_there s m r a p h q = simp (p, h) q
 
-pub mic_absent : (s : List ℕ) (r : Reading) (a : Authenticate) → r ≡ Taken a → a.mic_present ≡ false → replicate 16 0 ≡ mic_bytes r s
+pub mic_absent : (s : List ℕ) (r : Result Authenticate Refusal) (a : Authenticate) → r ≡ Ok a → a.mic_present ≡ false → replicate 16 0 ≡ mic_bytes r s
 mic_absent s r a p h = simp (p, h)
 
-pub mic_room : (s : List ℕ) (r : Reading) (a : Authenticate) → r ≡ reading_of s → r ≡ Taken a → a.mic_present ≡ true → 88 ≤ length s
+pub mic_room : (s : List ℕ) (r : Result Authenticate Refusal) (a : Authenticate) → r ≡ reading_of s → r ≡ Ok a → a.mic_present ≡ true → 88 ≤ length s
 mic_room s r a e p h = (rw p at (mic_inside s r e)) h
 
+pub ruleset mic_bytes_rules = (mic_there, mic_absent, mic_room)
+
 -- the reading with its MIC is the answer
-pub answered : (s m : List ℕ) (r : Reading) → r ≡ reading_of s → m ≡ mic_bytes r s → record { reading = r; mic = m } ≡ read_authenticate s
+pub answered : (s m : List ℕ) (r : Result Authenticate Refusal) → r ≡ reading_of s → m ≡ mic_bytes r s → record { reading = r; mic = m } ≡ read_authenticate s
 unfolding read_authenticate
 answered s m r p q = rw (← p, q)

@@ -1,8 +1,9 @@
 -- AUTHENTICATE_MESSAGE (MS-NLMP 2.2.1.3), read as document 01 sets it out.
-use Rattle.std.specs.Prelude.{ℕ, min, Bool, true, ◌||◌, not, cond, List, [], ◌∷◌, leb, length, take, drop, replicate}
+use Rattle.wire.specs.Check.{on_ok}
+use Rattle.read_authenticate.specs.declared.Authenticate.{Authenticate}
+use Rattle.wire.specs.declared.refusal.Refusal.{Refusal}
+use Rattle.std.specs.Prelude.{Result, Ok, Err, ⊤, ℕ, min, Bool, true, ◌||◌, not, cond, List, [], ◌∷◌, leb, length, take, drop, replicate}
 use Rattle.wire.specs.declared.check.Checked.{Checked}
-use Rattle.wire.specs.declared.check.Verdict.{Verdict}
-use Rattle.wire.specs.declared.check.Verdict.TheVariants.{Refused as Not}
 use Rattle.field.specs.declared.Field.{Field}
 use Rattle.negotiate_flags.specs.declared.NegotiateFlags.{NegotiateFlags}
 use Rattle.head.specs.declared.Layout.{Layout}
@@ -10,10 +11,8 @@ use Rattle.wire.specs.declared.refusal.Refusal.TheVariants.{PastEnd, InFixedPart
 use Rattle.wire.specs.Check.{checked, over_all, on_clear}
 use Rattle.field.specs.Field.{is_empty, field_at, ends_inside, begins_after, even_name, share}
 use Rattle.negotiate_flags.specs.Flags.{unicode, key_exch}
-use Rattle.head.specs.Head.{read_head, on_flags}
+use Rattle.head.specs.Head.{read_head}
 use Rattle.read_authenticate.specs.declared.Fields.{Fields}
-use Rattle.read_authenticate.specs.declared.Reading.{Reading}
-use Rattle.read_authenticate.specs.declared.Reading.TheVariants.{Taken, Refused}
 use Rattle.read_authenticate.specs.declared.Answer.{Answer}
 
 -- a fixed part of 64 bytes (house), type 3, flags at 60
@@ -42,15 +41,15 @@ abbrev pub names : Fields → List (ℕ × Field)
 names f = (3, f.domain) ∷ (4, f.user) ∷ (5, f.workstation) ∷ []
 
 -- check 6: each nonempty field ends within the message
-unfoldable pub check_ends : ℕ → Fields → Verdict
+unfoldable pub check_ends : ℕ → Fields → Result ⊤ Refusal
 check_ends n f = over_all (ends_inside n) PastEnd (all_fields f)
 
 -- check 7: each nonempty field begins after the fixed part
-unfoldable pub check_begins : Fields → Verdict
+unfoldable pub check_begins : Fields → Result ⊤ Refusal
 check_begins f = over_all (begins_after 64) InFixedPart (all_fields f)
 
 -- check 8: with UNICODE, each nonempty name has an even offset and an even length
-unfoldable pub check_names : Bool → Fields → Verdict
+unfoldable pub check_names : Bool → Fields → Result ⊤ Refusal
 check_names unicode f = over_all (even_name unicode) OddName (names f)
 
 -- check 9 at one name: it shares no byte with a secret
@@ -58,7 +57,7 @@ abbrev pub apart : Fields → Field → Checked
 apart f name = checked (not ((share name f.lm || share name f.nt) || share name f.key))
 
 -- check 9: each name
-unfoldable pub check_shared : Fields → Verdict
+unfoldable pub check_shared : Fields → Result ⊤ Refusal
 check_shared f = over_all (apart f) NameOverSecret (names f)
 
 -- the lowest offset of a nonempty field, or n if all are empty
@@ -72,28 +71,28 @@ unfoldable pub mic_present : ℕ → Fields → Bool
 mic_present n f = leb 88 (lowest_offset (all_fields f) n)
 
 -- checks 6, 7, 8 and 9, each over all its fields in field order before the next starts
-unfoldable pub check_fields : ℕ → Bool → Fields → Verdict
+unfoldable pub check_fields : ℕ → Bool → Fields → Result ⊤ Refusal
 check_fields n unicode f =
-    on_clear Not (check_ends n f) (
-    on_clear Not (check_begins f) (
-    on_clear Not (check_names unicode f)
+    on_clear Err (check_ends n f) (
+    on_clear Err (check_begins f) (
+    on_clear Err (check_names unicode f)
     (check_shared f)))
 
 -- checks 1 to 5 by number, then 6 to 9
-unfoldable pub reading_of : List ℕ → Reading
+unfoldable pub reading_of : List ℕ → Result Authenticate Refusal
 reading_of s =
-    on_flags Refused (read_head layout s) (λ flags.
-    on_clear Refused (check_fields (length s) (unicode flags) (fields_at s flags))
-    (Taken (record {
+    on_ok Err (read_head layout s) (λ flags.
+    on_clear Err (check_fields (length s) (unicode flags) (fields_at s flags))
+    (Ok (record {
       flags = flags;
       fields = fields_at s flags;
       mic_present = mic_present (length s) (fields_at s flags);
     })))
 
 -- the MIC's bytes: the sixteen at 72 where it is present, else zeros
-abbrev pub mic_bytes : Reading → List ℕ → List ℕ
-mic_bytes (Taken a) s = cond a.mic_present (take 16 (drop 72 s)) (replicate 16 0)
-mic_bytes (Refused e) s = replicate 16 0
+abbrev pub mic_bytes : Result Authenticate Refusal → List ℕ → List ℕ
+mic_bytes (Ok a) s = cond a.mic_present (take 16 (drop 72 s)) (replicate 16 0)
+mic_bytes (Err e) s = replicate 16 0
 
 -- what reading answers
 unfoldable pub read_authenticate : List ℕ → Answer

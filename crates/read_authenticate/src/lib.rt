@@ -5,9 +5,9 @@ ghost use Rattle.std.specs.Prelude.{◌≡◌, ◌≤◌, length};
 ghost use Rattle.read_authenticate.specs.Authenticate.{fields_at, check_ends, check_begins, check_names, apart, check_shared, check_fields, mic_present, reading_of, mic_bytes, read_authenticate};
 
 use field::{Field, field_at};
-use head::{Head, Layout, read_head};
+use head::{Layout, read_head};
 use negotiate_flags::NegotiateFlags;
-use wire::check::{Checked, Verdict, check};
+use wire::check::{Checked, check};
 use wire::number::fill;
 use wire::refusal::Refusal;
 
@@ -29,19 +29,14 @@ pub struct Authenticate {
     pub mic_present: bool,
 }
 
-#[derive(Clone, Copy)]
-pub enum Reading {
-    Taken(Authenticate),
-    Refused(Refusal),
-}
-
 // What reading answers; the MIC's bytes are zeros where there is none.
 #[derive(Clone, Copy)]
 pub struct Answer {
-    pub reading: Reading,
+    pub reading: Result<Authenticate, Refusal>,
     pub mic: [u8; 16],
 }
 
+#[tactic(auto, using(crate::proofs::Laws::six))]
 fn fields_at(msg: &[u8], flags: NegotiateFlags) -> Fields
     requires { 64 ≤ length msg.now }
     ensures { result ≡ fields_at msg.now flags }
@@ -57,69 +52,72 @@ fn fields_at(msg: &[u8], flags: NegotiateFlags) -> Fields
 }
 
 // Check 6, over all fields of a message of `n` bytes.
-fn check_ends(f: Fields, n: u64) -> Verdict
+#[tactic(auto, using(wire::proofs::Laws::chain), unfolding(crate::specs::Authenticate::check_ends))]
+fn check_ends(f: Fields, n: u64) -> Result<(), Refusal>
     ensures { result ≡ check_ends n f }
 {
     let Checked::Held = f.lm.ends_inside(n) else {
-        return Verdict::Refused(Refusal::PastEnd(1));
+        return Err(Refusal::PastEnd(1));
     };
     let Checked::Held = f.nt.ends_inside(n) else {
-        return Verdict::Refused(Refusal::PastEnd(2));
+        return Err(Refusal::PastEnd(2));
     };
     let Checked::Held = f.domain.ends_inside(n) else {
-        return Verdict::Refused(Refusal::PastEnd(3));
+        return Err(Refusal::PastEnd(3));
     };
     let Checked::Held = f.user.ends_inside(n) else {
-        return Verdict::Refused(Refusal::PastEnd(4));
+        return Err(Refusal::PastEnd(4));
     };
     let Checked::Held = f.workstation.ends_inside(n) else {
-        return Verdict::Refused(Refusal::PastEnd(5));
+        return Err(Refusal::PastEnd(5));
     };
     let Checked::Held = f.key.ends_inside(n) else {
-        return Verdict::Refused(Refusal::PastEnd(6));
+        return Err(Refusal::PastEnd(6));
     };
-    Verdict::Clear
+    Ok(())
 }
 
 // Check 7, over all fields.
-fn check_begins(f: Fields) -> Verdict
+#[tactic(auto, using(wire::proofs::Laws::chain), unfolding(crate::specs::Authenticate::check_begins))]
+fn check_begins(f: Fields) -> Result<(), Refusal>
     ensures { result ≡ check_begins f }
 {
     let Checked::Held = f.lm.begins_after(64) else {
-        return Verdict::Refused(Refusal::InFixedPart(1));
+        return Err(Refusal::InFixedPart(1));
     };
     let Checked::Held = f.nt.begins_after(64) else {
-        return Verdict::Refused(Refusal::InFixedPart(2));
+        return Err(Refusal::InFixedPart(2));
     };
     let Checked::Held = f.domain.begins_after(64) else {
-        return Verdict::Refused(Refusal::InFixedPart(3));
+        return Err(Refusal::InFixedPart(3));
     };
     let Checked::Held = f.user.begins_after(64) else {
-        return Verdict::Refused(Refusal::InFixedPart(4));
+        return Err(Refusal::InFixedPart(4));
     };
     let Checked::Held = f.workstation.begins_after(64) else {
-        return Verdict::Refused(Refusal::InFixedPart(5));
+        return Err(Refusal::InFixedPart(5));
     };
     let Checked::Held = f.key.begins_after(64) else {
-        return Verdict::Refused(Refusal::InFixedPart(6));
+        return Err(Refusal::InFixedPart(6));
     };
-    Verdict::Clear
+    Ok(())
 }
 
 // Check 8, over the names.
-fn check_names(f: Fields, unicode: bool) -> Verdict
+#[tactic(auto, using(wire::proofs::Laws::chain), unfolding(crate::specs::Authenticate::check_names))]
+fn check_names(f: Fields, unicode: bool) -> Result<(), Refusal>
     ensures { result ≡ check_names unicode f }
 {
     let Checked::Held = f.domain.even_name(unicode) else {
-        return Verdict::Refused(Refusal::OddName(3));
+        return Err(Refusal::OddName(3));
     };
     let Checked::Held = f.user.even_name(unicode) else {
-        return Verdict::Refused(Refusal::OddName(4));
+        return Err(Refusal::OddName(4));
     };
     let Checked::Held = f.workstation.even_name(unicode) else {
-        return Verdict::Refused(Refusal::OddName(5));
+        return Err(Refusal::OddName(5));
     };
-    Verdict::Clear
+    Ok(())
 }
 
 // Check 9 at one name: it shares no byte with a secret.
@@ -130,22 +128,24 @@ fn name_apart(name: Field, f: Fields) -> Checked
 }
 
 // Check 9, over the names.
-fn check_shared(f: Fields) -> Verdict
+#[tactic(auto, using(wire::proofs::Laws::chain), unfolding(crate::specs::Authenticate::check_shared))]
+fn check_shared(f: Fields) -> Result<(), Refusal>
     ensures { result ≡ check_shared f }
 {
     let Checked::Held = name_apart(f.domain, f) else {
-        return Verdict::Refused(Refusal::NameOverSecret(3));
+        return Err(Refusal::NameOverSecret(3));
     };
     let Checked::Held = name_apart(f.user, f) else {
-        return Verdict::Refused(Refusal::NameOverSecret(4));
+        return Err(Refusal::NameOverSecret(4));
     };
     let Checked::Held = name_apart(f.workstation, f) else {
-        return Verdict::Refused(Refusal::NameOverSecret(5));
+        return Err(Refusal::NameOverSecret(5));
     };
-    Verdict::Clear
+    Ok(())
 }
 
 // Whether a MIC is there: the lowest offset of a nonempty field, or else the message's length, is at least 88.
+#[tactic(auto, using(crate::proofs::Mic::mic_is))]
 fn mic_present(f: Fields, n: usize) -> bool
     ensures { result ≡ mic_present n f }
 {
@@ -165,58 +165,44 @@ fn mic_present(f: Fields, n: usize) -> bool
 }
 
 // Checks 6 to 9 on the fields of a message of `n` bytes.
-fn check_fields(f: Fields, unicode: bool, n: u64) -> Verdict
+fn check_fields(f: Fields, unicode: bool, n: u64) -> Result<(), Refusal>
     ensures { result ≡ check_fields n unicode f }
 {
-    let ends = check_ends(f, n);
-    let Verdict::Clear = ends else {
-        return ends;
-    };
-    let starts = check_begins(f);
-    let Verdict::Clear = starts else {
-        return starts;
-    };
-    let names = check_names(f, unicode);
-    let Verdict::Clear = names else {
-        return names;
-    };
+    check_ends(f, n)?;
+    check_begins(f)?;
+    check_names(f, unicode)?;
     check_shared(f)
 }
 
 // Checks 1 to 9. Only heads are looked at, whatever the message's length.
-fn reading_of(msg: &[u8]) -> Reading
+fn reading_of(msg: &[u8]) -> Result<Authenticate, Refusal>
     ensures { result ≡ reading_of msg.now }
 {
-    let head = read_head(
+    let flags = read_head(
         msg,
         Layout {
             fixed: 64,
             message_type: 3,
             flags: 60,
         },
-    );
-    let Head::Flags(flags) = head else {
-        return Reading::Refused(head.refusal());
-    };
+    )?;
     let fields = fields_at(msg, flags);
-    let verdict = check_fields(fields, flags.unicode(), msg.len() as u64);
-    let Verdict::Clear = verdict else {
-        return Reading::Refused(verdict.refusal());
-    };
-    Reading::Taken(Authenticate {
-        flags: flags,
-        fields: fields,
+    check_fields(fields, flags.unicode(), msg.len() as u64)?;
+    Ok(Authenticate {
+        flags,
+        fields,
         mic_present: mic_present(fields, msg.len()),
     })
 }
 
 // The sixteen bytes at 72 where the message's reading found a MIC, zeros otherwise.
-fn mic_bytes(msg: &[u8], reading: Reading) -> [u8; 16]
+#[tactic(auto, using(crate::proofs::Mic::mic_bytes_rules))]
+fn mic_bytes(msg: &[u8], reading: Result<Authenticate, Refusal>) -> [u8; 16]
     requires { reading ≡ reading_of msg.now }
     ensures { result ≡ mic_bytes reading msg.now }
 {
     let mut mic = [0u8; 16];
-    let Reading::Taken(a) = reading else {
+    let Ok(a) = reading else {
         return mic;
     };
     if a.mic_present {
@@ -227,13 +213,11 @@ fn mic_bytes(msg: &[u8], reading: Reading) -> [u8; 16]
 }
 
 // Reads a message of any length: flags, MIC and the six fields' places, or the refusal.
+#[tactic(auto, using(crate::proofs::Mic::answered))]
 pub fn read(msg: &[u8]) -> Answer
     ensures { result ≡ read_authenticate msg.now }
 {
     let reading = reading_of(msg);
     let mic = mic_bytes(msg, reading);
-    Answer {
-        reading: reading,
-        mic: mic,
-    }
+    Answer { reading, mic }
 }

@@ -2,14 +2,14 @@
 #![tactic(auto)]
 
 ghost use Rattle.std.specs.Prelude.{◌≡◌, ◌≤◌, length};
-ghost use Rattle.read_challenge.specs.Challenge.{fields_at, check_ends, check_begins, check_names, check_fields, fields_of, read_info, reading_of, reading_refusal};
-ghost use Rattle.read_challenge.specs.Challenge.{full_reading_of, full_refusal, server_challenge, read_challenge, timestamp_of, server_names_of};
+ghost use Rattle.read_challenge.specs.Challenge.{fields_at, check_ends, check_begins, check_names, check_fields, fields_of, read_info, reading_of};
+ghost use Rattle.read_challenge.specs.Challenge.{full_reading_of, server_challenge, read_challenge, timestamp_of, server_names_of};
 
 use field::{Field, field_at};
-use head::{Head, Layout, read_head};
+use head::{Layout, read_head};
 use negotiate_flags::NegotiateFlags;
-use target_info::{Contents, ListReading, ServerNames, Timestamp, read_list, server_names_in};
-use wire::check::{Checked, Verdict};
+use target_info::{Contents, ServerNames, read_list, server_names_in};
+use wire::check::Checked;
 use wire::number::fill;
 use wire::refusal::Refusal;
 
@@ -26,16 +26,10 @@ pub struct Challenge {
     pub fields: Fields,
 }
 
-#[derive(Clone, Copy)]
-pub enum Reading {
-    Taken(Challenge),
-    Refused(Refusal),
-}
-
 // What reading answers; ServerChallenge's bytes are zeros where the message is refused.
 #[derive(Clone, Copy)]
 pub struct Answer {
-    pub reading: Reading,
+    pub reading: Result<Challenge, Refusal>,
     pub server_challenge: [u8; 8],
 }
 
@@ -46,24 +40,7 @@ pub struct FullChallenge {
     pub contents: Contents,
 }
 
-#[derive(Clone, Copy)]
-pub enum FullReading {
-    Taken(FullChallenge),
-    Refused(Refusal),
-}
-
-#[derive(Clone, Copy)]
-pub enum TimestampReading {
-    Taken(Timestamp),
-    Refused(Refusal),
-}
-
-#[derive(Clone, Copy)]
-pub enum ServerNamesReading {
-    Taken(ServerNames),
-    Refused(Refusal),
-}
-
+#[tactic(auto, using(crate::proofs::Laws::both))]
 fn fields_at(msg: &[u8], flags: NegotiateFlags) -> Fields
     requires { 48 ≤ length msg.now }
     ensures { result ≡ fields_at msg.now flags }
@@ -75,133 +52,110 @@ fn fields_at(msg: &[u8], flags: NegotiateFlags) -> Fields
 }
 
 // Check 6, over both fields of a message of `n` bytes.
-fn check_ends(f: Fields, n: u64) -> Verdict
+#[tactic(auto, using(wire::proofs::Laws::chain), unfolding(crate::specs::Challenge::check_ends))]
+fn check_ends(f: Fields, n: u64) -> Result<(), Refusal>
     ensures { result ≡ check_ends n f }
 {
     let Checked::Held = f.target_name.ends_inside(n) else {
-        return Verdict::Refused(Refusal::PastEnd(1));
+        return Err(Refusal::PastEnd(1));
     };
     let Checked::Held = f.target_info.ends_inside(n) else {
-        return Verdict::Refused(Refusal::PastEnd(2));
+        return Err(Refusal::PastEnd(2));
     };
-    Verdict::Clear
+    Ok(())
 }
 
 // Check 7, over both fields.
-fn check_begins(f: Fields) -> Verdict
+#[tactic(auto, using(wire::proofs::Laws::chain), unfolding(crate::specs::Challenge::check_begins))]
+fn check_begins(f: Fields) -> Result<(), Refusal>
     ensures { result ≡ check_begins f }
 {
     let Checked::Held = f.target_name.begins_after(48) else {
-        return Verdict::Refused(Refusal::InFixedPart(1));
+        return Err(Refusal::InFixedPart(1));
     };
     let Checked::Held = f.target_info.begins_after(48) else {
-        return Verdict::Refused(Refusal::InFixedPart(2));
+        return Err(Refusal::InFixedPart(2));
     };
-    Verdict::Clear
+    Ok(())
 }
 
 // Check 8: TargetName is the only name.
-fn check_names(f: Fields, unicode: bool) -> Verdict
+#[tactic(auto, using(wire::proofs::Laws::chain), unfolding(crate::specs::Challenge::check_names))]
+fn check_names(f: Fields, unicode: bool) -> Result<(), Refusal>
     ensures { result ≡ check_names unicode f }
 {
     let Checked::Held = f.target_name.even_name(unicode) else {
-        return Verdict::Refused(Refusal::OddName(1));
+        return Err(Refusal::OddName(1));
     };
-    Verdict::Clear
+    Ok(())
 }
 
 // Checks 6 to 8 on the fields of a message of `n` bytes.
-fn check_fields(f: Fields, unicode: bool, n: u64) -> Verdict
+fn check_fields(f: Fields, unicode: bool, n: u64) -> Result<(), Refusal>
     ensures { result ≡ check_fields n unicode f }
 {
-    let ends = check_ends(f, n);
-    let Verdict::Clear = ends else {
-        return ends;
-    };
-    let starts = check_begins(f);
-    let Verdict::Clear = starts else {
-        return starts;
-    };
+    check_ends(f, n)?;
+    check_begins(f)?;
     check_names(f, unicode)
 }
 
 // Checks 1 to 8. Only heads are looked at, whatever the message's length.
-fn fields_of(msg: &[u8]) -> Reading
+fn fields_of(msg: &[u8]) -> Result<Challenge, Refusal>
     ensures { result ≡ fields_of msg.now }
 {
-    let head = read_head(
+    let flags = read_head(
         msg,
         Layout {
             fixed: 48,
             message_type: 2,
             flags: 20,
         },
-    );
-    let Head::Flags(flags) = head else {
-        return Reading::Refused(head.refusal());
-    };
+    )?;
     let fields = fields_at(msg, flags);
-    let verdict = check_fields(fields, flags.unicode(), msg.len() as u64);
-    let Verdict::Clear = verdict else {
-        return Reading::Refused(verdict.refusal());
-    };
-    Reading::Taken(Challenge {
-        flags: flags,
-        fields: fields,
-    })
+    check_fields(fields, flags.unicode(), msg.len() as u64)?;
+    Ok(Challenge { flags, fields })
 }
 
 // Goes over TargetInfo's bytes once: checks 10 to 13, and what the list holds. The place of a refusal is the list's, and becomes
 // the message's here.
-fn read_info(msg: &[u8], c: Challenge) -> ListReading
+#[tactic(auto, using(crate::proofs::Laws::info))]
+fn read_info(msg: &[u8], c: Challenge) -> Result<Contents, Refusal>
     ensures { result ≡ read_info msg.now c }
 {
     let list = c.fields.target_info;
-    let reading = read_list(list.bytes(msg));
-    let ListReading::Taken(_) = reading else {
-        return ListReading::Refused(reading.refusal().moved_by(list.offset as usize));
-    };
-    reading
+    match read_list(list.bytes(msg)) {
+        Ok(contents) => Ok(contents),
+        Err(e) => Err(e.moved_by(list.offset as usize)),
+    }
 }
 
 // Checks 1 to 8, then 10 to 13: the challenge and what its TargetInfo holds, or the refusal.
-pub fn read_full(msg: &[u8]) -> FullReading
+pub fn read_full(msg: &[u8]) -> Result<FullChallenge, Refusal>
     ensures { result ≡ full_reading_of msg.now }
 {
-    let reading = fields_of(msg);
-    let Reading::Taken(c) = reading else {
-        return FullReading::Refused(reading.refusal());
-    };
-    let info = read_info(msg, c);
-    let ListReading::Taken(contents) = info else {
-        return FullReading::Refused(info.refusal());
-    };
-    FullReading::Taken(FullChallenge {
-        challenge: c,
-        contents: contents,
+    let challenge = fields_of(msg)?;
+    let contents = read_info(msg, challenge)?;
+    Ok(FullChallenge {
+        challenge,
+        contents,
     })
 }
 
 // The challenge alone.
-fn reading_of(msg: &[u8]) -> Reading
+fn reading_of(msg: &[u8]) -> Result<Challenge, Refusal>
     ensures { result ≡ reading_of msg.now }
 {
-    match read_full(msg) {
-        FullReading::Taken(f) => {
-            let c = f.challenge;
-            Reading::Taken(c)
-        }
-        FullReading::Refused(e) => Reading::Refused(e),
-    }
+    Ok(read_full(msg)?.challenge)
 }
 
 // The eight bytes at 24 of a message that was taken, zeros otherwise.
-fn server_challenge(msg: &[u8], reading: Reading) -> [u8; 8]
+#[tactic(auto, using(crate::proofs::Laws::challenge_bytes))]
+fn server_challenge(msg: &[u8], reading: Result<Challenge, Refusal>) -> [u8; 8]
     requires { reading ≡ reading_of msg.now }
     ensures { result ≡ server_challenge reading msg.now }
 {
     let mut bytes = [0u8; 8];
-    let Reading::Taken(_) = reading else {
+    let Ok(_) = reading else {
         return bytes;
     };
     fill(&mut bytes, msg, 24);
@@ -209,62 +163,29 @@ fn server_challenge(msg: &[u8], reading: Reading) -> [u8; 8]
 }
 
 // Reads a message of any length: flags, ServerChallenge and both fields' places, or the refusal.
+#[tactic(auto, using(crate::proofs::Laws::answered))]
 pub fn read(msg: &[u8]) -> Answer
     ensures { result ≡ read_challenge msg.now }
 {
     let reading = reading_of(msg);
-    let bytes = server_challenge(msg, reading);
+    let server_challenge = server_challenge(msg, reading);
     Answer {
-        reading: reading,
-        server_challenge: bytes,
-    }
-}
-
-impl Reading {
-    // The refusal of a message that was refused; of one that was taken, which has none, 1. Callers ask for it only of the first.
-    fn refusal(self) -> Refusal
-        ensures { result ≡ reading_refusal self }
-    {
-        match self {
-            Reading::Refused(e) => e,
-            Reading::Taken(_) => Refusal::TooLong,
-        }
-    }
-}
-
-impl FullReading {
-    // The same of a reading with what TargetInfo holds.
-    pub fn refusal(self) -> Refusal
-        ensures { result ≡ full_refusal self }
-    {
-        match self {
-            FullReading::Refused(e) => e,
-            FullReading::Taken(_) => Refusal::TooLong,
-        }
+        reading,
+        server_challenge,
     }
 }
 
 // The timestamp of a challenge as a number; refuses as reading does.
-pub fn read_timestamp(msg: &[u8]) -> TimestampReading
+pub fn read_timestamp(msg: &[u8]) -> Result<Option<u64>, Refusal>
     ensures { result ≡ timestamp_of msg.now }
 {
-    match read_full(msg) {
-        FullReading::Taken(f) => {
-            let contents = f.contents;
-            let timestamp = contents.timestamp;
-            TimestampReading::Taken(timestamp)
-        }
-        FullReading::Refused(e) => TimestampReading::Refused(e),
-    }
+    Ok(read_full(msg)?.contents.timestamp)
 }
 
 // Whether a challenge holds pairs 1 and 2; refuses as reading does.
-pub fn read_server_names(msg: &[u8]) -> ServerNamesReading
+pub fn read_server_names(msg: &[u8]) -> Result<ServerNames, Refusal>
     ensures { result ≡ server_names_of msg.now }
 {
-    let reading = reading_of(msg);
-    let Reading::Taken(c) = reading else {
-        return ServerNamesReading::Refused(reading.refusal());
-    };
-    ServerNamesReading::Taken(server_names_in(c.fields.target_info.bytes(msg)))
+    let c = reading_of(msg)?;
+    Ok(server_names_in(c.fields.target_info.bytes(msg)))
 }

@@ -1,4 +1,6 @@
 -- What a step is: a label, a jump, the zero byte, or the fault at its place.
+use Rattle.std.specs.Prelude.{Result, Ok, Err}
+use Rattle.read_dns_name.specs.declared.Fault.{Fault}
 use Prim.Native.Nat.{ℕ, ◌+◌, ◌-◌, ◌≤◌, ◌<◌}
 use mathlib.Core.Path.{◌≡◌, refl, sym, subst}
 use mathlib.Core.Bool.{Bool, true, false, cond}
@@ -9,18 +11,18 @@ use borrow.Author.Tests.{leb-true, leb-false, ltb-true, ltb-false, eqb-true, eqb
 use Rattle.wire.specs.Check.{checked, after}
 use Rattle.read_dns_name.specs.declared.Cursor.{Cursor}
 use Rattle.read_dns_name.specs.declared.Step.{Step}
-use Rattle.read_dns_name.specs.declared.Step.TheVariants.{Label, Jump, End, Refused}
+use Rattle.read_dns_name.specs.declared.Step.TheVariants.{Label, Jump, End}
 use Rattle.read_dns_name.specs.DnsName.{left, label_of, jump_to, jump_place, jump_at, step_at, number_of}
 use Rattle.read_dns_name.specs.Rfc1035.{NameEndAt, LabelAt, JumpAt, NameFaultAt, no_byte, label_cut, jump_cut, top_bits, not_before, seventeenth, too_long}
 
 abbrev pub Fault-here : List ℕ → Cursor → ℕ → Type 0
 Fault-here s c n = NameFaultAt s c.at c.run c.jumps c.coded n
 
-abbrev pub JudgedS : List ℕ → Cursor → Step → Type 0
-JudgedS s c (Label n) = LabelAt s c.at n × (c.coded + 1 + n ≤ 255)
-JudgedS s c (Jump to) = JumpAt s c.at to × (to < c.run) × (c.jumps < 16)
-JudgedS s c End = NameEndAt s c.at
-JudgedS s c (Refused e) = Fault-here s c (number_of e)
+abbrev pub JudgedS : List ℕ → Cursor → Result Step Fault → Type 0
+JudgedS s c (Ok (Label n)) = LabelAt s c.at n × (c.coded + 1 + n ≤ 255)
+JudgedS s c (Ok (Jump to)) = JumpAt s c.at to × (to < c.run) × (c.jumps < 16)
+JudgedS s c (Ok End) = NameEndAt s c.at
+JudgedS s c (Err e) = Fault-here s c (number_of e)
 
 -- a check that is one test, and an `if`: by what the test said
 checking : {A : Type 0} (P : A → Type 0) (b : Bool) (e x : A) → (b ≡ false → P e) → (b ≡ true → P x) → P (after (checked b) e x)
@@ -32,7 +34,7 @@ choosing P true x y f g = f refl
 choosing P false x y f g = g refl
 
 module _ (s : List ℕ) (c : Cursor) where
-  abbrev P : Step → Type 0
+  abbrev P : Result Step Fault → Type 0
   P x = JudgedS s c x
 
   label_judged : (n : ℕ) → get_or s c.at 0 ≡ n → 1 ≤ n → n < 64 → c.at < length s → P (label_of c n (length s - c.at))
@@ -78,5 +80,5 @@ module _ (s : List ℕ) (c : Cursor) where
       (λ t. top_bits refl there more (ltb-true b 192 t))
       (λ t. jump_judged (ltb-false b 192 t) there few))))
 
-  pub gave : (r : Step) → c.jumps ≤ 16 → r ≡ step_at s c → JudgedS s c r
+  pub gave : (r : Result Step Fault) → c.jumps ≤ 16 → r ≡ step_at s c → JudgedS s c r
   gave r few e = subst (λ x. JudgedS s c x) (sym e) (step_judged few)

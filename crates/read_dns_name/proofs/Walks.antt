@@ -1,4 +1,5 @@
 -- Laws of the walk over a name, step by step.
+use Rattle.std.specs.Prelude.{Result, Ok, Err}
 use Prim.Native.Nat.{ℕ, suc, ◌+◌, ◌-◌, ◌^◌, ◌≤◌, ◌<◌}
 use mathlib.Core.Path.{◌≡◌, refl, sym, ap, ◌∙◌}
 use mathlib.Core.List.{List, [], ◌∷◌}
@@ -9,9 +10,8 @@ use mir.Val.{Fits}
 use Rattle.read_dns_name.specs.declared.Cursor.{Cursor}
 use Rattle.read_dns_name.specs.declared.Fault.{Fault}
 use Rattle.read_dns_name.specs.declared.Name.{Name}
-use Rattle.read_dns_name.specs.declared.Reading.TheVariants.{Taken, Refused as Not}
 use Rattle.read_dns_name.specs.declared.Step.{Step}
-use Rattle.read_dns_name.specs.declared.Step.TheVariants.{Label, Jump, End, Refused}
+use Rattle.read_dns_name.specs.declared.Step.TheVariants.{Label, Jump, End}
 use Rattle.read_dns_name.specs.DnsName.{step_at, begin, past_label, jumped, ended, name_from, labels_from, max_steps, read_name, labels_at}
 use Rattle.read_dns_name.specs.Rfc1035.{LabelAt, JumpAt}
 use Rattle.read_dns_name.proofs.Judged.{gave}
@@ -32,11 +32,15 @@ pub record Sound (c : Cursor) : Type 0 where
 pub sound_start : (start : ℕ) (c : Cursor) → c ≡ begin start → Sound c
 sound_start start c e = rw e (record { short = omega arith; few = omega arith })
 
-module _ (s : List ℕ) (c : Cursor) (w : Sound c) (r : Step) (e : r ≡ step_at s c) where
+-- the answer of a step, by what was found in it
+pub given : (r : Result Step Fault) (o x : Step) → r ≡ Ok o → o ≡ x → r ≡ Ok x
+given r o x h q = rw (← q) h
+
+module _ (s : List ℕ) (c : Cursor) (w : Sound c) (r : Result Step Fault) (e : r ≡ step_at s c) where
   -- a label that a step gave
-  module _ (n : ℕ) (h : r ≡ Label n) where
+  module _ (n : ℕ) (h : r ≡ (Ok (Label n))) where
     pub given_label : LabelAt s c.at n × (c.coded + 1 + n ≤ 255)
-    given_label = gave s c (Label n) w.few (sym h ∙ e)
+    given_label = gave s c (Ok (Label n)) w.few (sym h ∙ e)
 
     pub at_fits : length s < 2 ^ 64 → c.at + 1 + n < 2 ^ 64
     at_fits f = omega (arith, given_label.0.whole)
@@ -62,9 +66,9 @@ module _ (s : List ℕ) (c : Cursor) (w : Sound c) (r : Step) (e : r ≡ step_at
       sound_label = rw q (record { short = given_label.1; few = w.few })
 
   -- a jump
-  module _ (to : ℕ) (h : r ≡ Jump to) where
+  module _ (to : ℕ) (h : r ≡ (Ok (Jump to))) where
     pub given_jump : JumpAt s c.at to × (to < c.run) × (c.jumps < 16)
-    given_jump = gave s c (Jump to) w.few (sym h ∙ e)
+    given_jump = gave s c (Ok (Jump to)) w.few (sym h ∙ e)
 
     pub behind_fits : length s < 2 ^ 64 → c.at + 2 < 2 ^ 64
     behind_fits f = omega (arith, given_jump.0.whole)
@@ -80,8 +84,8 @@ module _ (s : List ℕ) (c : Cursor) (w : Sound c) (r : Step) (e : r ≡ step_at
       sound_jump = rw q (record { short = w.short; few = omega (arith, given_jump.2) })
 
   -- the zero byte
-  pub end_fits : r ≡ End → length s < 2 ^ 64 → c.at + 1 < 2 ^ 64
-  end_fits h f = omega (arith, (gave s c End w.few (sym h ∙ e)).there)
+  pub end_fits : r ≡ Ok End → length s < 2 ^ 64 → c.at + 1 < 2 ^ 64
+  end_fits h f = omega (arith, (gave s c (Ok End) w.few (sym h ∙ e)).there)
 
 -- ---- reading: what the name is, is found from the cursor on
 
@@ -99,8 +103,8 @@ reach_start s start c e =
 pub reach_short : (s : List ℕ) (start : ℕ) (c : Cursor) → Reached s start c → c.coded ≤ 255
 reach_short s start c w = w.sound.short
 
-module _ (s : List ℕ) (start : ℕ) (c : Cursor) (w : Reached s start c) (r : Step) (e : r ≡ step_at s c) where
-  pub reach_label : (n : ℕ) → r ≡ Label n → (d : Cursor) → d ≡ past_label c n → Reached s start d
+module _ (s : List ℕ) (start : ℕ) (c : Cursor) (w : Reached s start c) (r : Result Step Fault) (e : r ≡ step_at s c) where
+  pub reach_label : (n : ℕ) → r ≡ (Ok (Label n)) → (d : Cursor) → d ≡ past_label c n → Reached s start d
   reach_label n h d q =
       let f = label_falls s c w.sound r e n h d q in
       let k : w.fuel ≡ suc (w.fuel - 1) = omega (arith, w.enough, f) in
@@ -111,7 +115,7 @@ module _ (s : List ℕ) (start : ℕ) (c : Cursor) (w : Reached s start c) (r : 
         same = simp (w.same, ← e, h, ← q) (ap (λ (x : ℕ). name_from x s d) k);
       }
 
-  pub reach_jump : (to : ℕ) → r ≡ Jump to → (d : Cursor) → d ≡ jumped c to → Reached s start d
+  pub reach_jump : (to : ℕ) → r ≡ (Ok (Jump to)) → (d : Cursor) → d ≡ jumped c to → Reached s start d
   reach_jump to h d q =
       let f = jump_falls s c w.sound r e to h d q in
       let k : w.fuel ≡ suc (w.fuel - 1) = omega (arith, w.enough, f) in
@@ -122,10 +126,10 @@ module _ (s : List ℕ) (start : ℕ) (c : Cursor) (w : Reached s start c) (r : 
         same = simp (w.same, ← e, h, ← q) (ap (λ (x : ℕ). name_from x s d) k);
       }
 
-  pub reach_end : r ≡ End → (m : Name) → m ≡ ended c → Taken m ≡ read_name s start
+  pub reach_end : r ≡ Ok End → (m : Name) → m ≡ ended c → Ok m ≡ read_name s start
   reach_end h m q = rw q (sym (simp (w.same, ← e, h)))
 
-  pub reach_fault : (f : Fault) → r ≡ Refused f → Not f ≡ read_name s start
+  pub reach_fault : (f : Fault) → r ≡ Err f → Err f ≡ read_name s start
   reach_fault f h = sym (simp (w.same, ← e, h))
 
 -- ---- a second walk, for the labels: those that are left from the cursor on
@@ -147,8 +151,8 @@ pub record Split (s : List ℕ) (c : Cursor) (n : ℕ) (ls : List (List ℕ)) : 
   pub first : ls ≡ take n (drop (c.at + 1) s) ∷ more
   pub remain : Remaining s (past_label c n) more
 
-module _ (s : List ℕ) (c : Cursor) (ls : List (List ℕ)) (w : Remaining s c ls) (r : Step) (e : r ≡ step_at s c) where
-  pub split : (n : ℕ) → r ≡ Label n → Split s c n ls
+module _ (s : List ℕ) (c : Cursor) (ls : List (List ℕ)) (w : Remaining s c ls) (r : Result Step Fault) (e : r ≡ step_at s c) where
+  pub split : (n : ℕ) → r ≡ (Ok (Label n)) → Split s c n ls
   split n h =
       let d : Cursor = past_label c n in
       let f = label_falls s c w.sound r e n h d refl in
@@ -159,7 +163,7 @@ module _ (s : List ℕ) (c : Cursor) (ls : List (List ℕ)) (w : Remaining s c l
         remain = record { sound = sound_label s c w.sound r e n h d refl; fuel = w.fuel - 1; enough = omega (arith, w.enough, f); same = refl };
       }
 
-  pub remain_jump : (to : ℕ) → r ≡ Jump to → (d : Cursor) → d ≡ jumped c to → Remaining s d ls
+  pub remain_jump : (to : ℕ) → r ≡ (Ok (Jump to)) → (d : Cursor) → d ≡ jumped c to → Remaining s d ls
   remain_jump to h d q =
       let f = jump_falls s c w.sound r e to h d q in
       let k : w.fuel ≡ suc (w.fuel - 1) = omega (arith, w.enough, f) in
@@ -170,10 +174,10 @@ module _ (s : List ℕ) (c : Cursor) (ls : List (List ℕ)) (w : Remaining s c l
         same = simp (w.same, ← e, h, ← q) (ap (λ (x : ℕ). labels_from x s d) k);
       }
 
-  pub none_at_end : r ≡ End → ls ≡ []
+  pub none_at_end : r ≡ Ok End → ls ≡ []
   none_at_end h = simp (w.same, ← e, h)
 
-  pub none_at_fault : (f : Fault) → r ≡ Refused f → ls ≡ []
+  pub none_at_fault : (f : Fault) → r ≡ Err f → ls ≡ []
   none_at_fault f h = simp (w.same, ← e, h)
 
 pub ruleset label_part = (from_fits, to_fits, to_inside)

@@ -2,7 +2,7 @@
 #![tactic(auto)]
 
 ghost use Rattle.std.specs.Prelude.{◌≡◌, ◌+◌, ◌≤◌, ◌<◌, ◌^◌, length};
-ghost use Rattle.read_dns_name.specs.DnsName.{left, begin, past_label, jumped, ended, jump_place, label_of, jump_to, jump_at, step_at, read_name};
+ghost use Rattle.read_dns_name.specs.DnsName.{begin, past_label, jumped, ended, jump_place, label_of, jump_to, jump_at, step_at, read_name};
 
 use wire::check::{Checked, check};
 
@@ -35,7 +35,6 @@ pub enum Step {
     Label(usize),
     Jump(usize),
     End,
-    Refused(Fault),
 }
 
 // A name that was read: the jumps taken, and the place where the next string starts.
@@ -43,12 +42,6 @@ pub enum Step {
 pub struct Name {
     pub jumps: usize,
     pub next: usize,
-}
-
-#[derive(Clone, Copy)]
-pub enum Reading {
-    Taken(Name),
-    Refused(Fault),
 }
 
 impl Cursor {
@@ -81,21 +74,16 @@ impl Cursor {
         requires { (self.at + 2 < 2 ^ 64) × (self.jumps + 1 < 2 ^ 64) }
         ensures { result ≡ jumped self to }
     {
-        if self.jumps == 0 {
-            return Cursor {
-                at: to,
-                run: to,
-                jumps: 1,
-                coded: self.coded,
-                next: self.at + 2,
-            };
-        }
+        let next = match self.jumps {
+            0 => self.at + 2,
+            _ => self.next,
+        };
         Cursor {
             at: to,
             run: to,
             jumps: self.jumps + 1,
             coded: self.coded,
-            next: self.next,
+            next,
         }
     }
 
@@ -104,121 +92,98 @@ impl Cursor {
         requires { self.at + 1 < 2 ^ 64 }
         ensures { result ≡ ended self }
     {
-        if self.jumps == 0 {
-            return Name {
-                jumps: 0,
-                next: self.at + 1,
-            };
-        }
+        let next = match self.jumps {
+            0 => self.at + 1,
+            _ => self.next,
+        };
         Name {
             jumps: self.jumps,
-            next: self.next,
+            next,
         }
     }
-}
-
-fn wide(x: u8) -> usize
-    ensures { (result ≡ x) × (result < 256) }
-{
-    x as usize
-}
-
-// How many bytes are left from a place on.
-fn left(buf: &[u8], at: usize) -> usize
-    ensures { result ≡ left buf.now at }
-{
-    if at < buf.len() {
-        return buf.len() - at;
-    }
-    0
 }
 
 // The place in the other 14 bits of a jump.
 fn jump_place(high: u8, low: u8) -> usize
     ensures { result ≡ jump_place high low }
 {
-    256 * (wide(high) % 64) + wide(low)
+    256 * (usize::from(high) % 64) + usize::from(low)
 }
 
 // 15 and 53 for a label of n bytes.
-fn label_of(c: Cursor, n: usize, left: usize) -> Step
+#[tactic(auto, unfolding(crate::specs::DnsName::label_of))]
+fn label_of(c: Cursor, n: usize, left: usize) -> Result<Step, Fault>
     requires { (c.coded ≤ 255) × (n < 256) }
     ensures { result ≡ label_of c n left }
 {
     let Checked::Held = check(1 + n <= left) else {
-        return Step::Refused(Fault::CutShort);
+        return Err(Fault::CutShort);
     };
     let Checked::Held = check(c.coded + 1 + n <= 255) else {
-        return Step::Refused(Fault::NameTooLong);
+        return Err(Fault::NameTooLong);
     };
-    Step::Label(n)
+    Ok(Step::Label(n))
 }
 
 // 51 and 52 for a jump.
-fn jump_to(c: Cursor, to: usize) -> Step
+#[tactic(auto, unfolding(crate::specs::DnsName::jump_to))]
+fn jump_to(c: Cursor, to: usize) -> Result<Step, Fault>
     ensures { result ≡ jump_to c to }
 {
     let Checked::Held = check(to < c.run) else {
-        return Step::Refused(Fault::PlaceNotBefore);
+        return Err(Fault::PlaceNotBefore);
     };
     let Checked::Held = check(c.jumps < 16) else {
-        return Step::Refused(Fault::TooManyJumps);
+        return Err(Fault::TooManyJumps);
     };
-    Step::Jump(to)
+    Ok(Step::Jump(to))
 }
 
 // 15 for a jump, then 51 and 52.
-fn jump_at(buf: &[u8], c: Cursor) -> Step
+#[tactic(auto, unfolding(crate::specs::DnsName::jump_at, crate::specs::DnsName::left))]
+fn jump_at(buf: &[u8], c: Cursor) -> Result<Step, Fault>
     requires { c.at < length buf.now }
     ensures { result ≡ jump_at buf.now c }
 {
-    let at = c.at;
-    let left = left(buf, at);
-    let Checked::Held = check(2 <= left) else {
-        return Step::Refused(Fault::CutShort);
+    let Checked::Held = check(2 <= buf.len().saturating_sub(c.at)) else {
+        return Err(Fault::CutShort);
     };
-    jump_to(c, jump_place(buf[at], buf[at + 1]))
+    jump_to(c, jump_place(buf[c.at], buf[c.at + 1]))
 }
 
 // What stands at the cursor.
-pub fn step_at(buf: &[u8], c: Cursor) -> Step
+#[tactic(auto, unfolding(crate::specs::DnsName::step_at, crate::specs::DnsName::left))]
+pub fn step_at(buf: &[u8], c: Cursor) -> Result<Step, Fault>
     requires { c.coded ≤ 255 }
     ensures { result ≡ step_at buf.now c }
 {
-    let at = c.at;
-    let left = left(buf, at);
+    let left = buf.len().saturating_sub(c.at);
     let Checked::Held = check(1 <= left) else {
-        return Step::Refused(Fault::CutShort);
+        return Err(Fault::CutShort);
     };
-    let b = buf[at];
+    let b = buf[c.at];
     if b == 0 {
-        return Step::End;
+        return Ok(Step::End);
     }
     if b < 64 {
-        return label_of(c, wide(b), left);
+        return label_of(c, usize::from(b), left);
     }
     if b < 192 {
-        return Step::Refused(Fault::WrongTopBits);
+        return Err(Fault::WrongTopBits);
     }
     jump_at(buf, c)
 }
 
 // Reads the name that starts at a place.
-pub fn read_name(buf: &[u8], start: usize) -> Reading
+pub fn read_name(buf: &[u8], start: usize) -> Result<Name, Fault>
     ensures { result ≡ read_name buf.now start }
 {
     let mut c = Cursor::begin(start);
-    let reading = loop {
-        match step_at(buf, c) {
-            Step::Label(n) => {
-                c = c.past_label(n);
-            }
-            Step::Jump(to) => {
-                c = c.jumped(to);
-            }
-            Step::End => break Reading::Taken(c.ended()),
-            Step::Refused(e) => break Reading::Refused(e),
+    loop {
+        match step_at(buf, c)? {
+            Step::Label(n) => c = c.past_label(n),
+            Step::Jump(to) => c = c.jumped(to),
+            Step::End => return Ok(c.ended()),
         }
-    };
-    reading
+    }
 }

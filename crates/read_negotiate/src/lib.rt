@@ -5,9 +5,9 @@ ghost use Rattle.std.specs.Prelude.{◌≡◌, ◌≤◌, length};
 ghost use Rattle.read_negotiate.specs.Negotiate.{fields_at, check_ends, check_begins, check_fields, read_negotiate};
 
 use field::{Field, field_at};
-use head::{Head, Layout, read_head};
+use head::{Layout, read_head};
 use negotiate_flags::NegotiateFlags;
-use wire::check::{Checked, Verdict};
+use wire::check::Checked;
 use wire::refusal::Refusal;
 
 // The two names, in field order: 1 and 2. Both are OEM bytes, whatever the flags say.
@@ -23,12 +23,7 @@ pub struct Negotiate {
     pub fields: Fields,
 }
 
-#[derive(Clone, Copy)]
-pub enum Reading {
-    Taken(Negotiate),
-    Refused(Refusal),
-}
-
+#[tactic(auto, using(crate::proofs::Laws::both))]
 fn fields_at(msg: &[u8], flags: NegotiateFlags) -> Fields
     requires { 32 ≤ length msg.now }
     ensures { result ≡ fields_at msg.now flags }
@@ -40,64 +35,54 @@ fn fields_at(msg: &[u8], flags: NegotiateFlags) -> Fields
 }
 
 // Check 6, over both fields of a message of `n` bytes.
-fn check_ends(f: Fields, n: u64) -> Verdict
+#[tactic(auto, using(wire::proofs::Laws::chain), unfolding(crate::specs::Negotiate::check_ends))]
+fn check_ends(f: Fields, n: u64) -> Result<(), Refusal>
     ensures { result ≡ check_ends n f }
 {
     let Checked::Held = f.domain.ends_inside(n) else {
-        return Verdict::Refused(Refusal::PastEnd(1));
+        return Err(Refusal::PastEnd(1));
     };
     let Checked::Held = f.workstation.ends_inside(n) else {
-        return Verdict::Refused(Refusal::PastEnd(2));
+        return Err(Refusal::PastEnd(2));
     };
-    Verdict::Clear
+    Ok(())
 }
 
 // Check 7, over both fields.
-fn check_begins(f: Fields) -> Verdict
+#[tactic(auto, using(wire::proofs::Laws::chain), unfolding(crate::specs::Negotiate::check_begins))]
+fn check_begins(f: Fields) -> Result<(), Refusal>
     ensures { result ≡ check_begins f }
 {
     let Checked::Held = f.domain.begins_after(32) else {
-        return Verdict::Refused(Refusal::InFixedPart(1));
+        return Err(Refusal::InFixedPart(1));
     };
     let Checked::Held = f.workstation.begins_after(32) else {
-        return Verdict::Refused(Refusal::InFixedPart(2));
+        return Err(Refusal::InFixedPart(2));
     };
-    Verdict::Clear
+    Ok(())
 }
 
 // Checks 6 and 7 on the fields of a message of `n` bytes.
-fn check_fields(f: Fields, n: u64) -> Verdict
+fn check_fields(f: Fields, n: u64) -> Result<(), Refusal>
     ensures { result ≡ check_fields n f }
 {
-    let ends = check_ends(f, n);
-    let Verdict::Clear = ends else {
-        return ends;
-    };
+    check_ends(f, n)?;
     check_begins(f)
 }
 
 // Reads a message of any length: flags and both names' places, or the refusal. Only heads are looked at.
-pub fn read(msg: &[u8]) -> Reading
+pub fn read(msg: &[u8]) -> Result<Negotiate, Refusal>
     ensures { result ≡ read_negotiate msg.now }
 {
-    let head = read_head(
+    let flags = read_head(
         msg,
         Layout {
             fixed: 32,
             message_type: 1,
             flags: 12,
         },
-    );
-    let Head::Flags(flags) = head else {
-        return Reading::Refused(head.refusal());
-    };
+    )?;
     let fields = fields_at(msg, flags);
-    let verdict = check_fields(fields, msg.len() as u64);
-    let Verdict::Clear = verdict else {
-        return Reading::Refused(verdict.refusal());
-    };
-    Reading::Taken(Negotiate {
-        flags: flags,
-        fields: fields,
-    })
+    check_fields(fields, msg.len() as u64)?;
+    Ok(Negotiate { flags, fields })
 }

@@ -1,4 +1,3 @@
 pub mod Scans
-pub mod Laws
 pub mod Places
 pub mod Names

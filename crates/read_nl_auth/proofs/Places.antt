@@ -1,4 +1,7 @@
 -- What an NL_AUTH message is refused for has no place.
+use Rattle.std.specs.Prelude.{Result, Option, Ok, Err, Some, None}
+use Rattle.read_dns_name.specs.declared.Name.{Name}
+use Rattle.read_nl_auth.specs.declared.NlAuth.{NlAuth}
 use Prim.Native.Nat.{ℕ, ◌+◌}
 use mathlib.Core.Path.{◌≡◌, refl}
 use mathlib.Core.Bool.{Bool, true, false, cond}
@@ -11,34 +14,26 @@ use Rattle.nl_auth_flags.specs.declared.NlAuthFlags.{NlAuthFlags}
 use Rattle.nl_auth_flags.specs.Flags.{nb_domain, nb_computer, dns_domain, dns_host, utf8_computer, strings_hold}
 use Rattle.read_dns_name.specs.declared.Fault.{Fault}
 use Rattle.read_dns_name.specs.declared.Fault.TheVariants.{CutShort, WrongTopBits, PlaceNotBefore as NotBefore, TooManyJumps as ManyJumps, NameTooLong as LongName}
-use Rattle.read_dns_name.specs.declared.Reading.{Reading as NameReading}
-use Rattle.read_dns_name.specs.declared.Reading.TheVariants.{Taken as Read, Refused as Faulty}
 use Rattle.read_dns_name.specs.DnsName.{read_name}
 use Rattle.read_nl_auth.specs.declared.string.NlString.{NlString}
-use Rattle.read_nl_auth.specs.declared.string.Scan.{Scan}
-use Rattle.read_nl_auth.specs.declared.string.Scan.TheVariants.{Found, Missing}
-use Rattle.read_nl_auth.specs.declared.name.NameScan.{NameScan}
-use Rattle.read_nl_auth.specs.declared.name.NameScan.TheVariants.{Found as Named, Refused as Not}
-use Rattle.read_nl_auth.specs.declared.Reading.{Reading}
-use Rattle.read_nl_auth.specs.declared.Reading.TheVariants.{Taken, Refused}
 use Rattle.read_nl_auth.specs.NlAuth.{buffer_of, in_buffer, name_string, refusal_in, on_name, name_at, name_under, on_named, string_under, on_found, message_type, flags_at, is_request, type_holds, end_holds, response_holds, read_utf8, read_request, read_response, read_nl_auth}
 
-abbrev Placeless : Reading → Type 0
-Placeless (Taken m) = Unit
-Placeless (Refused e) = place_of e ≡ 0
+abbrev Placeless : Result NlAuth Refusal → Type 0
+Placeless (Ok m) = Unit
+Placeless (Err e) = place_of e ≡ 0
 
-of_found : (k : Scan) (e : Reading) (x : NlString → ℕ → Reading) → Placeless e → ((f : NlString) (n : ℕ) → Placeless (x f n)) → Placeless (on_found k e x)
-of_found (Found f n) e x p q = q f n
-of_found Missing e x p q = p
+of_found : (k : Option (NlString × ℕ)) (e : Result NlAuth Refusal) (x : NlString → ℕ → Result NlAuth Refusal) → Placeless e → ((f : NlString) (n : ℕ) → Placeless (x f n)) → Placeless (on_found k e x)
+of_found (Some (f, n)) e x p q = q f n
+of_found None e x p q = p
 
-of_either : (b : Bool) (x y : Reading) → Placeless x → Placeless y → Placeless (cond b x y)
+of_either : (b : Bool) (x y : Result NlAuth Refusal) → Placeless x → Placeless y → Placeless (cond b x y)
 of_either true x y p q = p
 of_either false x y p q = q
 
 -- a name's refusal
-abbrev PlacelessN : NameScan → Type 0
-PlacelessN (Named x n) = Unit
-PlacelessN (Not e) = place_of e ≡ 0
+abbrev PlacelessN : Result (NlString × ℕ) Refusal → Type 0
+PlacelessN (Ok (x, n)) = Unit
+PlacelessN (Err e) = place_of e ≡ 0
 
 in_string : (e : Fault) (n : ℕ) → place_of (refusal_in e n) ≡ 0
 in_string CutShort n = refl
@@ -50,14 +45,14 @@ in_string LongName n = refl
 named : (b : Bool) (s : List ℕ) (at n : ℕ) → PlacelessN (name_under b s at n)
 unfolding name_under name_at
 named true s at n = go (read_name (buffer_of s) (in_buffer at)) where
-  go : (r : NameReading) → PlacelessN (on_name r (λ m. Named (name_string at m) (8 + m.next)) (λ e. Not (refusal_in e n)))
-  go (Read m) = tt
-  go (Faulty e) = in_string e n
+  go : (r : Result Name Fault) → PlacelessN (on_name r (λ m. (Ok ((name_string at m), (8 + m.next)))) (λ e. Err (refusal_in e n)))
+  go (Ok m) = tt
+  go (Err e) = in_string e n
 named false s at n = tt
 
-of_named : (k : NameScan) (x : NlString → ℕ → Reading) → PlacelessN k → ((f : NlString) (n : ℕ) → Placeless (x f n)) → Placeless (on_named k x)
-of_named (Named f n) x p q = q f n
-of_named (Not e) x p q = p
+of_named : (k : Result (NlString × ℕ) Refusal) (x : NlString → ℕ → Result NlAuth Refusal) → PlacelessN k → ((f : NlString) (n : ℕ) → Placeless (x f n)) → Placeless (on_named k x)
+of_named (Ok (f, n)) x p q = q f n
+of_named (Err e) x p q = p
 
 utf8 : (w : NlAuthFlags) (s : List ℕ) (a b : NlString) (n : ℕ) → Placeless (read_utf8 w s a b n)
 unfolding read_utf8
@@ -87,8 +82,8 @@ placeless s =
     of_after Placeless (type_holds (message_type s)) _ _ refl
     (of_either (is_request (message_type s)) _ _ (request (flags_at s) s) (response s))))
 
-pub nl_auth_placeless : (s : List ℕ) (r : Reading) (e : Refusal) → r ≡ read_nl_auth s → r ≡ Refused e → place_of e ≡ 0
+pub nl_auth_placeless : (s : List ℕ) (r : Result NlAuth Refusal) (e : Refusal) → r ≡ read_nl_auth s → r ≡ Err e → place_of e ≡ 0
 nl_auth_placeless s r e p h = go r h (rw p (placeless s)) where
-  go : (r : Reading) → r ≡ Refused e → Placeless r → place_of e ≡ 0
-  go (Taken m) q z = cc
-  go (Refused d) q z = let same : d ≡ e = cc in rw same at z
+  go : (r : Result NlAuth Refusal) → r ≡ Err e → Placeless r → place_of e ≡ 0
+  go (Ok m) q z = cc
+  go (Err d) q z = let same : d ≡ e = cc in rw same at z

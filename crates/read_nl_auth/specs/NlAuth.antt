@@ -1,5 +1,6 @@
 -- NL_AUTH_MESSAGE (MS-NRPC 2.2.1.3.1), read as document 01 sets it out: MessageType at 0, Flags at 4, Buffer from 8.
-use Rattle.std.specs.Prelude.{ℕ, suc, ◌+◌, ◌-◌, Bool, ◌||◌, ◌&&◌, cond, List, [], ◌∷◌, leb, ltb, eqb, length, get_or, take, drop}
+use Rattle.read_nl_auth.specs.declared.NlAuth.{NlAuth}
+use Rattle.std.specs.Prelude.{Result, Option, Ok, Err, Some, None, ℕ, suc, ◌+◌, ◌-◌, Bool, ◌||◌, ◌&&◌, cond, List, [], ◌∷◌, leb, ltb, eqb, length, get_or, take, drop}
 use Rattle.wire.specs.declared.check.Checked.{Checked}
 use Rattle.wire.specs.declared.refusal.Refusal.{Refusal}
 use Rattle.wire.specs.declared.refusal.Refusal.TheVariants.{TooLong, TooShort, WrongType, NoStrings, Unterminated, BytesLeft, WrongResponse, WrongLabel, PlaceNotBefore, TooManyJumps, NameTooLong}
@@ -7,19 +8,11 @@ use Rattle.wire.specs.Check.{checked, after}
 use Rattle.head.specs.Head.{length_holds, fixed_part_holds}
 use Rattle.wire.specs.Number.{u32_at}
 use Rattle.nl_auth_flags.specs.declared.NlAuthFlags.{NlAuthFlags}
-use Rattle.read_nl_auth.specs.declared.Reading.{Reading}
-use Rattle.read_nl_auth.specs.declared.Reading.TheVariants.{Taken, Refused}
 use Rattle.read_nl_auth.specs.declared.Strings.{Strings}
 use Rattle.read_nl_auth.specs.declared.string.NlString.{NlString}
-use Rattle.read_nl_auth.specs.declared.string.Scan.{Scan}
-use Rattle.read_nl_auth.specs.declared.string.Scan.TheVariants.{Found, Missing}
-use Rattle.read_nl_auth.specs.declared.name.NameScan.{NameScan}
-use Rattle.read_nl_auth.specs.declared.name.NameScan.TheVariants.{Found as Named, Refused as Not}
 use Rattle.read_dns_name.specs.declared.Fault.{Fault}
 use Rattle.read_dns_name.specs.declared.Fault.TheVariants.{CutShort, WrongTopBits, PlaceNotBefore as NotBefore, TooManyJumps as ManyJumps, NameTooLong as LongName}
 use Rattle.read_dns_name.specs.declared.Name.{Name}
-use Rattle.read_dns_name.specs.declared.Reading.{Reading as NameReading}
-use Rattle.read_dns_name.specs.declared.Reading.TheVariants.{Taken as Read, Refused as Faulty}
 use Rattle.read_dns_name.specs.DnsName.{read_name, labels_at}
 use Rattle.nl_auth_flags.specs.Flags.{nb_domain, nb_computer, dns_domain, dns_host, utf8_computer, known, no_flags, strings_hold}
 
@@ -48,20 +41,20 @@ abbrev pub holds_zero : List ℕ → Bool
 holds_zero bs = ltb (string_length bs) (length bs)
 
 -- the string from a place on: up to and without the first zero byte, after which the next string starts
-unfoldable pub string_at : List ℕ → ℕ → Scan
+unfoldable pub string_at : List ℕ → ℕ → Option (NlString × ℕ)
 string_at s at =
     cond (holds_zero (drop at s))
-    (Found (record { offset = at; len = string_length (drop at s); jumps = 0 }) (at + string_length (drop at s) + 1))
-    Missing
+    (Some ((record { offset = at; len = string_length (drop at s); jumps = 0 }), (at + string_length (drop at s) + 1)))
+    None
 
 -- the string under a bit: where that is clear there is none, and the next string starts at this place
-unfoldable pub string_under : Bool → List ℕ → ℕ → Scan
-string_under set s at = cond set (string_at s at) (Found no_string at)
+unfoldable pub string_under : Bool → List ℕ → ℕ → Option (NlString × ℕ)
+string_under set s at = cond set (string_at s at) (Some (no_string, at))
 
 -- check 15 at one string: its answer e where the zero byte is missing, and else what x makes of the string
-abbrev pub on_found : {A : Type 0} → Scan → A → (NlString → ℕ → A) → A
-on_found (Found string next) e x = x string next
-on_found Missing e x = e
+abbrev pub on_found : {A : Type 0} → Option (NlString × ℕ) → A → (NlString → ℕ → A) → A
+on_found (Some (string, next)) e x = x string next
+on_found None e x = e
 
 -- ---- strings C, D and E, names by RFC 1035
 
@@ -84,32 +77,23 @@ refusal_in LongName n = NameTooLong n
 abbrev pub name_string : ℕ → Name → NlString
 name_string at m = record { offset = at; len = 8 + m.next - at; jumps = m.jumps }
 
-abbrev pub on_name : {A : Type 0} → NameReading → (Name → A) → (Fault → A) → A
-on_name (Read m) x f = x m
-on_name (Faulty e) x f = f e
-
--- the refusal of a name in string n; of one that was taken, which has no fault, 1
-abbrev pub name_refusal : NameReading → ℕ → Refusal
-name_refusal r n = on_name r (λ m. TooLong) (λ e. refusal_in e n)
+abbrev pub on_name : {A : Type 0} → Result Name Fault → (Name → A) → (Fault → A) → A
+on_name (Ok m) x f = x m
+on_name (Err e) x f = f e
 
 -- string n from a place of the message on
-unfoldable pub name_at : List ℕ → ℕ → ℕ → NameScan
+unfoldable pub name_at : List ℕ → ℕ → ℕ → Result (NlString × ℕ) Refusal
 name_at s at n =
-    on_name (read_name (buffer_of s) (in_buffer at)) (λ m. Named (name_string at m) (8 + m.next)) (λ e. Not (refusal_in e n))
+    on_name (read_name (buffer_of s) (in_buffer at)) (λ m. (Ok ((name_string at m), (8 + m.next)))) (λ e. Err (refusal_in e n))
 
 -- the string under a bit, as above
-unfoldable pub name_under : Bool → List ℕ → ℕ → ℕ → NameScan
-name_under set s at n = cond set (name_at s at n) (Named no_string at)
+unfoldable pub name_under : Bool → List ℕ → ℕ → ℕ → Result (NlString × ℕ) Refusal
+name_under set s at n = cond set (name_at s at n) (Ok (no_string, at))
 
 -- a string's own refusal, and else what x makes of the string
-abbrev pub on_named : NameScan → (NlString → ℕ → Reading) → Reading
-on_named (Named string next) x = x string next
-on_named (Not e) x = Refused e
-
--- a string's own refusal; of one that was found, which has none, 1
-abbrev pub scan_refusal : NameScan → Refusal
-scan_refusal (Named string next) = TooLong
-scan_refusal (Not e) = e
+abbrev pub on_named : Result (NlString × ℕ) Refusal → (NlString → ℕ → Result NlAuth Refusal) → Result NlAuth Refusal
+on_named (Ok (string, next)) x = x string next
+on_named (Err e) x = Err e
 
 -- the labels of a string that was taken
 abbrev pub labels_of : List ℕ → NlString → List (List ℕ)
@@ -139,13 +123,13 @@ end_holds next s = checked (eqb next (length s))
 
 -- the UTF-8 strings, C to E, after the OEM strings a and b: 15 and 50 to 53, "string by string and before 16"; b', c', d' and
 -- e' are the places after the strings b, c, d and e
-unfoldable pub read_utf8 : NlAuthFlags → List ℕ → NlString → NlString → ℕ → Reading
+unfoldable pub read_utf8 : NlAuthFlags → List ℕ → NlString → NlString → ℕ → Result NlAuth Refusal
 read_utf8 flags s a b b' =
     on_named (name_under (dns_domain flags) s b' 3) (λ c c'.
     on_named (name_under (dns_host flags) s c' 4) (λ d d'.
     on_named (name_under (utf8_computer flags) s d' 5) (λ e e'.
-    after (end_holds e' s) (Refused BytesLeft)
-    (Taken (record {
+    after (end_holds e' s) (Err BytesLeft)
+    (Ok (record {
       message_type = 0;
       flags = flags;
       strings = record {
@@ -158,11 +142,11 @@ read_utf8 flags s a b b' =
     })))))
 
 -- a request: 14, then the string of each set bit, A first, then 16
-unfoldable pub read_request : NlAuthFlags → List ℕ → Reading
+unfoldable pub read_request : NlAuthFlags → List ℕ → Result NlAuth Refusal
 read_request flags s =
-    after (strings_hold flags) (Refused NoStrings) (
-    on_found (string_under (nb_domain flags) s 8) (Refused (Unterminated 1)) (λ a a'.
-    on_found (string_under (nb_computer flags) s a') (Refused (Unterminated 2)) (λ b b'.
+    after (strings_hold flags) (Err NoStrings) (
+    on_found (string_under (nb_domain flags) s 8) (Err (Unterminated 1)) (λ a a'.
+    on_found (string_under (nb_computer flags) s a') (Err (Unterminated 2)) (λ b b'.
     read_utf8 flags s a b b')))
 
 -- the strings of a response
@@ -181,15 +165,15 @@ abbrev pub response_holds : List ℕ → Checked
 response_holds s = checked (eqb (length s) 9 && eqb (get_or s 8 0) 0)
 
 -- a response: 17; its flags are ignored
-unfoldable pub read_response : List ℕ → Reading
+unfoldable pub read_response : List ℕ → Result NlAuth Refusal
 read_response s =
-    after (response_holds s) (Refused WrongResponse)
-    (Taken (record { message_type = 1; flags = no_flags; strings = empty_strings }))
+    after (response_holds s) (Err WrongResponse)
+    (Ok (record { message_type = 1; flags = no_flags; strings = empty_strings }))
 
 -- checks 1, 2 and 4, then those of the type
-unfoldable pub read_nl_auth : List ℕ → Reading
+unfoldable pub read_nl_auth : List ℕ → Result NlAuth Refusal
 read_nl_auth s =
-    after (length_holds s) (Refused TooLong) (
-    after (fixed_part_holds 8 s) (Refused TooShort) (
-    after (type_holds (message_type s)) (Refused WrongType)
+    after (length_holds s) (Err TooLong) (
+    after (fixed_part_holds 8 s) (Err TooShort) (
+    after (type_holds (message_type s)) (Err WrongType)
     (cond (is_request (message_type s)) (read_request (flags_at s) s) (read_response s))))

@@ -4,7 +4,7 @@ ghost use Rattle.field.specs.Field.{PartAt};
 ghost use Rattle.read_nl_auth.specs.NlAuth.{string_bytes, string_start, string_length, string_at, string_under};
 
 // Where a string stands in its message, and how many jumps were taken in reading it. One that isn't there has 0 in all three.
-#[derive(Clone, Copy)]
+#[derive(Clone, Copy, Default)]
 pub struct NlString {
     pub offset: u32,
     pub len: u16,
@@ -13,6 +13,7 @@ pub struct NlString {
 
 impl NlString {
     // The string's own bytes, as a part of the message; of a record that doesn't fit this message, the empty part.
+    #[tactic(auto, unfolding(crate::specs::NlAuth::string_bytes, crate::specs::NlAuth::string_start))]
     pub fn bytes(self, msg: &[u8]) -> &[u8]
         ensures content { result.now ≡ string_bytes msg.now self }
         ensures place { PartAt result.ref_ptr msg.entry.ref_ptr (string_start msg.now self) }
@@ -26,29 +27,16 @@ impl NlString {
     }
 }
 
-// What stands at a place: a string and the place where the next one starts, or bytes without a zero byte.
-#[derive(Clone, Copy)]
-pub enum Scan {
-    Found(NlString, usize),
-    Missing,
-}
-
 // How many bytes stand before the first zero byte; all of them if there is none.
 pub fn string_length(s: &[u8]) -> usize
     ensures { result ≡ string_length s.now }
 {
-    let mut i: usize = 0;
-    while i < s.len() {
-        if s[i] == 0 {
-            return i;
-        }
-        i = i + 1;
-    }
-    i
+    s.iter().position(|b| *b == 0).unwrap_or(s.len())
 }
 
 // The string from `at` on.
-fn string_at(msg: &[u8], at: usize) -> Scan
+#[tactic(auto, unfolding(crate::specs::NlAuth::string_at))]
+fn string_at(msg: &[u8], at: usize) -> Option<(NlString, usize)>
     requires { (at ≤ length msg.now) × (length msg.now ≤ 65535) }
     ensures { result ≡ string_at msg.now at }
 {
@@ -60,23 +48,19 @@ fn string_at(msg: &[u8], at: usize) -> Scan
             len: len as u16,
             jumps: 0,
         };
-        return Scan::Found(string, at + len + 1);
+        return Some((string, at + len + 1));
     }
-    Scan::Missing
+    None
 }
 
 // The string of a bit, which stands at `at` if the bit is set.
-pub(crate) fn string_under(msg: &[u8], at: usize, set: bool) -> Scan
+#[tactic(auto, unfolding(crate::specs::NlAuth::string_under))]
+pub(crate) fn string_under(msg: &[u8], at: usize, set: bool) -> Option<(NlString, usize)>
     requires { (at ≤ length msg.now) × (length msg.now ≤ 65535) }
     ensures { result ≡ string_under set msg.now at }
 {
     if set {
         return string_at(msg, at);
     }
-    let none = NlString {
-        offset: 0,
-        len: 0,
-        jumps: 0,
-    };
-    Scan::Found(none, at)
+    Some((NlString::default(), at))
 }

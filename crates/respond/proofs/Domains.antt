@@ -1,4 +1,7 @@
 -- Laws of the domain to send.
+use Rattle.wire.specs.Check.{on_ok}
+use Rattle.std.specs.Prelude.{Result, Option, Ok, Err, Some, None}
+use Rattle.read_challenge.specs.declared.FullChallenge.{FullChallenge}
 use Prim.Native.Nat.{ℕ, ◌+◌, ◌-◌, ◌≤◌, ◌<◌, ◌^◌}
 use mathlib.Core.Path.{◌≡◌, refl, sym, ap, ◌∙◌}
 use mathlib.Core.Bool.{Bool, true, false, cond}
@@ -16,24 +19,18 @@ use Rattle.av_id.specs.AvId.{is_nb_domain_name}
 use Rattle.field.specs.Field.{PartAt, field_bytes, field_start}
 use Rattle.wire.proofs.Laws.{branches}
 use Rattle.av_pairs.specs.declared.AvPair.{AvPair}
-use Rattle.av_pairs.specs.declared.Found.{Found}
-use Rattle.av_pairs.specs.declared.Found.TheVariants.{At, Nothing}
 use Rattle.av_pairs.specs.AvPairs.{pairs_of}
 use Rattle.target_info.specs.TargetInfo.{first_by, first_pair}
 use Rattle.target_info.proofs.Searches.{found_in}
 use Rattle.read_challenge.specs.declared.Challenge.{Challenge}
-use Rattle.read_challenge.specs.declared.Reading.{Reading}
-use Rattle.read_challenge.specs.declared.Reading.TheVariants.{Taken}
-use Rattle.read_challenge.specs.declared.FullReading.{FullReading}
-use Rattle.read_challenge.specs.declared.FullReading.TheVariants.{Refused as Unread}
-use Rattle.read_challenge.specs.Challenge.{reading_of, on_taken, info_of, full_reading_of}
+use Rattle.read_challenge.specs.Challenge.{reading_of, info_of, full_reading_of}
 use Rattle.read_challenge.proofs.Laws.{refusal_alone}
 use Rattle.respond.specs.Domain.{Part, own_part, value_part, on_pair_found, domain_part, domain_to_send, lent, DomainWithin}
 
 -- ---- the search for pair 2
 
 -- a pair that was found ends within its list
-module _ (l : List ℕ) (f : Found) (p : AvPair) (k : f ≡ first_pair (record { id = 2 }) l) (h : f ≡ At p) where
+module _ (l : List ℕ) (f : Option AvPair) (p : AvPair) (k : f ≡ first_pair (record { id = 2 }) l) (h : f ≡ Some p) where
   pub value_end : p.at + p.len ≤ length l
   unfolding first_pair
   value_end = (found_in is_nb_domain_name l p (sym k ∙ h)).gave.inside
@@ -43,24 +40,24 @@ module _ (l : List ℕ) (f : Found) (p : AvPair) (k : f ≡ first_pair (record {
 
 -- ---- the challenge's pair 2
 
-pub first_is : (s l : List ℕ) (c : Challenge) (f : Found) → l ≡ info_of s c →
+pub first_is : (s l : List ℕ) (c : Challenge) (f : Option AvPair) → l ≡ info_of s c →
     f ≡ first_pair (record { id = 2 }) l → f ≡ first_by is_nb_domain_name (pairs_of (info_of s c))
 unfolding first_pair
 first_is s l c f k q = q ∙ simp k
 
 -- a challenge that was not read
-pub unread : {A : Type 0} (f : Refusal → A) (s : List ℕ) (r : FullReading) (e : Refusal) (x : Challenge → A) (y : A) →
-    r ≡ full_reading_of s → r ≡ Unread e → y ≡ f e → y ≡ on_taken f (reading_of s) x
+pub unread : {A : Type 0} (f : Refusal → A) (s : List ℕ) (r : Result FullChallenge Refusal) (e : Refusal) (x : Challenge → A) (y : A) →
+    r ≡ full_reading_of s → r ≡ Err e → y ≡ f e → y ≡ on_ok f (reading_of s) x
 unread f s r e x y p h q = simp (← refusal_alone s r p e h) q
 
-pub found_at : {A : Type 0} (k f : Found) (p : AvPair) (x : AvPair → A) (z y : A) → f ≡ k → f ≡ At p → y ≡ x p → y ≡ on_pair_found k x z
+pub found_at : {A : Type 0} (k f : Option AvPair) (p : AvPair) (x : AvPair → A) (z y : A) → f ≡ k → f ≡ Some p → y ≡ x p → y ≡ on_pair_found k x z
 found_at k f p x z y e h q = simp (← e, h) q
 
-pub found_none : {A : Type 0} (k f : Found) (x : AvPair → A) (z y : A) → f ≡ k → f ≡ Nothing → y ≡ z → y ≡ on_pair_found k x z
+pub found_none : {A : Type 0} (k f : Option AvPair) (x : AvPair → A) (z y : A) → f ≡ k → f ≡ None → y ≡ z → y ≡ on_pair_found k x z
 found_none k f x z y e h q = simp (← e, h) q
 
 -- a challenge that is known to be taken
-pub on_taken_lem : {A : Type 0} (f : Refusal → A) (k : Reading) (c : Challenge) (x : Challenge → A) (y : A) → k ≡ Taken c → y ≡ x c → y ≡ on_taken f k x
+pub on_taken_lem : {A : Type 0} (f : Refusal → A) (k : Result Challenge Refusal) (c : Challenge) (x : Challenge → A) (y : A) → k ≡ Ok c → y ≡ x c → y ≡ on_ok f k x
 on_taken_lem f k c x y h q = simp h q
 
 pub ruleset ways = (branches, on_taken_lem, unread, found_at, found_none, first_is)
@@ -88,7 +85,7 @@ part_within s f = go (leb (f.offset + f.len) (length s)) refl where
   go false e = omega arith
 
 -- the value of a pair that was found in a challenge that was taken
-module _ (own s : List ℕ) (c : Challenge) (f : Found) (p : AvPair) (t : reading_of s ≡ Taken c) (h : f ≡ At p)
+module _ (own s : List ℕ) (c : Challenge) (f : Option AvPair) (p : AvPair) (t : reading_of s ≡ Ok c) (h : f ≡ Some p)
     (e : value_part s c p ≡ domain_part own s) where
   pub value_content : (l : List ℕ) → l ≡ info_of s c → take (p.at + p.len - p.at) (drop p.at l) ≡ domain_to_send own s
   value_content l k =

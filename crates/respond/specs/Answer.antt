@@ -1,36 +1,32 @@
 -- Answering a challenge (MS-NLMP 3.1.5.1.2): what is written, Time, and whether a MIC is due.
-use Rattle.std.specs.Prelude.{ℕ, Bool, true, false, ◌||◌, ◌&&◌, cond, List, [], length, replicate}
+use Rattle.wire.specs.Check.{on_ok}
+use Rattle.respond.specs.declared.answer.Answer.{Answer}
+use Rattle.std.specs.Prelude.{Result, Option, Ok, Err, Some, None, ℕ, Bool, true, false, ◌||◌, ◌&&◌, cond, List, [], length, replicate}
 use Rattle.wire.specs.declared.refusal.Refusal.{Refusal}
 use Rattle.negotiate_flags.specs.declared.NegotiateFlags.{NegotiateFlags}
 use Rattle.negotiate_flags.specs.Flags.{sign, seal, key_exch}
-use Rattle.place.specs.declared.written.Written.{Written}
-use Rattle.place.specs.declared.written.Written.TheVariants.{Length, Refused as Unwritten}
 use Rattle.write_authenticate.specs.Writing.{write_answer, write_out}
-use Rattle.target_info.specs.declared.Timestamp.{Timestamp}
-use Rattle.target_info.specs.declared.Timestamp.TheVariants.{Time, Nothing}
 use Rattle.respond.specs.declared.decision.Settings.{Settings}
 use Rattle.respond.specs.declared.decision.Decision.{Decision}
-use Rattle.respond.specs.declared.answer.Answered.{Answered}
-use Rattle.respond.specs.declared.answer.Answered.TheVariants.{Sent, Refused}
-use Rattle.respond.specs.Decision.{decision_on, on_decided}
+use Rattle.respond.specs.Decision.{decision_on}
 use Rattle.respond.specs.Domain.{domain_to_send}
 
 -- a MIC is due exactly when a timestamp pair is there
-abbrev pub mic_due : Timestamp → Bool
-mic_due (Time t) = true
-mic_due Nothing = false
+abbrev pub mic_due : Option ℕ → Bool
+mic_due (Some t) = true
+mic_due None = false
 
 -- Time: with NTLMv2 the timestamp, if there is one; otherwise the box's clock
-abbrev pub time_to_send : Settings → Timestamp → ℕ → ℕ
-time_to_send settings (Time t) clock = cond settings.ntlmv2 t clock
-time_to_send settings Nothing clock = clock
+abbrev pub time_to_send : Settings → Option ℕ → ℕ → ℕ
+time_to_send settings (Some t) clock = cond settings.ntlmv2 t clock
+time_to_send settings None clock = clock
 
 -- the LM response: with NTLMv2 and a timestamp 24 zero bytes, otherwise the caller's
-unfoldable pub lm_to_send : Settings → Timestamp → List ℕ → List ℕ
+unfoldable pub lm_to_send : Settings → Option ℕ → List ℕ → List ℕ
 lm_to_send settings t lm = cond (settings.ntlmv2 && mic_due t) (replicate 24 0) lm
 
 -- the MIC: the caller's if due, otherwise sixteen zeros
-unfoldable pub mic_to_send : Timestamp → List ℕ → List ℕ
+unfoldable pub mic_to_send : Option ℕ → List ℕ → List ℕ
 mic_to_send t mic = cond (mic_due t) mic (replicate 16 0)
 
 -- the key: the caller's with KEY_EXCH and at least one of SIGN and SEAL, otherwise passed over
@@ -38,9 +34,9 @@ unfoldable pub key_to_send : NegotiateFlags → List ℕ → List ℕ
 key_to_send flags key = cond (key_exch flags && (sign flags || seal flags)) key []
 
 -- the answer with what was written: its length, Time and whether a MIC is due
-abbrev pub answer_with : Written → ℕ → Bool → Answered
-answer_with (Length n) time due = Sent (record { len = n; time = time; mic_due = due })
-answer_with (Unwritten e) time due = Refused e
+abbrev pub answer_with : Result ℕ Refusal → ℕ → Bool → Result Answer Refusal
+answer_with (Ok n) time due = Ok (record { len = n; time = time; mic_due = due })
+answer_with (Err e) time due = Err e
 
 -- what the caller supplies: the output, the box's clock, and the fields of AUTHENTICATE
 pub record Supplied : Type 0 where
@@ -57,12 +53,12 @@ pub record Supplied : Type 0 where
 
 -- what comes of it: the answer, and the output afterwards
 pub record Effect : Type 0 where
-  pub answer : Answered
+  pub answer : Result Answer Refusal
   pub output : List ℕ
 
 -- a refusal leaves the output as it was
 abbrev pub refusing : Supplied → Refusal → Effect
-refusing x e = record { answer = Refused e; output = x.out }
+refusing x e = record { answer = Err e; output = x.out }
 
 -- a challenge that is answered: flags are the challenge's, the other fields the caller's
 unfoldable pub sending : Settings → Decision → Supplied → Effect
@@ -98,7 +94,7 @@ with_domain domain x =
 -- reading, 20, 21, then writing with the domain to send
 unfoldable pub respond_to : Settings → List ℕ → Supplied → Effect
 respond_to settings s x =
-    on_decided (refusing x) (decision_on settings s) (λ d. sending settings d (with_domain (domain_to_send x.domain s) x))
+    on_ok (refusing x) (decision_on settings s) (λ d. sending settings d (with_domain (domain_to_send x.domain s) x))
 
 -- ---- the parameters of a call
 
@@ -119,5 +115,5 @@ supplied out clock version mic lm nt domain user workstation key =
     }
 
 -- an answer, with what then lies in the output
-abbrev pub effect : Answered → List ℕ → Effect
+abbrev pub effect : Result Answer Refusal → List ℕ → Effect
 effect answer out = record { answer = answer; output = out }

@@ -1,19 +1,18 @@
 -- The client's decision on a challenge (MS-NLMP 3.1.5.1.2): reading it, then checks 20 and 21.
-use Rattle.std.specs.Prelude.{Bool, true, false, ◌||◌, ◌&&◌, List, ℕ}
+use Rattle.wire.specs.Check.{on_ok}
+use Rattle.std.specs.Prelude.{Result, Ok, Err, Bool, true, false, ◌||◌, ◌&&◌, List, ℕ}
 use Rattle.wire.specs.declared.check.Checked.{Checked}
 use Rattle.negotiate_flags.specs.declared.NegotiateFlags.{NegotiateFlags}
 use Rattle.wire.specs.declared.refusal.Refusal.{Refusal}
-use Rattle.wire.specs.declared.refusal.Refusal.TheVariants.{TooLong, No128Bit, NoServerNames}
+use Rattle.wire.specs.declared.refusal.Refusal.TheVariants.{No128Bit, NoServerNames}
 use Rattle.av_id.specs.AvId.{implies}
 use Rattle.wire.specs.Check.{checked, after}
 use Rattle.negotiate_flags.specs.Flags.{negotiate128}
 use Rattle.target_info.specs.declared.ServerNames.{ServerNames}
-use Rattle.read_challenge.specs.Challenge.{reading_of, on_taken, info_of}
+use Rattle.read_challenge.specs.Challenge.{reading_of, info_of}
 use Rattle.target_info.specs.TargetInfo.{timestamp_in, server_names_in}
 use Rattle.respond.specs.declared.decision.Settings.{Settings}
 use Rattle.respond.specs.declared.decision.Decision.{Decision}
-use Rattle.respond.specs.declared.decision.Decided.{Decided}
-use Rattle.respond.specs.declared.decision.Decided.TheVariants.{Taken, Refused}
 
 -- the defaults; 128-bit is demanded unless told otherwise (request 7/12). The relay's call goes by these
 abbrev pub defaults : Settings
@@ -40,18 +39,9 @@ server_names_hold settings names =
     (names.nb_computer_name && names.nb_domain_name))
 
 -- reading, 20, 21
-unfoldable pub decision_on : Settings → List ℕ → Decided
+unfoldable pub decision_on : Settings → List ℕ → Result Decision Refusal
 decision_on settings s =
-    on_taken Refused (reading_of s) (λ c.
-    after (strength_holds settings c.flags) (Refused No128Bit) (
-    after (server_names_hold settings (server_names_in (info_of s c))) (Refused NoServerNames)
-    (Taken (record { flags = c.flags; timestamp = timestamp_in (info_of s c) }))))
-
--- what follows a decision: its refusal, and else what x makes of it
-abbrev pub on_decided : {A : Type 0} → (Refusal → A) → Decided → (Decision → A) → A
-on_decided refuse (Taken d) x = x d
-on_decided refuse (Refused e) x = refuse e
-
--- the refusal of a challenge that was refused; of one that was not, which has none, 1
-unfoldable pub decided_refusal : Decided → Refusal
-decided_refusal r = on_decided (λ e. e) r (λ d. TooLong)
+    on_ok Err (reading_of s) (λ c.
+    after (strength_holds settings c.flags) (Err No128Bit) (
+    after (server_names_hold settings (server_names_in (info_of s c))) (Err NoServerNames)
+    (Ok (record { flags = c.flags; timestamp = timestamp_in (info_of s c) }))))

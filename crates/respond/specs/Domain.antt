@@ -1,16 +1,15 @@
 -- The domain to send: a part of the settings or of the challenge.
-use Rattle.std.specs.Prelude.{ℕ, ◌+◌, ◌≤◌, Bool, true, false, cond, List, eqb, length}
+use Rattle.wire.specs.Check.{on_ok}
+use Rattle.std.specs.Prelude.{Option, Some, None, ℕ, ◌+◌, ◌≤◌, Bool, true, false, cond, List, eqb, length}
 use Rattle.std.specs.Borrow.{Bor}
 use Rattle.av_id.specs.AvId.{is_nb_domain_name}
 use Rattle.field.specs.Field.{PartAt, field_start}
 use Rattle.negotiate_flags.specs.Flags.{unicode}
 use Rattle.av_pairs.specs.declared.AvPair.{AvPair}
-use Rattle.av_pairs.specs.declared.Found.{Found}
-use Rattle.av_pairs.specs.declared.Found.TheVariants.{At, Nothing}
 use Rattle.av_pairs.specs.AvPairs.{pairs_of, value_in}
 use Rattle.target_info.specs.TargetInfo.{first_by}
 use Rattle.read_challenge.specs.declared.Challenge.{Challenge}
-use Rattle.read_challenge.specs.Challenge.{reading_of, on_taken, info_of}
+use Rattle.read_challenge.specs.Challenge.{reading_of, info_of}
 
 -- a part of one of the two that are lent: whether it is the challenge, where the part starts in it, and its bytes
 pub record Part : Type 0 where
@@ -31,16 +30,16 @@ value_part s c p =
       bytes = value_in (info_of s c) p;
     }
 
-abbrev pub on_pair_found : {A : Type 0} → Found → (AvPair → A) → A → A
-on_pair_found (At p) x y = x p
-on_pair_found Nothing x y = y
+abbrev pub on_pair_found : {A : Type 0} → Option AvPair → (AvPair → A) → A → A
+on_pair_found (Some p) x y = x p
+on_pair_found None x y = y
 
 -- the settings' domain; if that is empty and UNICODE is set, the challenge's first pair 2; if there is none, the empty part
 -- of the settings. A refused challenge has none
 unfoldable pub domain_part : List ℕ → List ℕ → Part
 domain_part own s =
     cond (eqb (length own) 0)
-    (on_taken (λ e. own_part own) (reading_of s) (λ c.
+    (on_ok (λ e. own_part own) (reading_of s) (λ c.
     cond (unicode c.flags)
     (on_pair_found (first_by is_nb_domain_name (pairs_of (info_of s c))) (value_part s c) (own_part own))
     (own_part own)))

@@ -3,8 +3,10 @@ ghost use Rattle.std.specs.Prelude.{◌≡◌};
 ghost use Rattle.respond.specs.Decision.{defaults, bench_settings, old_server_settings};
 ghost use Rattle.respond.specs.Answer.{respond_to, supplied, effect};
 
-use crate::answer::{Answered, respond};
+use crate::answer::{Answer, respond};
 use crate::decision::Settings;
+use wire::refusal::Refusal;
+use write_authenticate::Parts;
 
 // For the bench, which says whether 128-bit is demanded.
 pub fn respond_for_bench<'a>(
@@ -12,33 +14,13 @@ pub fn respond_for_bench<'a>(
     challenge: &'a [u8],
     clock: u64,
     demand_128: bool,
-    version: &[u8; 8],
-    mic: &[u8; 16],
-    lm: &[u8],
-    nt: &[u8],
-    domain: &'a [u8],
-    user: &[u8],
-    workstation: &[u8],
-    key: &[u8],
-) -> Answered
+    parts: &Parts<'a>,
+) -> Result<Answer, Refusal>
     ensures { effect result out.new ≡ respond_to (bench_settings demand_128) challenge.now
-        (supplied out.old clock version.now mic.now lm.now nt.now domain.now user.now workstation.now key.now) }
+        (supplied out.old clock parts.now.version.now parts.now.mic.now parts.now.lm.now parts.now.nt.now
+        parts.now.domain.now parts.now.user.now parts.now.workstation.now parts.now.key.now) }
 {
-    let settings = Settings::for_bench(demand_128);
-    respond(
-        out,
-        challenge,
-        settings,
-        clock,
-        version,
-        mic,
-        lm,
-        nt,
-        domain,
-        user,
-        workstation,
-        key,
-    )
+    respond(out, challenge, Settings::with_128(demand_128), clock, parts)
 }
 
 // For old servers, of which 128-bit is not demanded.
@@ -46,33 +28,13 @@ pub fn respond_to_old_server<'a>(
     out: &mut [u8],
     challenge: &'a [u8],
     clock: u64,
-    version: &[u8; 8],
-    mic: &[u8; 16],
-    lm: &[u8],
-    nt: &[u8],
-    domain: &'a [u8],
-    user: &[u8],
-    workstation: &[u8],
-    key: &[u8],
-) -> Answered
+    parts: &Parts<'a>,
+) -> Result<Answer, Refusal>
     ensures { effect result out.new ≡ respond_to old_server_settings challenge.now
-        (supplied out.old clock version.now mic.now lm.now nt.now domain.now user.now workstation.now key.now) }
+        (supplied out.old clock parts.now.version.now parts.now.mic.now parts.now.lm.now parts.now.nt.now
+        parts.now.domain.now parts.now.user.now parts.now.workstation.now parts.now.key.now) }
 {
-    let settings = Settings::for_old_server();
-    respond(
-        out,
-        challenge,
-        settings,
-        clock,
-        version,
-        mic,
-        lm,
-        nt,
-        domain,
-        user,
-        workstation,
-        key,
-    )
+    respond(out, challenge, Settings::with_128(false), clock, parts)
 }
 
 // For the relay, by the defaults.
@@ -80,31 +42,11 @@ pub fn respond_for_relay<'a>(
     out: &mut [u8],
     challenge: &'a [u8],
     clock: u64,
-    version: &[u8; 8],
-    mic: &[u8; 16],
-    lm: &[u8],
-    nt: &[u8],
-    domain: &'a [u8],
-    user: &[u8],
-    workstation: &[u8],
-    key: &[u8],
-) -> Answered
+    parts: &Parts<'a>,
+) -> Result<Answer, Refusal>
     ensures { effect result out.new ≡ respond_to defaults challenge.now
-        (supplied out.old clock version.now mic.now lm.now nt.now domain.now user.now workstation.now key.now) }
+        (supplied out.old clock parts.now.version.now parts.now.mic.now parts.now.lm.now parts.now.nt.now
+        parts.now.domain.now parts.now.user.now parts.now.workstation.now parts.now.key.now) }
 {
-    let settings = Settings::defaults();
-    respond(
-        out,
-        challenge,
-        settings,
-        clock,
-        version,
-        mic,
-        lm,
-        nt,
-        domain,
-        user,
-        workstation,
-        key,
-    )
+    respond(out, challenge, Settings::defaults(), clock, parts)
 }

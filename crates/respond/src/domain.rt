@@ -1,17 +1,15 @@
 // The domain to send: a part of the lent settings or of the lent challenge.
-ghost use Rattle.std.specs.Prelude.{◌≡◌};
-ghost use Rattle.read_challenge.specs.declared.Reading.TheVariants.{Taken};
+ghost use Rattle.std.specs.Prelude.{◌≡◌, Ok};
 ghost use Rattle.read_challenge.specs.Challenge.{reading_of};
 ghost use Rattle.respond.specs.Domain.{domain_to_send, DomainAt, DomainWithin};
 
 use av_id::AvId;
-use av_pairs::Found;
-use read_challenge::{Challenge, FullReading, read_full};
+use read_challenge::{Challenge, read_full};
 use target_info::first_pair;
 
 // The domain to send, for a challenge that was taken as `c`.
 pub(crate) fn domain_of<'a>(own: &'a [u8], challenge: &'a [u8], c: Challenge) -> &'a [u8]
-    requires { reading_of challenge.now ≡ Taken c }
+    requires { reading_of challenge.now ≡ Ok c }
     ensures content { result.now ≡ domain_to_send own.now challenge.now }
     ensures place { DomainAt own.entry challenge.entry result.ref_ptr }
     ensures within { DomainWithin own.now challenge.now }
@@ -24,7 +22,7 @@ pub(crate) fn domain_of<'a>(own: &'a [u8], challenge: &'a [u8], c: Challenge) ->
         let id = AvId {
             id: AvId::NB_DOMAIN_NAME,
         };
-        let Found::At(p) = first_pair(list, id) else {
+        let Some(p) = first_pair(list, id) else {
             return own;
         };
         let at = p.at;
@@ -43,9 +41,8 @@ pub fn domain_to_send<'a>(own: &'a [u8], challenge: &'a [u8]) -> &'a [u8]
     if own.len() != 0 {
         return own;
     }
-    let FullReading::Taken(f) = read_full(challenge) else {
+    let Ok(f) = read_full(challenge) else {
         return own;
     };
-    let c = f.challenge;
-    domain_of(own, challenge, c)
+    domain_of(own, challenge, f.challenge)
 }

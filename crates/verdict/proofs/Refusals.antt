@@ -1,5 +1,7 @@
 -- What is known of the refusal of a reading: where it has a field, the message has its fixed part; where it is of a pair, the pair's
 -- head stands in the message.
+use Rattle.wire.specs.Check.{on_ok}
+use Rattle.std.specs.Prelude.{Result, Ok, Err, ⊤}
 use Prim.Native.Nat.{ℕ, ◌+◌, ◌^◌, ◌≤◌, ◌<◌}
 use mathlib.Core.Path.{◌≡◌, refl, sym, ◌∙◌}
 use mathlib.Core.Bool.{Bool, true, false, ◌&&◌, not}
@@ -9,8 +11,6 @@ use lib.Dec.{leb, eqb}
 use lib.ListN.{length}
 use borrow.Author.Tests.{leb-true}
 use Rattle.wire.specs.declared.check.Checked.{Checked}
-use Rattle.wire.specs.declared.check.Verdict.{Verdict}
-use Rattle.wire.specs.declared.check.Verdict.TheVariants.{Clear, Refused as Not}
 use Rattle.wire.specs.declared.refusal.Refusal.{Refusal}
 use Rattle.wire.specs.declared.refusal.Refusal.TheVariants.{PastEnd, InFixedPart, OddName, NameOverSecret}
 use Rattle.wire.specs.Check.{over_all, on_clear}
@@ -23,24 +23,20 @@ use Rattle.negotiate_flags.specs.Flags.{unicode}
 use Rattle.head.specs.declared.Kind.{Kind}
 use Rattle.head.specs.declared.Kind.TheVariants.{Negotiate, Challenge, Authenticate}
 use Rattle.head.specs.declared.Layout.{Layout}
-use Rattle.head.specs.Head.{read_head, on_flags}
+use Rattle.head.specs.Head.{read_head}
 use Rattle.head.proofs.Heads.{of_reading}
 use Rattle.read_negotiate.specs.declared.Fields.{Fields as NegoFields}
-use Rattle.read_negotiate.specs.declared.Reading.{Reading as NegoReading}
-use Rattle.read_negotiate.specs.declared.Reading.TheVariants.{Taken as NegoTaken, Refused as NegoRefused}
+use Rattle.read_negotiate.specs.declared.Negotiate.{Negotiate as NegoMessage}
 use Rattle.read_negotiate.specs.Negotiate as N
 use Rattle.read_negotiate.specs.Negotiate.{read_negotiate}
+use Rattle.read_authenticate.specs.declared.Authenticate.{Authenticate as AuthMessage}
 use Rattle.read_authenticate.specs.declared.Fields.{Fields as AuthFields}
-use Rattle.read_authenticate.specs.declared.Reading.{Reading as AuthReading}
-use Rattle.read_authenticate.specs.declared.Reading.TheVariants.{Taken as AuthTaken, Refused as AuthRefused}
 use Rattle.read_authenticate.specs.Authenticate as A
 use Rattle.read_authenticate.specs.Authenticate.{read_authenticate}
 use Rattle.read_challenge.specs.declared.Challenge.{Challenge as ChalMessage}
 use Rattle.read_challenge.specs.declared.Fields.{Fields as ChalFields}
-use Rattle.read_challenge.specs.declared.Reading.{Reading as ChalReading}
-use Rattle.read_challenge.specs.declared.Reading.TheVariants.{Taken as ChalTaken, Refused as ChalRefused}
 use Rattle.read_challenge.specs.Challenge as C
-use Rattle.read_challenge.specs.Challenge.{read_challenge, check_info, info_of, in_message, on_taken}
+use Rattle.read_challenge.specs.Challenge.{read_challenge, check_info, info_of, in_message}
 use Rattle.read_challenge.proofs.Laws.{fields_short}
 use Rattle.av_pairs.specs.AvPairs.{check_pairs}
 use Rattle.verdict.specs.Verdict.{nego_verdict, chal_verdict, auth_verdict, read_as, refused_place, fixed_of, fails_at_pair, FixedPart, Placed}
@@ -68,12 +64,12 @@ of_head fixed n e h f p = plain fixed n e h p (record { there = λ t. absurd (t 
 of_field : (fixed n : ℕ) (e : Refusal) → fixed ≤ n → number_of e < 10 → place_of e ≡ 0 → Known fixed n e
 of_field fixed n e l h p = plain fixed n e h p (record { there = λ t. l })
 
-abbrev KnownV : ℕ → ℕ → Verdict → Type 0
+abbrev KnownV : ℕ → ℕ → Result ⊤ Refusal → Type 0
 KnownV fixed n = Refuses (Known fixed n)
 
 -- a group of checks, whose refusal is handed on, and what follows it
-group : (fixed n : ℕ) (v x : Verdict) → KnownV fixed n v → KnownV fixed n x → KnownV fixed n (on_clear Not v x)
-group fixed n v x h = of_group (Known fixed n) (KnownV fixed n) Not v x h (λ e k. k)
+group : (fixed n : ℕ) (v x : Result ⊤ Refusal) → KnownV fixed n v → KnownV fixed n x → KnownV fixed n (on_clear Err v x)
+group fixed n v x h = of_group (Known fixed n) (KnownV fixed n) Err v x h (λ e k. k)
 
 -- one check over all fields
 all : {A : Type 0} (fixed n : ℕ) (ok : A → Checked) (refusal : ℕ → Refusal) (fs : List (ℕ × A)) → fixed ≤ n →
@@ -81,10 +77,10 @@ all : {A : Type 0} (fixed n : ℕ) (ok : A → Checked) (refusal : ℕ → Refus
 all fixed n ok refusal fs l h = of_all (Known fixed n) ok refusal fs (λ i. of_field fixed n (refusal i) l (h i).0 (h i).1)
 
 -- a reading: its head, the checks of its fields where the fixed part is there, and what is taken
-reading : {A : Type 0} (P : A → Type 0) (f : Refusal → A) (l : Layout) (s : List ℕ) (v : NegotiateFlags → Verdict) (x : NegotiateFlags → A) →
+reading : {A : Type 0} (P : A → Type 0) (f : Refusal → A) (l : Layout) (s : List ℕ) (v : NegotiateFlags → Result ⊤ Refusal) (x : NegotiateFlags → A) →
     ((e : Refusal) → Known l.fixed (length s) e → P (f e)) →
     ((w : NegotiateFlags) → l.fixed ≤ length s → KnownV l.fixed (length s) (v w) × P (x w)) →
-    P (on_flags f (read_head l s) (λ w. on_clear f (v w) (x w)))
+    P (on_ok f (read_head l s) (λ w. on_clear f (v w) (x w)))
 reading P f l s v x p q =
     of_reading (Known l.fixed (length s)) (of_head _ _ _ (omega arith) refl refl) (of_head _ _ _ (omega arith) refl refl) (of_head _ _ _ (omega arith) refl refl)
     (of_head _ _ _ (omega arith) refl refl) (of_head _ _ _ (omega arith) refl refl) l s P f _ p
@@ -101,7 +97,7 @@ nego_fields n f l =
 negotiate_known : (s : List ℕ) → KnownV 32 (length s) (nego_verdict (read_negotiate s))
 unfolding read_negotiate
 negotiate_known s =
-    reading (λ (r : NegoReading). KnownV 32 (length s) (nego_verdict r)) NegoRefused N.layout s (λ w. N.check_fields (length s) (N.fields_at s w)) (λ w. NegoTaken (record { flags = w; fields = N.fields_at s w })) (λ e h. h)
+    reading (λ (r : Result NegoMessage Refusal). KnownV 32 (length s) (nego_verdict r)) Err N.layout s (λ w. N.check_fields (length s) (N.fields_at s w)) (λ w. Ok (record { flags = w; fields = N.fields_at s w })) (λ e h. h)
     (λ w l. (nego_fields (length s) (N.fields_at s w) l, tt))
 
 -- ---- AUTHENTICATE
@@ -117,15 +113,15 @@ auth_fields n u f l =
 authenticate_known : (s : List ℕ) → KnownV 64 (length s) (auth_verdict (read_authenticate s).reading)
 unfolding read_authenticate A.reading_of
 authenticate_known s =
-    reading (λ (r : AuthReading). KnownV 64 (length s) (auth_verdict r)) AuthRefused A.layout s (λ w. A.check_fields (length s) (unicode w) (A.fields_at s w))
-    (λ w. AuthTaken (record { flags = w; fields = A.fields_at s w; mic_present = A.mic_present (length s) (A.fields_at s w) })) (λ e h. h)
+    reading (λ (r : Result AuthMessage Refusal). KnownV 64 (length s) (auth_verdict r)) Err A.layout s (λ w. A.check_fields (length s) (unicode w) (A.fields_at s w))
+    (λ w. Ok (record { flags = w; fields = A.fields_at s w; mic_present = A.mic_present (length s) (A.fields_at s w) })) (λ e h. h)
     (λ w l. (auth_fields (length s) (unicode w) (A.fields_at s w) l, tt))
 
 -- ---- CHALLENGE
 
-abbrev KnownC : ℕ → ChalReading → Type 0
-KnownC n (ChalTaken c) = 48 ≤ n
-KnownC n (ChalRefused e) = Known 48 n e
+abbrev KnownC : ℕ → Result ChalMessage Refusal → Type 0
+KnownC n (Ok c) = 48 ≤ n
+KnownC n (Err e) = Known 48 n e
 
 chal_fields : (n : ℕ) (u : Bool) (f : ChalFields) → 48 ≤ n → KnownV 48 n (C.check_fields n u f)
 unfolding C.check_fields C.check_ends C.check_begins C.check_names
@@ -137,8 +133,8 @@ chal_fields n u f l =
 fields_known : (s : List ℕ) → KnownC (length s) (C.fields_of s)
 unfolding C.fields_of
 fields_known s =
-    reading (KnownC (length s)) ChalRefused C.layout s (λ w. C.check_fields (length s) (unicode w) (C.fields_at s w))
-    (λ w. ChalTaken (record { flags = w; fields = C.fields_at s w })) (λ e h. h) (λ w l. (chal_fields (length s) (unicode w) (C.fields_at s w) l, l))
+    reading (KnownC (length s)) Err C.layout s (λ w. C.check_fields (length s) (unicode w) (C.fields_at s w))
+    (λ w. Ok (record { flags = w; fields = C.fields_at s w })) (λ e h. h) (λ w l. (chal_fields (length s) (unicode w) (C.fields_at s w) l, l))
 
 -- a fault of the list, moved into the message
 not-true : false ≡ true → ⊥
@@ -150,12 +146,12 @@ moved m n off e (missing at p h) i b = rw p (omega arith, record { short = omega
 moved m n off e (end_pair at p h) i b = rw p (omega arith, record { short = omega arith; there = λ t. omega arith })
 moved m n off e (pair_size at p h) i b = rw p (omega arith, record { short = omega arith; there = λ t. omega arith })
 
-info_known : (s : List ℕ) (c : ChalMessage) → C.fields_of s ≡ ChalTaken c → 48 ≤ length s → KnownV 48 (length s) (check_info s c)
+info_known : (s : List ℕ) (c : ChalMessage) → C.fields_of s ≡ Ok c → 48 ≤ length s → KnownV 48 (length s) (check_info s c)
 unfolding check_info
 info_known s c h l = go (check_pairs (info_of s c)) refl where
-  go : (v : Verdict) → check_pairs (info_of s c) ≡ v → KnownV 48 (length s) (in_message c.fields.target_info v)
-  go Clear e = tt
-  go (Not e) i =
+  go : (v : Result ⊤ Refusal) → check_pairs (info_of s c) ≡ v → KnownV 48 (length s) (in_message c.fields.target_info v)
+  go (Ok tt) e = tt
+  go (Err e) i =
       let m =
       moved (length (info_of s c)) (length s) c.fields.target_info.offset e (fault_of (info_of s c) e i) (list_inside s c.fields.target_info e i) (fields_short s c h) in
       record { fixed_part = record { there = λ t. l }; near = m.0; placed = m.1 }
@@ -163,15 +159,15 @@ info_known s c h l = go (check_pairs (info_of s c)) refl where
 challenge_known : (s : List ℕ) → KnownC (length s) (read_challenge s).reading
 unfolding read_challenge C.reading_of
 challenge_known s = go (C.fields_of s) refl (fields_known s) where
-  go : (r : ChalReading) → C.fields_of s ≡ r → KnownC (length s) r → KnownC (length s) (on_taken ChalRefused r (λ c. on_clear ChalRefused (check_info s c) (ChalTaken c)))
-  go (ChalTaken c) i l = of_group (Known 48 (length s)) (KnownC (length s)) ChalRefused (check_info s c) _ (info_known s c i l) (λ e h. h) l
-  go (ChalRefused e) i h = h
+  go : (r : Result ChalMessage Refusal) → C.fields_of s ≡ r → KnownC (length s) r → KnownC (length s) (on_ok Err r (λ c. on_clear Err (check_info s c) (Ok c)))
+  go (Ok c) i l = of_group (Known 48 (length s)) (KnownC (length s)) Err (check_info s c) _ (info_known s c i l) (λ e h. h) l
+  go (Err e) i h = h
 
 -- ---- the verdict
 
-chal_v : (n : ℕ) (r : ChalReading) → KnownC n r → KnownV 48 n (chal_verdict r)
-chal_v n (ChalTaken m) h = tt
-chal_v n (ChalRefused e) h = h
+chal_v : (n : ℕ) (r : Result ChalMessage Refusal) → KnownC n r → KnownV 48 n (chal_verdict r)
+chal_v n (Ok m) h = tt
+chal_v n (Err e) h = h
 
 verdict_known : (k : Kind) (s : List ℕ) → KnownV (fixed_of k) (length s) (read_as k s)
 verdict_known Negotiate s = negotiate_known s
@@ -180,14 +176,14 @@ verdict_known Authenticate s = authenticate_known s
 
 pub read_near : (k : Kind) (s : List ℕ) → refused_place (read_as k s) ≤ 65535
 read_near k s = go (read_as k s) (verdict_known k s) where
-  go : (v : Verdict) → KnownV (fixed_of k) (length s) v → refused_place v ≤ 65535
-  go Clear h = omega arith
-  go (Not e) h = h.near
+  go : (v : Result ⊤ Refusal) → KnownV (fixed_of k) (length s) v → refused_place v ≤ 65535
+  go (Ok tt) h = omega arith
+  go (Err e) h = h.near
 
 pub read_short : (k : Kind) (s : List ℕ) → refused_place (read_as k s) < 2 ^ 32
 read_short k s = omega (arith, read_near k s)
 
-module _ (k : Kind) (s : List ℕ) (v : Verdict) (e : Refusal) (p : v ≡ read_as k s) (h : v ≡ Not e) where
+module _ (k : Kind) (s : List ℕ) (v : Result ⊤ Refusal) (e : Refusal) (p : v ≡ read_as k s) (h : v ≡ Err e) where
   known : Known (fixed_of k) (length s) e
   known = rw (sym p ∙ h) at (verdict_known k s)
 

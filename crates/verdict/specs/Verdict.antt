@@ -1,42 +1,37 @@
 -- A message read as a kind: all its checks held, or the refusal of the first that failed.
-use Rattle.std.specs.Prelude.{ℕ, ◌+◌, ◌^◌, ◌≤◌, ◌<◌, ◌≡◌, Bool, true, ◌&&◌, not, List, leb, eqb}
+use Rattle.std.specs.Prelude.{Result, Ok, Err, ⊤, ℕ, ◌+◌, ◌^◌, ◌≤◌, ◌<◌, ◌≡◌, Bool, true, ◌&&◌, not, List, leb, eqb}
 use Rattle.wire.specs.declared.refusal.Refusal.{Refusal}
 use Rattle.wire.specs.Refusal.{number_of, place_of}
-use Rattle.wire.specs.declared.check.Verdict.{Verdict}
-use Rattle.wire.specs.declared.check.Verdict.TheVariants.{Clear, Refused as Not}
 use Rattle.head.specs.declared.Kind.{Kind}
 use Rattle.head.specs.declared.Kind.TheVariants.{Negotiate, Challenge, Authenticate}
-use Rattle.read_negotiate.specs.declared.Reading.{Reading as NegoReading}
-use Rattle.read_negotiate.specs.declared.Reading.TheVariants.{Taken as NegoTaken, Refused as NegoRefused}
+use Rattle.read_negotiate.specs.declared.Negotiate.{Negotiate as NegoMessage}
 use Rattle.read_negotiate.specs.Negotiate.{read_negotiate}
-use Rattle.read_challenge.specs.declared.Reading.{Reading as ChalReading}
-use Rattle.read_challenge.specs.declared.Reading.TheVariants.{Taken as ChalTaken, Refused as ChalRefused}
+use Rattle.read_challenge.specs.declared.Challenge.{Challenge as ChalMessage}
 use Rattle.read_challenge.specs.Challenge.{read_challenge}
-use Rattle.read_authenticate.specs.declared.Reading.{Reading as AuthReading}
-use Rattle.read_authenticate.specs.declared.Reading.TheVariants.{Taken as AuthTaken, Refused as AuthRefused}
+use Rattle.read_authenticate.specs.declared.Authenticate.{Authenticate as AuthMessage}
 use Rattle.read_authenticate.specs.Authenticate.{read_authenticate}
 
-abbrev pub nego_verdict : NegoReading → Verdict
-nego_verdict (NegoTaken m) = Clear
-nego_verdict (NegoRefused e) = Not e
+abbrev pub nego_verdict : Result NegoMessage Refusal → Result ⊤ Refusal
+nego_verdict (Ok m) = Ok tt
+nego_verdict (Err e) = Err e
 
-abbrev pub chal_verdict : ChalReading → Verdict
-chal_verdict (ChalTaken c) = Clear
-chal_verdict (ChalRefused e) = Not e
+abbrev pub chal_verdict : Result ChalMessage Refusal → Result ⊤ Refusal
+chal_verdict (Ok c) = Ok tt
+chal_verdict (Err e) = Err e
 
-abbrev pub auth_verdict : AuthReading → Verdict
-auth_verdict (AuthTaken a) = Clear
-auth_verdict (AuthRefused e) = Not e
+abbrev pub auth_verdict : Result AuthMessage Refusal → Result ⊤ Refusal
+auth_verdict (Ok a) = Ok tt
+auth_verdict (Err e) = Err e
 
-abbrev pub read_as : Kind → List ℕ → Verdict
+abbrev pub read_as : Kind → List ℕ → Result ⊤ Refusal
 read_as Negotiate s = nego_verdict (read_negotiate s)
 read_as Challenge s = chal_verdict (read_challenge s).reading
 read_as Authenticate s = auth_verdict (read_authenticate s).reading
 
 -- a refusal's pair place
-abbrev pub refused_place : Verdict → ℕ
-refused_place Clear = 0
-refused_place (Not e) = place_of e
+abbrev pub refused_place : Result ⊤ Refusal → ℕ
+refused_place (Ok tt) = 0
+refused_place (Err e) = place_of e
 
 -- ---- a refusal of a message of n bytes
 

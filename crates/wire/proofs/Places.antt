@@ -1,48 +1,21 @@
 -- Laws of a refusal's place: where it is moved, and where there is none.
-use Prim.Native.Nat.{ℕ, ◌+◌, ◌^◌, ◌≤◌, ◌<◌}
-use mathlib.Core.Path.{◌≡◌, refl, sym, ap, ◌∙◌}
+use Rattle.std.specs.Prelude.{Result, Ok, Err, ⊤}
+use Prim.Native.Nat.{ℕ, ◌+◌, ◌≤◌}
+use mathlib.Core.Path.{◌≡◌, refl, ap}
 use mathlib.Core.List.{List, [], ◌∷◌}
 use native.Mathlib.Omega.{arith}
-use mir.Syntax.{w64}
-use mir.Val.{Fits}
-use types.Run.{OneOf, miss}
-use denote.Enum.Declared.{tag_of}
 use Rattle.wire.specs.declared.refusal.Refusal.{Refusal}
 use Rattle.wire.specs.declared.refusal.Refusal.TheVariants.{TooLong, TooShort, WrongSignature, WrongType, NoCharset, PastEnd, InFixedPart, OddName, NameOverSecret, PairPastEnd, PairMissing, WrongEndPair, WrongPairSize, NoStrings, Unterminated, BytesLeft, WrongResponse, No128Bit, NoServerNames, TooLongToWrite, OddNameToWrite, WrongKey, NoRoom, ZeroInString, WrongLabel, PlaceNotBefore, TooManyJumps, NameTooLong, PlaceOutside, WrongSessionKey, NoMic, WrongScheme, WrongBase64}
 use Rattle.wire.specs.declared.check.Checked.{Checked}
 use Rattle.wire.specs.declared.check.Checked.TheVariants.{Held, Failed}
-use Rattle.wire.specs.declared.check.Verdict.{Verdict}
-use Rattle.wire.specs.declared.check.Verdict.TheVariants.{Clear, Refused}
 use Rattle.wire.specs.Check.{after, over_all, on_clear}
 use Rattle.wire.specs.Refusal.{number_of, field_of, place_of, moved_by}
-use Rattle.wire.specs.contracts.refusal.Refusal.{the_type}
-
--- the new place fits
-module _ (e : Refusal) (n at : ℕ) (h : n + place_of e < 2 ^ 64) where
-  pub fits_10 : e ≡ PairPastEnd at → Fits w64 (n + at)
-  fits_10 p = record { fits = rw p at h }
-
-  pub fits_11 : e ≡ PairMissing at → Fits w64 (n + at)
-  fits_11 p = record { fits = rw p at h }
-
-  pub fits_12 : e ≡ WrongEndPair at → Fits w64 (n + at)
-  fits_12 p = record { fits = rw p at h }
-
-  pub fits_13 : e ≡ WrongPairSize at → Fits w64 (n + at)
-  fits_13 p = record { fits = rw p at h }
-
-pub ruleset moving = (fits_10, fits_11, fits_12, fits_13)
-
--- what has no place stays as it is
-abbrev placeless : List ℕ
-placeless = 0 ∷ 1 ∷ 2 ∷ 3 ∷ 4 ∷ 5 ∷ 6 ∷ 7 ∷ 8 ∷ 13 ∷ 14 ∷ 15 ∷ 16 ∷ 17 ∷ 18 ∷ 19 ∷ 20 ∷ 21 ∷ 22 ∷ 23 ∷ 24 ∷ 25 ∷ 26 ∷ 27 ∷ 28 ∷ 29 ∷ 30 ∷ 31 ∷ 32 ∷ []
 
 -- every refusal has no place and stays as it is, or is one of 10 to 13, whose place alone moves
 data Place : Refusal → Type 0 where
   none : (e : Refusal) → ((10 ≤ number_of e) × (number_of e ≤ 13) → ⊥) → ((n : ℕ) → moved_by n e ≡ e) → place_of e ≡ 0 → Place e
   some : (e : Refusal) → (10 ≤ number_of e) × (number_of e ≤ 13) →
-      ((n : ℕ) → (place_of (moved_by n e) ≡ n + place_of e) × (number_of (moved_by n e) ≡ number_of e) × (field_of (moved_by n e) ≡ field_of e)) →
-      (OneOf placeless (tag_of the_type e) → ⊥) → Place e
+      ((n : ℕ) → (place_of (moved_by n e) ≡ n + place_of e) × (number_of (moved_by n e) ≡ number_of e) × (field_of (moved_by n e) ≡ field_of e)) → Place e
 
 place : (e : Refusal) → Place e
 place TooLong = none TooLong (λ h. omega (arith, h.0, h.1)) (λ n. refl) refl
@@ -54,10 +27,10 @@ place (PastEnd f) = none (PastEnd f) (λ h. omega (arith, h.0, h.1)) (λ n. refl
 place (InFixedPart f) = none (InFixedPart f) (λ h. omega (arith, h.0, h.1)) (λ n. refl) refl
 place (OddName f) = none (OddName f) (λ h. omega (arith, h.0, h.1)) (λ n. refl) refl
 place (NameOverSecret f) = none (NameOverSecret f) (λ h. omega (arith, h.0, h.1)) (λ n. refl) refl
-place (PairPastEnd at) = some (PairPastEnd at) (omega arith, omega arith) (λ n. (refl, refl, refl)) (miss placeless 9 tt)
-place (PairMissing at) = some (PairMissing at) (omega arith, omega arith) (λ n. (refl, refl, refl)) (miss placeless 10 tt)
-place (WrongEndPair at) = some (WrongEndPair at) (omega arith, omega arith) (λ n. (refl, refl, refl)) (miss placeless 11 tt)
-place (WrongPairSize at) = some (WrongPairSize at) (omega arith, omega arith) (λ n. (refl, refl, refl)) (miss placeless 12 tt)
+place (PairPastEnd at) = some (PairPastEnd at) (omega arith, omega arith) (λ n. (refl, refl, refl))
+place (PairMissing at) = some (PairMissing at) (omega arith, omega arith) (λ n. (refl, refl, refl))
+place (WrongEndPair at) = some (WrongEndPair at) (omega arith, omega arith) (λ n. (refl, refl, refl))
+place (WrongPairSize at) = some (WrongPairSize at) (omega arith, omega arith) (λ n. (refl, refl, refl))
 place NoStrings = none NoStrings (λ h. omega (arith, h.0, h.1)) (λ n. refl) refl
 place (Unterminated f) = none (Unterminated f) (λ h. omega (arith, h.0, h.1)) (λ n. refl) refl
 place BytesLeft = none BytesLeft (λ h. omega (arith, h.0, h.1)) (λ n. refl) refl
@@ -79,44 +52,32 @@ place NoMic = none NoMic (λ h. omega (arith, h.0, h.1)) (λ n. refl) refl
 place WrongScheme = none WrongScheme (λ h. omega (arith, h.0, h.1)) (λ n. refl) refl
 place WrongBase64 = none WrongBase64 (λ h. omega (arith, h.0, h.1)) (λ n. refl) refl
 
-pub stays : (e : Refusal) (n : ℕ) → OneOf placeless (tag_of the_type e) → e ≡ moved_by n e
-stays e n m = go (place e) where
-  go : Place e → e ≡ moved_by n e
-  go (none e out same z) = sym (same n)
-  go (some e there moved tagged) = absurd (tagged m)
-
-pub no_place : (e : Refusal) (n : ℕ) → n ≡ 0 → OneOf placeless (tag_of the_type e) → n ≡ place_of e
-no_place e n h m = go (place e) where
-  go : Place e → n ≡ place_of e
-  go (none e out same z) = h ∙ sym z
-  go (some e there moved tagged) = absurd (tagged m)
-
 -- its number and field stay
 pub moved_number : (n : ℕ) (e : Refusal) → (number_of (moved_by n e) ≡ number_of e) × (field_of (moved_by n e) ≡ field_of e)
 moved_number n e = go (place e) where
   go : Place e → (number_of (moved_by n e) ≡ number_of e) × (field_of (moved_by n e) ≡ field_of e)
   go (none e out same z) = (ap number_of (same n), ap field_of (same n))
-  go (some e there moved tagged) = ((moved n).1, (moved n).2)
+  go (some e there moved) = ((moved n).1, (moved n).2)
 
 -- and where there is a place, it moves
 pub moved_at : (n : ℕ) (e : Refusal) → (10 ≤ number_of e) × (number_of e ≤ 13) → place_of (moved_by n e) ≡ n + place_of e
 moved_at n e h = go (place e) where
   go : Place e → place_of (moved_by n e) ≡ n + place_of e
   go (none e out same z) = absurd (out h)
-  go (some e there moved tagged) = (moved n).0
+  go (some e there moved) = (moved n).0
 
 -- only 10 to 13 have one
 pub placeless_number : (e : Refusal) → ((10 ≤ number_of e) × (number_of e ≤ 13) → ⊥) → place_of e ≡ 0
 placeless_number e h = go (place e) where
   go : Place e → place_of e ≡ 0
   go (none e out same z) = z
-  go (some e there moved tagged) = absurd (h there)
+  go (some e there moved) = absurd (h there)
 
 -- ---- what holds of every refusal that may be given
 
-abbrev pub Refuses : (Refusal → Type 0) → Verdict → Type 0
-Refuses Q Clear = Unit
-Refuses Q (Refused e) = Q e
+abbrev pub Refuses : {T : Type 0} → (Refusal → Type 0) → Result T Refusal → Type 0
+Refuses Q (Ok t) = Unit
+Refuses Q (Err e) = Q e
 
 -- what holds of a refusal and of what follows holds of both together
 pub of_after : {A : Type 0} (P : A → Type 0) (c : Checked) (e x : A) → P e → P x → P (after c e x)
@@ -124,13 +85,13 @@ of_after P Held e x p q = q
 of_after P Failed e x p q = p
 
 -- so it is of a group of checks and of what follows it
-pub of_group : {A : Type 0} (Q : Refusal → Type 0) (P : A → Type 0) (f : Refusal → A) (v : Verdict) (x : A) → Refuses Q v →
+pub of_group : {A : Type 0} (Q : Refusal → Type 0) (P : A → Type 0) (f : Refusal → A) (v : Result ⊤ Refusal) (x : A) → Refuses Q v →
     ((e : Refusal) → Q e → P (f e)) → P x → P (on_clear f v x)
-of_group Q P f Clear x h p q = q
-of_group Q P f (Refused e) x h p q = p e h
+of_group Q P f (Ok u) x h p q = q
+of_group Q P f (Err e) x h p q = p e h
 
 -- and of one check over all fields
 pub of_all : {A : Type 0} (Q : Refusal → Type 0) (ok : A → Checked) (refusal : ℕ → Refusal) (fs : List (ℕ × A)) → ((i : ℕ) → Q (refusal i)) →
     Refuses Q (over_all ok refusal fs)
 of_all Q ok refusal [] h = tt
-of_all Q ok refusal (f ∷ fs) h = of_after (Refuses Q) (ok f.1) (Refused (refusal f.0)) (over_all ok refusal fs) (h f.0) (of_all Q ok refusal fs h)
+of_all Q ok refusal (f ∷ fs) h = of_after (Refuses Q) (ok f.1) (Err (refusal f.0)) (over_all ok refusal fs) (h f.0) (of_all Q ok refusal fs h)

@@ -1,40 +1,29 @@
 -- Laws of what is written: its bytes, its length and its checks.
+use Rattle.std.specs.Prelude.{Result, Ok, Err, ⊤}
+use Rattle.wire.specs.declared.refusal.Refusal.{Refusal}
 use Prim.Native.Nat.{ℕ, ◌+◌, ◌≤◌, min}
 use mathlib.Core.Path.{◌≡◌, refl, sym, ◌∙◌}
-use mathlib.Core.Bool.{Bool, true, false, ◌||◌, ◌&&◌}
+use mathlib.Core.Bool.{Bool, true, false}
 use mathlib.Core.List.{List}
 use native.Mathlib.Omega.{arith}
-use lib.Dec.{leb, eqb}
+use lib.Dec.{leb}
 use lib.ListN.{length, length-append}
 use borrow.Author.Tests.{leb-true}
 use Rattle.wire.specs.declared.check.Checked.{Checked}
 use Rattle.wire.specs.declared.check.Checked.TheVariants.{Held, Failed}
-use Rattle.wire.specs.declared.check.Verdict.{Verdict}
-use Rattle.wire.specs.declared.check.Verdict.TheVariants.{Clear, Refused}
-use Rattle.field.specs.declared.Field.{Field}
 use Rattle.negotiate_flags.specs.declared.NegotiateFlags.{NegotiateFlags}
 use Rattle.wire.specs.declared.refusal.Refusal.TheVariants.{NoCharset, TooLongToWrite, WrongKey, NoRoom}
 use Rattle.wire.specs.Check.{checked, after, on_clear}
-use Rattle.negotiate_flags.specs.Flags.{unicode, key_exch, charset_holds}
-use Rattle.wire.proofs.Laws.{chain, groups}
+use Rattle.negotiate_flags.specs.Flags.{unicode, charset_holds}
+use Rattle.wire.proofs.Laws.{chain}
 use Rattle.place.specs.Place.{Wrote}
 use Rattle.place.proofs.Numbers.{length-le32}
 use Rattle.place.proofs.Writings.{measured, counted_on}
-use Rattle.write_field.specs.Writing.{written_field}
 use Rattle.write_field.proofs.Laws.{length-head, length-version}
 use Rattle.read_authenticate.specs.declared.Fields.{Fields}
 use Rattle.write_authenticate.specs.Writing.{fields_to, heads_bytes, after_heads, fixed_bytes, payload_bytes, payload_size, authenticate_bytes, check_names_to_write, key_holds, size_to_write, check_to_write}
 
 -- ---- the fixed part
-
--- the six fields are laid out one after the other
-pub laid_out : (lm nt domain user workstation key : ℕ) (a b c d e f : Field) →
-    a ≡ written_field (88 + domain + user + workstation) lm → b ≡ written_field (88 + domain + user + workstation + lm) nt →
-    c ≡ written_field 88 domain → d ≡ written_field (88 + domain) user → e ≡ written_field (88 + domain + user) workstation →
-    f ≡ written_field (88 + domain + user + workstation + lm + nt) key →
-    record { lm = a; nt = b; domain = c; user = d; workstation = e; key = f } ≡ fields_to lm nt domain user workstation key
-unfolding fields_to
-laid_out lm nt domain user workstation key a b c d e f pa pb pc pd pe pf = rw (pa, pb, pc, pd, pe, pf)
 
 -- a fixed part with the fields that were laid out
 pub of_fixed : (flags : NegotiateFlags) (v mic : List ℕ) (f g : Fields) (l k : List ℕ) (i p : ℕ) →
@@ -89,32 +78,29 @@ module _ (lm nt domain user workstation key : List ℕ) where
 
 -- ---- the checks
 
--- with the answers of the flags' questions
-module _ (flags : NegotiateFlags) (b : Bool) where
-  pub key_is : (key : List ℕ) (r : Checked) → b ≡ key_exch flags →
-      r ≡ checked (eqb (length key) 0 || (eqb (length key) 16 && b)) → r ≡ key_holds flags key
-  key_is key r e h = h ∙ simp e
+-- names that were checked by the answer of the flags' question
+pub names_are : (flags : NegotiateFlags) (b : Bool) (domain user workstation : List ℕ) (r : Result ⊤ Refusal) → b ≡ unicode flags →
+    r ≡ check_names_to_write b domain user workstation → r ≡ check_names_to_write (unicode flags) domain user workstation
+names_are flags b domain user workstation r e h = rw (← e) h
 
-  pub names_are : (domain user workstation : List ℕ) (r : Verdict) → b ≡ unicode flags →
-      r ≡ check_names_to_write b domain user workstation → r ≡ check_names_to_write (unicode flags) domain user workstation
-  names_are domain user workstation r e h = rw (← e) h
+pub ruleset checks = (chain, measured)
 
-pub ruleset checks = (chain, groups, measured, names_are)
-
-both_held : (k m : Checked) (z : Verdict) (s t : Bool) →
-    after k (Refused NoCharset) (on_clear Refused z (after m (Refused WrongKey)
-    (after (checked s) (Refused TooLongToWrite) (after (checked t) (Refused NoRoom) Clear)))) ≡ Clear →
+both_held : (k m : Checked) (z : Result ⊤ Refusal) (s t : Bool) →
+    ◌≡◌ {A = Result ⊤ Refusal}
+    (after k (Err NoCharset) (on_clear Err z (after m (Err WrongKey)
+    (after (checked s) (Err TooLongToWrite) (after (checked t) (Err NoRoom) (Ok tt))))))
+    (Ok tt) →
     (s ≡ true) × (t ≡ true)
-both_held Held Held Clear true true h = (refl, refl)
-both_held Held Held Clear true false h = (refl, cc)
-both_held Held Held Clear false t h = (cc, cc)
-both_held Held Failed Clear s t h = (cc, cc)
-both_held Held m (Refused e) s t h = (cc, cc)
+both_held Held Held (Ok u) true true h = (refl, refl)
+both_held Held Held (Ok u) true false h = (refl, cc)
+both_held Held Held (Ok u) false t h = (cc, cc)
+both_held Held Failed (Ok u) s t h = (cc, cc)
+both_held Held m (Err e) s t h = (cc, cc)
 both_held Failed m z s t h = (cc, cc)
 
 -- a message whose checks held is no longer than a message may be, and has its room
-module _ (flags : NegotiateFlags) (lm nt domain user workstation key : List ℕ) (room : ℕ) (r : Verdict)
-    (p : r ≡ check_to_write room flags lm nt domain user workstation key) (h : r ≡ Clear) where
+module _ (flags : NegotiateFlags) (lm nt domain user workstation key : List ℕ) (room : ℕ) (r : Result ⊤ Refusal)
+    (p : r ≡ check_to_write room flags lm nt domain user workstation key) (h : r ≡ Ok tt) where
   held : (leb (size_to_write lm nt domain user workstation key) 65535 ≡ true) × (leb (size_to_write lm nt domain user workstation key) room ≡ true)
   unfolding check_to_write
   held =

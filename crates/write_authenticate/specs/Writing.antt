@@ -1,14 +1,12 @@
 -- AUTHENTICATE_MESSAGE (MS-NLMP 2.2.1.3), written as document 01 lays it out, into a lent output.
-use Rattle.std.specs.Prelude.{ℕ, ◌+◌, ◌%◌, Bool, ◌||◌, ◌&&◌, not, List, [], ◌∷◌, ◌++◌, eqb, length}
+use Rattle.wire.specs.declared.refusal.Refusal.{Refusal}
+use Rattle.std.specs.Prelude.{Result, Ok, Err, ⊤, ℕ, ◌+◌, ◌%◌, Bool, ◌||◌, ◌&&◌, not, List, [], ◌∷◌, ◌++◌, eqb, length}
 use Rattle.wire.specs.declared.check.Checked.{Checked}
-use Rattle.wire.specs.declared.check.Verdict.{Verdict}
-use Rattle.wire.specs.declared.check.Verdict.TheVariants.{Clear, Refused as Not}
 use Rattle.negotiate_flags.specs.declared.NegotiateFlags.{NegotiateFlags}
 use Rattle.wire.specs.declared.refusal.Refusal.TheVariants.{NoCharset, TooLongToWrite, OddNameToWrite, WrongKey, NoRoom}
 use Rattle.wire.specs.Check.{checked, after, over_all, on_clear}
 use Rattle.negotiate_flags.specs.Flags.{unicode, key_exch, charset_holds}
 use Rattle.head.specs.Head.{signature}
-use Rattle.place.specs.declared.written.Written.{Written}
 use Rattle.place.specs.Place.{le32}
 use Rattle.place.specs.Written.{size_holds, room_holds, answered, out_after}
 use Rattle.write_field.specs.Writing.{written_field, head_bytes, version_bytes}
@@ -71,7 +69,7 @@ abbrev pub even_to_write : Bool → List ℕ → Checked
 even_to_write unicode name = checked (not unicode || eqb (length name % 2) 0)
 
 -- check 31: fields 3, 4 and 5
-unfoldable pub check_names_to_write : Bool → List ℕ → List ℕ → List ℕ → Verdict
+unfoldable pub check_names_to_write : Bool → List ℕ → List ℕ → List ℕ → Result ⊤ Refusal
 check_names_to_write unicode domain user workstation =
     over_all (even_to_write unicode) OddNameToWrite ((3, domain) ∷ (4, user) ∷ (5, workstation) ∷ [])
 
@@ -84,18 +82,18 @@ abbrev pub size_to_write : List ℕ → List ℕ → List ℕ → List ℕ → L
 size_to_write lm nt domain user workstation key = 88 + length (payload_bytes lm nt domain user workstation key)
 
 -- for an output of so many bytes: 5, 31, 32, 30, 33
-unfoldable pub check_to_write : ℕ → NegotiateFlags → List ℕ → List ℕ → List ℕ → List ℕ → List ℕ → List ℕ → Verdict
+unfoldable pub check_to_write : ℕ → NegotiateFlags → List ℕ → List ℕ → List ℕ → List ℕ → List ℕ → List ℕ → Result ⊤ Refusal
 check_to_write room flags lm nt domain user workstation key =
-    after (charset_holds flags) (Not NoCharset) (
-    on_clear Not (check_names_to_write (unicode flags) domain user workstation) (
-    after (key_holds flags key) (Not WrongKey) (
-    after (size_holds (size_to_write lm nt domain user workstation key)) (Not TooLongToWrite) (
-    after (room_holds (size_to_write lm nt domain user workstation key) room) (Not NoRoom)
-    Clear))))
+    after (charset_holds flags) (Err NoCharset) (
+    on_clear Err (check_names_to_write (unicode flags) domain user workstation) (
+    after (key_holds flags key) (Err WrongKey) (
+    after (size_holds (size_to_write lm nt domain user workstation key)) (Err TooLongToWrite) (
+    after (room_holds (size_to_write lm nt domain user workstation key) room) (Err NoRoom)
+    (Ok tt)))))
 
 -- ---- what writing answers, and what it leaves in the output
 
-unfoldable pub write_answer : ℕ → NegotiateFlags → List ℕ → List ℕ → List ℕ → List ℕ → List ℕ → List ℕ → List ℕ → List ℕ → Written
+unfoldable pub write_answer : ℕ → NegotiateFlags → List ℕ → List ℕ → List ℕ → List ℕ → List ℕ → List ℕ → List ℕ → List ℕ → Result ℕ Refusal
 write_answer room flags v mic lm nt domain user workstation key =
     answered (check_to_write room flags lm nt domain user workstation key)
     (authenticate_bytes flags v mic lm nt domain user workstation key)

@@ -1,13 +1,9 @@
 -- Document 02, 11/12: AUTHENTICATE_MESSAGE (MS-NLMP 2.2.1.3) is read, and what it means is written by document 01's layout.
-use Rattle.std.specs.Prelude.{ℕ, List, replicate}
+use Rattle.std.specs.Prelude.{Result, Ok, Err, ℕ, List, replicate}
 use Rattle.wire.specs.declared.refusal.Refusal.{Refusal}
 use Rattle.field.specs.Field.{field_bytes}
 use Rattle.negotiate_flags.specs.declared.NegotiateFlags.{NegotiateFlags}
-use Rattle.place.specs.declared.written.Written.{Written}
-use Rattle.place.specs.declared.written.Written.TheVariants.{Refused}
 use Rattle.read_authenticate.specs.declared.Authenticate.{Authenticate}
-use Rattle.read_authenticate.specs.declared.Reading.{Reading}
-use Rattle.read_authenticate.specs.declared.Reading.TheVariants.{Taken, Refused as NotTaken}
 use Rattle.read_authenticate.specs.Authenticate.{read_authenticate}
 use Rattle.write_authenticate.specs.Writing.{write_answer, write_out}
 
@@ -41,7 +37,7 @@ abbrev pub zero_version : List ℕ
 zero_version = replicate 8 0
 
 -- a meaning, written into an output of so many bytes, and what is then in the output
-unfoldable pub meaning_answer : ℕ → Meaning → Written
+unfoldable pub meaning_answer : ℕ → Meaning → Result ℕ Refusal
 meaning_answer room m =
     write_answer room m.flags zero_version m.mic m.lm m.nt m.domain m.user m.workstation m.key
 
@@ -50,14 +46,14 @@ meaning_out out m =
     write_out out m.flags zero_version m.mic m.lm m.nt m.domain m.user m.workstation m.key
 
 -- after a reading of s with these MIC bytes: its refusal, or what is made of the meaning
-abbrev pub on_meaning : {A : Type 0} → (Refusal → A) → List ℕ → List ℕ → Reading → (Meaning → A) → A
-on_meaning refuse s mic (Taken a) x = x (meaning_of s mic a)
-on_meaning refuse s mic (NotTaken e) x = refuse e
+abbrev pub on_meaning : {A : Type 0} → (Refusal → A) → List ℕ → List ℕ → Result Authenticate Refusal → (Meaning → A) → A
+on_meaning refuse s mic (Ok a) x = x (meaning_of s mic a)
+on_meaning refuse s mic (Err e) x = refuse e
 
 -- "Refusals: the reading ones, then 32, 30, 33"
-unfoldable pub canonical_answer : ℕ → List ℕ → Written
+unfoldable pub canonical_answer : ℕ → List ℕ → Result ℕ Refusal
 canonical_answer room s =
-    on_meaning Refused s (read_authenticate s).mic (read_authenticate s).reading (λ m. meaning_answer room m)
+    on_meaning Err s (read_authenticate s).mic (read_authenticate s).reading (λ m. meaning_answer room m)
 
 unfoldable pub canonical_out : List ℕ → List ℕ → List ℕ
 canonical_out out s =

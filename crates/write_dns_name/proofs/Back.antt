@@ -1,4 +1,5 @@
 -- A name that was written reads back: the same labels and no jump, whatever stands before and after it.
+use Rattle.std.specs.Prelude.{Ok}
 use Prim.Native.Nat.{ℕ, suc, ◌+◌, ◌≤◌}
 use mathlib.Core.Path.{◌≡◌, refl, sym, ap, ◌∙◌, subst}
 use mathlib.Core.Bool.{Bool, true, false, ◌&&◌, cond}
@@ -12,7 +13,6 @@ use Rattle.wire.specs.declared.check.Checked.TheVariants.{Held, Failed}
 use Rattle.wire.specs.Check.{checked, after}
 use Rattle.wire.proofs.Laws.{held_true}
 use Rattle.wire.proofs.Bools.{and_left, and_right}
-use Rattle.read_dns_name.specs.declared.Reading.TheVariants.{Taken}
 use Rattle.read_dns_name.specs.DnsName.{read_name, labels_at}
 use Rattle.read_dns_name.specs.Rfc1035.{NameEndAt, LabelAt, NameFrom, end, label, coded_length}
 use Rattle.read_dns_name.proofs.Exact.{is_taken}
@@ -81,7 +81,7 @@ written (l ∷ ls) pre post run h =
     subst (λ (x : List ℕ). NameFrom x run (length pre) (l ∷ ls) 0 (length pre + suc (length (l ++ coded ls)))) (sym e) w
 
 pub back : (t pre post : List ℕ) → text_holds t ≡ Held → coded_holds t ≡ Held →
-    (read_name (pre ++ (name_bytes t ++ post)) (length pre) ≡ Taken (record { jumps = 0; next = length pre + length (name_bytes t) })) ×
+    (read_name (pre ++ (name_bytes t ++ post)) (length pre) ≡ Ok (record { jumps = 0; next = length pre + length (name_bytes t) })) ×
     (labels_at (pre ++ (name_bytes t ++ post)) (length pre) ≡ split_labels t)
 unfolding text_holds coded_holds name_bytes
 back t pre post h g =
@@ -104,16 +104,16 @@ NoStops [] = Unit {0}
 NoStops (l ∷ ls) = (before_stop l ≡ length l) × NoStops ls
 
 -- the pieces are one or more
-record Some (ls : List (List ℕ)) : Type 0 where
+record More (ls : List (List ℕ)) : Type 0 where
   one : List ℕ
   others : List (List ℕ)
   are : ls ≡ one ∷ others
 
-pieces_some : (t : List ℕ) → Some (pieces t)
+pieces_some : (t : List ℕ) → More (pieces t)
 unfolding pieces
 pieces_some [] = record { one = []; others = []; are = refl }
 pieces_some (b ∷ t) = go (eqb b 0x2E) (pieces_some t) where
-  go : (x : Bool) → Some (pieces t) → Some (cond x ([] ∷ pieces t) (on_first b (pieces t)))
+  go : (x : Bool) → More (pieces t) → More (cond x ([] ∷ pieces t) (on_first b (pieces t)))
   go true p = record { one = []; others = pieces t; are = refl }
   go false p = record { one = b ∷ p.one; others = p.others; are = simp p.are }
 

@@ -1,50 +1,30 @@
 -- Laws of the checks on a text, 50 and 53.
 use Prim.Native.Nat.{ℕ, suc, ◌+◌, ◌≤◌, min}
 use mathlib.Core.Path.{◌≡◌, refl, sym, ap, ◌∙◌}
-use mathlib.Core.Bool.{Bool, true, false, cond}
+use mathlib.Core.Bool.{Bool, true, false, cond, ◌&&◌}
 use mathlib.Core.List.{List, [], ◌∷◌}
 use native.Mathlib.Omega.{arith}
+use Rattle.std.specs.List.{list_all}
 use lib.Dec.{leb, eqb}
-use lib.ListN.{length, drop, length-append}
-use borrow.Author.Tests.{leb-true, leb-false, le-leb, lt-leb, eqb-true, eqb-false}
+use lib.ListN.{length, length-append}
+use borrow.Author.Tests.{leb-true, leb-false, le-leb, lt-leb}
 use Rattle.wire.specs.declared.check.Checked.{Checked}
 use Rattle.wire.specs.declared.check.Checked.TheVariants.{Held, Failed}
 use Rattle.wire.specs.Check.{checked, after}
 use Rattle.read_dns_name.specs.Rfc1035.{coded_length}
-use Rattle.write_dns_name.specs.Writing.{on_first, pieces, split_labels, label_bytes, coded, name_bytes, label_holds, labels_hold, text_holds, coded_holds, before_stop}
-use Rattle.write_dns_name.proofs.Pieces.{piece_last, piece_more, piece_size}
+use Rattle.write_dns_name.specs.Writing.{on_first, pieces, split_labels, label_bytes, coded, name_bytes, labels_hold, text_holds, coded_holds}
 
--- the pieces before `at` hold
-pub record Holding (t : List ℕ) (at : ℕ) : Type 0 where
-  pub inside : at ≤ length t
-  pub same : labels_hold (pieces t) ≡ labels_hold (pieces (drop at t))
+-- a label that holds has 1 to 63 bytes, and labels hold where each does
+abbrev pub fits : List ℕ → Bool
+fits l = leb 1 (length l) && leb (length l) 63
 
-pub hold_start : (t : List ℕ) → Holding t 0
-hold_start t = record { inside = omega arith; same = refl }
-
-pub hold_inside : (t : List ℕ) (at : ℕ) → Holding t at → at ≤ length t
-hold_inside t at w = w.inside
-
-module _ (t : List ℕ) (at : ℕ) (w : Holding t at) (n : ℕ) (e : n ≡ before_stop (drop at t)) (b : at + n ≤ length t) (r : Checked) (k : r ≡ label_holds n) where
-  last : at + n ≡ length t → labels_hold (pieces t) ≡ after r Failed Held
-  unfolding labels_hold
-  last h = w.same ∙ simp (piece_last t at n e b h, piece_size t at n e b, ← k)
-
-  more : (at + n ≡ length t → ⊥) → labels_hold (pieces t) ≡ after r Failed (labels_hold (pieces (drop (at + n + 1) t)))
-  unfolding labels_hold
-  more h = w.same ∙ simp (piece_more t at n e b h, piece_size t at n e b, ← k)
-
-  pub hold_fails : r ≡ Failed → Failed ≡ labels_hold (pieces t)
-  hold_fails f = go (eqb (at + n) (length t)) refl where
-    go : (x : Bool) → eqb (at + n) (length t) ≡ x → Failed ≡ labels_hold (pieces t)
-    go true p = sym (last (eqb-true (at + n) (length t) p) ∙ simp f)
-    go false p = sym (more (eqb-false (at + n) (length t) p) ∙ simp f)
-
-  pub hold_last : r ≡ Held → at + n ≡ length t → Held ≡ labels_hold (pieces t)
-  hold_last f h = sym (last h ∙ simp f)
-
-  pub hold_next : r ≡ Held → (at + n ≡ length t → ⊥) → Holding t (at + n + 1)
-  hold_next f h = record { inside = omega (arith, h); same = more h ∙ simp f }
+pub each_holds : (ls : List (List ℕ)) → checked (list_all fits ls) ≡ labels_hold ls
+unfolding labels_hold
+each_holds [] = refl
+each_holds (l ∷ ls) = go (fits l) (each_holds ls) where
+  go : (x : Bool) → checked (list_all fits ls) ≡ labels_hold ls → checked (x && list_all fits ls) ≡ after (checked x) Failed (labels_hold ls)
+  go true e = e
+  go false e = refl
 
 -- ---- an empty text, and any other
 

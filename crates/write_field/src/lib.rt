@@ -32,6 +32,7 @@ pub fn put_head(place: Place, out: &mut [u8], f: Field) -> Place
 }
 
 // The caller's Version with VERSION, else zeros.
+#[tactic(auto, unfolding(crate::specs::Writing::version_bytes))]
 pub fn put_version(place: Place, out: &mut [u8], flags: NegotiateFlags, version: &[u8; 8]) -> Place
     requires { place.at + 8 ≤ length out.old }
     ensures next { result.at ≡ place.at + 8 }

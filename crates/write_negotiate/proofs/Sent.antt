@@ -1,41 +1,26 @@
 -- Laws of what is written: its bytes, its length and its checks.
+use Rattle.std.specs.Prelude.{Result, Ok, ⊤}
+use Rattle.wire.specs.declared.refusal.Refusal.{Refusal}
 use Prim.Native.Nat.{ℕ, ◌+◌, ◌≤◌, min}
 use mathlib.Core.Path.{◌≡◌, refl, sym, ◌∙◌}
-use mathlib.Core.Bool.{true, ◌||◌, not}
+use mathlib.Core.Bool.{true, ◌||◌}
 use mathlib.Core.List.{List, ◌++◌}
 use native.Mathlib.Omega.{arith}
-use lib.Dec.{leb, eqb}
+use lib.Dec.{leb}
 use lib.ListN.{length, length-append}
 use borrow.Author.Tests.{leb-true}
-use Rattle.wire.specs.declared.check.Verdict.{Verdict}
-use Rattle.wire.specs.declared.check.Verdict.TheVariants.{Clear}
-use Rattle.field.specs.declared.Field.{Field}
 use Rattle.negotiate_flags.specs.declared.NegotiateFlags.{NegotiateFlags}
 use Rattle.wire.specs.declared.refusal.Refusal.TheVariants.{NoCharset, TooLongToWrite, NoRoom}
-use Rattle.negotiate_flags.specs.Flags.{unicode, oem, with_oem_domain_supplied, with_oem_workstation_supplied}
+use Rattle.negotiate_flags.specs.Flags.{unicode, oem}
 use Rattle.wire.proofs.Laws.{chain, after_clear}
 use Rattle.place.specs.Place.{Wrote}
 use Rattle.place.proofs.Numbers.{length-le32}
 use Rattle.place.proofs.Writings.{measured, counted_on}
-use Rattle.write_field.specs.Writing.{written_field}
 use Rattle.write_field.proofs.Laws.{length-head, length-version}
 use Rattle.read_negotiate.specs.declared.Fields.{Fields}
 use Rattle.write_negotiate.specs.Writing.{flags_to_write, fields_to, after_type, fixed_bytes, negotiate_bytes, size_to_write, check_to_write}
 
 -- ---- the fixed part
-
--- both names are laid out one after the other
-pub laid_out : (domain workstation : ℕ) (a b : Field) → a ≡ written_field 40 domain → b ≡ written_field (40 + domain) workstation →
-    record { domain = a; workstation = b } ≡ fields_to domain workstation
-unfolding fields_to
-laid_out domain workstation a b pa pb = rw (pa, pb)
-
--- the flags go by whether each name is empty
-pub flags_are : (flags w v : NegotiateFlags) (domain workstation : List ℕ) →
-    w ≡ with_oem_domain_supplied flags (not (eqb (length domain) 0)) → v ≡ with_oem_workstation_supplied w (not (eqb (length workstation) 0)) →
-    v ≡ flags_to_write flags domain workstation
-unfolding flags_to_write
-flags_are flags w v domain workstation p q = q ∙ rw p
 
 -- a fixed part with the flags and the fields that were worked out
 pub of_fixed : (w x : NegotiateFlags) (v : List ℕ) (f g : Fields) (l k : List ℕ) (i p : ℕ) →
@@ -71,14 +56,14 @@ module _ (domain workstation : List ℕ) where
 pub ruleset checks = (chain, measured)
 
 -- a message whose checks held is no longer than a message may be, and has its room
-module _ (flags : NegotiateFlags) (domain workstation : List ℕ) (room : ℕ) (r : Verdict)
-    (p : r ≡ check_to_write room flags domain workstation) (h : r ≡ Clear) where
+module _ (flags : NegotiateFlags) (domain workstation : List ℕ) (room : ℕ) (r : Result ⊤ Refusal)
+    (p : r ≡ check_to_write room flags domain workstation) (h : r ≡ Ok tt) where
   held : (leb (size_to_write domain workstation) 65535 ≡ true) × (leb (size_to_write domain workstation) room ≡ true)
   unfolding check_to_write
   held =
       let a = after_clear (unicode flags || oem flags) NoCharset _ (sym p ∙ h) in
       let b = after_clear (leb (size_to_write domain workstation) 65535) TooLongToWrite _ a.1 in
-      let c = after_clear (leb (size_to_write domain workstation) room) NoRoom Clear b.1 in
+      let c = after_clear (leb (size_to_write domain workstation) room) NoRoom (Ok tt) b.1 in
       (b.0, c.0)
 
   pub message_size : 40 + (length domain + length workstation) ≤ 65535

@@ -1,13 +1,11 @@
 -- NEGOTIATE_MESSAGE (MS-NLMP 2.2.1.1), written as request 1/12 lays it out, into a lent output.
-use Rattle.std.specs.Prelude.{ℕ, ◌+◌, Bool, not, List, ◌++◌, eqb, length}
-use Rattle.wire.specs.declared.check.Verdict.{Verdict}
-use Rattle.wire.specs.declared.check.Verdict.TheVariants.{Clear, Refused as Not}
+use Rattle.wire.specs.declared.refusal.Refusal.{Refusal}
+use Rattle.std.specs.Prelude.{Result, Ok, Err, ⊤, ℕ, ◌+◌, Bool, not, List, ◌++◌, eqb, length}
 use Rattle.negotiate_flags.specs.declared.NegotiateFlags.{NegotiateFlags}
 use Rattle.wire.specs.declared.refusal.Refusal.TheVariants.{NoCharset, TooLongToWrite, NoRoom}
 use Rattle.wire.specs.Check.{after}
 use Rattle.negotiate_flags.specs.Flags.{charset_holds, with_oem_domain_supplied, with_oem_workstation_supplied}
 use Rattle.head.specs.Head.{signature}
-use Rattle.place.specs.declared.written.Written.{Written}
 use Rattle.place.specs.Place.{le32}
 use Rattle.place.specs.Written.{size_holds, room_holds, answered, out_after}
 use Rattle.write_field.specs.Writing.{written_field, head_bytes, version_bytes}
@@ -49,16 +47,16 @@ abbrev pub size_to_write : List ℕ → List ℕ → ℕ
 size_to_write domain workstation = 40 + length (domain ++ workstation)
 
 -- for an output of so many bytes: 5, 30, 33
-unfoldable pub check_to_write : ℕ → NegotiateFlags → List ℕ → List ℕ → Verdict
+unfoldable pub check_to_write : ℕ → NegotiateFlags → List ℕ → List ℕ → Result ⊤ Refusal
 check_to_write room flags domain workstation =
-    after (charset_holds flags) (Not NoCharset) (
-    after (size_holds (size_to_write domain workstation)) (Not TooLongToWrite) (
-    after (room_holds (size_to_write domain workstation) room) (Not NoRoom)
-    Clear))
+    after (charset_holds flags) (Err NoCharset) (
+    after (size_holds (size_to_write domain workstation)) (Err TooLongToWrite) (
+    after (room_holds (size_to_write domain workstation) room) (Err NoRoom)
+    (Ok tt)))
 
 -- ---- what writing answers, and what it leaves in the output
 
-unfoldable pub write_answer : ℕ → NegotiateFlags → List ℕ → List ℕ → List ℕ → Written
+unfoldable pub write_answer : ℕ → NegotiateFlags → List ℕ → List ℕ → List ℕ → Result ℕ Refusal
 write_answer room flags v domain workstation =
     answered (check_to_write room flags domain workstation) (negotiate_bytes flags v domain workstation)
 

@@ -7,52 +7,64 @@ ghost use Rattle.write_negotiate.specs.Writing.{flags_to_write, fields_to, after
 
 use negotiate_flags::NegotiateFlags;
 use place::Place;
-use place::written::{Written, add_capped, room_holds, size_holds};
+use place::written::{add_capped, room_holds, size_holds};
 use read_negotiate::Fields;
-use wire::check::{Checked, Verdict};
+use wire::check::Checked;
 use wire::refusal::Refusal;
 use write_field::{field_to, put_at, put_head, put_version};
 
+// What a message is made of besides its flags: Version and both names' bytes, each as it is lent.
+#[derive(Clone, Copy)]
+pub struct Parts<'a> {
+    pub version: &'a [u8; 8],
+    pub domain: &'a [u8],
+    pub workstation: &'a [u8],
+}
+
 // The message's length, as it is counted for check 30.
-fn size_to_write(domain: &[u8], workstation: &[u8]) -> usize
-    ensures { result ≡ min 65536 (size_to_write domain.now workstation.now) }
+fn size_to_write(parts: &Parts) -> usize
+    ensures { result ≡ min 65536 (size_to_write parts.now.domain.now parts.now.workstation.now) }
 {
-    add_capped(add_capped(40, domain.len()), workstation.len())
+    add_capped(add_capped(40, parts.domain.len()), parts.workstation.len())
 }
 
 // Checks 5, 30 and 33, for an output of `room` bytes.
-fn check_to_write(room: usize, flags: NegotiateFlags, domain: &[u8], workstation: &[u8]) -> Verdict
-    ensures { result ≡ check_to_write room flags domain.now workstation.now }
+#[tactic(auto, using(crate::proofs::Sent::checks), unfolding(crate::specs::Writing::check_to_write))]
+fn check_to_write(room: usize, flags: NegotiateFlags, parts: &Parts) -> Result<(), Refusal>
+    ensures { result ≡ check_to_write room flags parts.now.domain.now parts.now.workstation.now }
 {
     let Checked::Held = flags.charset_holds() else {
-        return Verdict::Refused(Refusal::NoCharset);
+        return Err(Refusal::NoCharset);
     };
-    let n = size_to_write(domain, workstation);
+    let n = size_to_write(parts);
     let Checked::Held = size_holds(n) else {
-        return Verdict::Refused(Refusal::TooLongToWrite);
+        return Err(Refusal::TooLongToWrite);
     };
     let Checked::Held = room_holds(n, room) else {
-        return Verdict::Refused(Refusal::NoRoom);
+        return Err(Refusal::NoRoom);
     };
-    Verdict::Clear
+    Ok(())
 }
 
 // A nonempty name sets its bit, an empty one clears it.
-fn flags_to_write(flags: NegotiateFlags, domain: &[u8], workstation: &[u8]) -> NegotiateFlags
-    ensures { result ≡ flags_to_write flags domain.now workstation.now }
+#[tactic(auto, unfolding(crate::specs::Writing::flags_to_write))]
+fn flags_to_write(flags: NegotiateFlags, parts: &Parts) -> NegotiateFlags
+    ensures { result ≡ flags_to_write flags parts.now.domain.now parts.now.workstation.now }
 {
-    let flags = flags.with_oem_domain_supplied(domain.len() != 0);
-    flags.with_oem_workstation_supplied(workstation.len() != 0)
+    let flags = flags.with_oem_domain_supplied(parts.domain.len() != 0);
+    flags.with_oem_workstation_supplied(parts.workstation.len() != 0)
 }
 
-// Where names of these lengths stand.
-fn fields_to(domain: usize, workstation: usize) -> Fields
-    requires { 40 + (domain + workstation) ≤ 65535 }
-    ensures { result ≡ fields_to domain workstation }
+// Where the names stand.
+#[tactic(auto, unfolding(crate::specs::Writing::fields_to))]
+fn fields_to(parts: &Parts) -> Fields
+    requires { 40 + (length parts.now.domain.now + length parts.now.workstation.now) ≤ 65535 }
+    ensures { result ≡ fields_to (length parts.now.domain.now) (length parts.now.workstation.now) }
 {
+    let domain = parts.domain.len();
     Fields {
         domain: field_to(40, domain),
-        workstation: field_to(40 + domain, workstation),
+        workstation: field_to(40 + domain, parts.workstation.len()),
     }
 }
 
@@ -86,47 +98,34 @@ fn put_fixed(out: &mut [u8], flags: NegotiateFlags, version: &[u8; 8], f: Fields
 }
 
 // The domain, and then the workstation.
-fn put_payload(place: Place, out: &mut [u8], domain: &[u8], workstation: &[u8]) -> Place
-    requires { place.at + (length domain.now + length workstation.now) ≤ length out.old }
-    ensures { Wrote out.old out.new place.at result.at (domain.now ++ workstation.now) }
+fn put_payload(place: Place, out: &mut [u8], parts: &Parts) -> Place
+    requires { place.at + (length parts.now.domain.now + length parts.now.workstation.now) ≤ length out.old }
+    ensures { Wrote out.old out.new place.at result.at (parts.now.domain.now ++ parts.now.workstation.now) }
 {
-    let place = put_at(place, out, domain);
-    put_at(place, out, workstation)
+    let place = put_at(place, out, parts.domain);
+    put_at(place, out, parts.workstation)
 }
 
 // A message whose checks held.
-fn put_message(
-    out: &mut [u8],
-    flags: NegotiateFlags,
-    version: &[u8; 8],
-    domain: &[u8],
-    workstation: &[u8],
-) -> Place
-    requires { (40 + (length domain.now + length workstation.now) ≤ 65535) × (40 + (length domain.now + length workstation.now) ≤ length out.old) }
-    ensures next { result.at ≡ size_to_write domain.now workstation.now }
-    ensures wrote { Wrote out.old out.new 0 result.at (negotiate_bytes flags version.now domain.now workstation.now) }
+fn put_message(out: &mut [u8], flags: NegotiateFlags, parts: &Parts) -> Place
+    requires { (40 + (length parts.now.domain.now + length parts.now.workstation.now) ≤ 65535)
+        × (40 + (length parts.now.domain.now + length parts.now.workstation.now) ≤ length out.old) }
+    ensures next { result.at ≡ size_to_write parts.now.domain.now parts.now.workstation.now }
+    ensures wrote { Wrote out.old out.new 0 result.at
+        (negotiate_bytes flags parts.now.version.now parts.now.domain.now parts.now.workstation.now) }
 {
-    let f = fields_to(domain.len(), workstation.len());
-    let flags = flags_to_write(flags, domain, workstation);
-    let place = put_fixed(out, flags, version, f);
-    put_payload(place, out, domain, workstation)
+    let f = fields_to(parts);
+    let flags = flags_to_write(flags, parts);
+    let place = put_fixed(out, flags, parts.version, f);
+    put_payload(place, out, parts)
 }
 
-// Writes a message of both names' bytes, fields 1 and 2: its length, or the refusal with the output as it was.
-pub fn write(
-    out: &mut [u8],
-    flags: NegotiateFlags,
-    version: &[u8; 8],
-    domain: &[u8],
-    workstation: &[u8],
-) -> Written
-    ensures answer { result ≡ write_answer (length out.old) flags version.now domain.now workstation.now }
-    ensures content { out.new ≡ write_out out.old flags version.now domain.now workstation.now }
+// Writes a message of these parts, whose names are fields 1 and 2: its length, or the refusal with the output as it was.
+pub fn write(out: &mut [u8], flags: NegotiateFlags, parts: &Parts) -> Result<usize, Refusal>
+    ensures answer { result ≡ write_answer (length out.old) flags parts.now.version.now parts.now.domain.now parts.now.workstation.now }
+    ensures content { out.new ≡ write_out out.old flags parts.now.version.now parts.now.domain.now parts.now.workstation.now }
 {
-    let verdict = check_to_write(out.len(), flags, domain, workstation);
-    let Verdict::Clear = verdict else {
-        return Written::Refused(verdict.refusal());
-    };
-    let end = put_message(out, flags, version, domain, workstation);
-    Written::Length(end.at)
+    check_to_write(out.len(), flags, parts)?;
+    let end = put_message(out, flags, parts);
+    Ok(end.at)
 }

@@ -1,4 +1,5 @@
 -- Laws of the walk that finds a list's size and of the one that copies its pairs.
+use Rattle.std.specs.Prelude.{Option, Some, None}
 use Prim.Native.Nat.{ℕ, ◌+◌, ◌-◌, ◌≤◌, min}
 use mathlib.Core.Path.{◌≡◌, refl, sym, ap, ◌∙◌}
 use mathlib.Core.Bool.{Bool, true, false, ◌||◌, ◌&&◌, not, cond}
@@ -12,8 +13,6 @@ use lib.ListN.{length, take, drop, length-append, length-take, length-drop}
 use Rattle.av_id.specs.declared.AvId.{AvId}
 use Rattle.av_id.specs.AvId.{is_flags, is_timestamp}
 use Rattle.av_pairs.specs.declared.AvPair.{AvPair}
-use Rattle.av_pairs.specs.declared.Found.{Found}
-use Rattle.av_pairs.specs.declared.Found.TheVariants.{At, Nothing}
 use Rattle.av_pairs.specs.AvPairs.{end_of, pair_at, Valued, value_in, values_of}
 use Rattle.av_pairs.proofs.Walks.{values_at, gave_there, there_inside, more_values, no_values, values_start, value_long}
 use Rattle.place.specs.Place.{Wrote, le16, le32}
@@ -32,8 +31,14 @@ pub record Seeing (s : List ℕ) (at n : ℕ) (t f : Bool) : Type 0 where
   pub timestamp : t || has_pair is_timestamp (values_at s at) ≡ has_pair is_timestamp (values_of s)
   pub flags : f || has_pair is_flags (values_at s at) ≡ has_pair is_flags (values_of s)
 
-pub see_none : (s : List ℕ) → Seeing s 0 0 false false
-see_none s = record { size = simp (values_start s) (ap (λ (n : ℕ). min 65536 n) (zero-add _)); few = omega arith; timestamp = simp (values_start s); flags = simp (values_start s) }
+pub see_none : (s : List ℕ) (n : ℕ) (t f : Bool) → n ≡ 0 → t ≡ false → f ≡ false → Seeing s 0 n t f
+see_none s n t f h x y =
+    record {
+      size = simp (h, values_start s) (ap (λ (n : ℕ). min 65536 n) (zero-add _));
+      few = omega (arith, h);
+      timestamp = simp (x, values_start s);
+      flags = simp (y, values_start s);
+    }
 
 -- the bytes of a pair that is kept, or none
 one_size : (p : Valued) (ps : List Valued) →
@@ -47,8 +52,8 @@ module _ (s : List ℕ) (at n : ℕ) (t f : Bool) (w : Seeing s at n t f) where
   pub see_few : n ≤ 65536
   see_few = w.few
 
-  module _ (r : Found) (e : r ≡ pair_at s at) where
-    pub see_one : (p : AvPair) (z m : ℕ) (a b : Bool) → r ≡ At p → z ≡ cond (left_out p.id) 0 (4 + p.len) → m ≡ min 65536 (n + z) →
+  module _ (r : Option AvPair) (e : r ≡ pair_at s at) where
+    pub see_one : (p : AvPair) (z m : ℕ) (a b : Bool) → r ≡ Some p → z ≡ cond (left_out p.id) 0 (4 + p.len) → m ≡ min 65536 (n + z) →
         a ≡ is_timestamp p.id → b ≡ is_flags p.id → Seeing s (p.at + p.len) m (t || a) (f || b)
     see_one p z m a b h g d x y =
         let v = more_values s at r e p h in
@@ -62,13 +67,13 @@ module _ (s : List ℕ) (at n : ℕ) (t f : Bool) (w : Seeing s at n t f) where
           flags = or_assoc f b _ ∙ simp y (simp v at w.flags);
         }
 
-    pub see_size : r ≡ Nothing → n ≡ min 65536 (length (pairs_bytes (kept (values_of s))))
+    pub see_size : r ≡ None → n ≡ min 65536 (length (pairs_bytes (kept (values_of s))))
     see_size h = let l : length (pairs_bytes (kept (values_at s at))) ≡ 0 = ap (λ (ps : List Valued). length (pairs_bytes (kept ps))) (no_values s at r e h) in omega (arith, l, w.size, w.few)
 
-    pub see_timestamp : r ≡ Nothing → t ≡ has_pair is_timestamp (values_of s)
+    pub see_timestamp : r ≡ None → t ≡ has_pair is_timestamp (values_of s)
     see_timestamp h = sym (or-false t) ∙ simp (no_values s at r e h) at w.timestamp
 
-    pub see_flags : r ≡ Nothing → f ≡ has_pair is_flags (values_of s)
+    pub see_flags : r ≡ None → f ≡ has_pair is_flags (values_of s)
     see_flags h = sym (or-false f) ∙ simp (no_values s at r e h) at w.flags
 
 -- ---- one pair as it goes back
@@ -169,8 +174,8 @@ pub record Putting (l k s : List ℕ) (due at bits q : ℕ) : Type 0 where
 pub put_none : (l s : List ℕ) (due : ℕ) → Putting l l s due 0 due 0
 put_none l s due = record { done = []; all = simp (values_start s); wrote = nothing l 0 }
 
-module _ (l k s : List ℕ) (due at bits q : ℕ) (w : Putting l k s due at bits q) (r : Found) (e : r ≡ pair_at s at) where
-  more : (p : AvPair) → r ≡ At p →
+module _ (l k s : List ℕ) (due at bits q : ℕ) (w : Putting l k s due at bits q) (r : Option AvPair) (e : r ≡ pair_at s at) where
+  more : (p : AvPair) → r ≡ Some p →
       with_bits due (kept (values_of s))
       ≡ (w.done ++ with_bits bits (kept ((p.id, value_in s p) ∷ []))) ++ with_bits (cond (is_flags p.id) 0 bits) (kept (values_at s (end_of p)))
   more p h =
@@ -181,14 +186,14 @@ module _ (l k s : List ℕ) (due at bits q : ℕ) (w : Putting l k s due at bits
   pub put_same : length k ≡ length l
   put_same = same_length l k (pairs_bytes w.done) 0 q w.wrote
 
-  pub put_room : (p : AvPair) → r ≡ At p → length (pairs_bytes (with_bits due (kept (values_of s)))) ≤ length l →
+  pub put_room : (p : AvPair) → r ≡ Some p → length (pairs_bytes (with_bits due (kept (values_of s)))) ≤ length l →
       q + length (pairs_bytes (with_bits bits (kept ((p.id, value_in s p) ∷ [])))) ≤ length k
   put_room p h room =
       let z : length (pairs_bytes (with_bits due (kept (values_of s)))) ≡ length (pairs_bytes w.done) + length (pairs_bytes (with_bits bits (kept ((p.id, value_in s p) ∷ [])))) + length (pairs_bytes (with_bits (cond (is_flags p.id) 0 bits) (kept (values_at s (end_of p))))) =
       ap (λ (ps : List Valued). length (pairs_bytes ps)) (more p h) ∙ simp (bytes_append, length-append) in
       omega (arith, room, z, w.wrote.place, put_same)
 
-  pub put_one : (m : List ℕ) (p : AvPair) (next b : ℕ) → r ≡ At p → Wrote k m q next (pairs_bytes (with_bits bits (kept ((p.id, value_in s p) ∷ [])))) →
+  pub put_one : (m : List ℕ) (p : AvPair) (next b : ℕ) → r ≡ Some p → Wrote k m q next (pairs_bytes (with_bits bits (kept ((p.id, value_in s p) ∷ [])))) →
       b ≡ cond (is_flags p.id) 0 bits → Putting l m s due (p.at + p.len) b next
   put_one m p next b h x f =
       record {
@@ -197,11 +202,11 @@ module _ (l k s : List ℕ) (due at bits q : ℕ) (w : Putting l k s due at bits
         wrote = simp bytes_append (and_then l k m (pairs_bytes w.done) _ 0 q next w.wrote x);
       }
 
-  pub put_all : r ≡ Nothing → Wrote l k 0 q (pairs_bytes (with_bits due (kept (values_of s))))
+  pub put_all : r ≡ None → Wrote l k 0 q (pairs_bytes (with_bits due (kept (values_of s))))
   put_all h = go (eqb bits 0) (w.all ∙ ap (λ (ps : List Valued). w.done ++ with_bits bits (kept ps)) (no_values s at r e h)) where
     go : (z : Bool) → with_bits due (kept (values_of s)) ≡ w.done ++ cond z [] [] → Wrote l k 0 q (pairs_bytes (with_bits due (kept (values_of s))))
     go true x = simp (x, append-nil) w.wrote
     go false x = simp (x, append-nil) w.wrote
 
-pub flags_four : (s : List ℕ) (at : ℕ) (r : Found) (p : AvPair) → r ≡ pair_at s at → r ≡ At p → is_flags p.id ≡ true → p.len ≡ 4
+pub flags_four : (s : List ℕ) (at : ℕ) (r : Option AvPair) (p : AvPair) → r ≡ pair_at s at → r ≡ Some p → is_flags p.id ≡ true → p.len ≡ 4
 flags_four s at r p e h t = four p.id p.len (gave_there s at r e p h).size t

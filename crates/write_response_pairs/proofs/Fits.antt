@@ -1,4 +1,7 @@
 -- Pairs that may stand in a list, and their sizes.
+use Rattle.std.specs.Prelude.{Result, Option, Ok, Err, Some, None}
+use Rattle.av_pairs.specs.declared.AvPair.{AvPair}
+use Rattle.wire.specs.declared.refusal.Refusal.{Refusal}
 use Prim.Native.Nat.{ℕ, zero, suc, ◌+◌}
 use mathlib.Core.Path.{◌≡◌, refl, sym}
 use mathlib.Core.Bool.{Bool, true, false, ◌&&◌, not, cond}
@@ -10,8 +13,6 @@ use lib.Dec.{eqb}
 use lib.ListN.{length, length-append}
 use Rattle.av_id.specs.declared.AvId.{AvId}
 use Rattle.av_id.specs.AvId.{is_end, is_flags, size_allowed}
-use Rattle.av_pairs.specs.declared.Step.{Step}
-use Rattle.av_pairs.specs.declared.Step.TheVariants.{Pair, End, Refused}
 use Rattle.av_pairs.specs.AvPairs.{step_at, end_of, on_step, pairs_from, pairs_of, Valued, with_values, values_of}
 use Rattle.av_pairs.proofs.Steps.{gave}
 use Rattle.av_pairs.proofs.Walks.{value_long}
@@ -33,13 +34,13 @@ fit_pairs (p ∷ ps) = fit_pair p && fit_pairs ps
 from_fit : (k : ℕ) (s : List ℕ) (at : ℕ) → fit_pairs (with_values s (pairs_from k s at)) ≡ true
 from_fit zero s at = refl
 from_fit (suc k) s at = go (step_at s at) refl (λ i. from_fit k s i) where
-  go : (r : Step) → step_at s at ≡ r → ((i : ℕ) → fit_pairs (with_values s (pairs_from k s i)) ≡ true) →
+  go : (r : Result (Option AvPair) Refusal) → step_at s at ≡ r → ((i : ℕ) → fit_pairs (with_values s (pairs_from k s i)) ≡ true) →
       fit_pairs (with_values s (on_step r (λ p. p ∷ pairs_from k s (end_of p)) (λ v. []))) ≡ true
-  go (Pair p) e later =
-      let g = gave s at (Pair p) p (sym e) refl in
+  go (Ok (Some p)) e later =
+      let g = gave s at (Ok (Some p)) p (sym e) refl in
       simp (g.not_end, value_long s p g.inside, g.size, later (end_of p))
-  go End e later = refl
-  go (Refused f) e later = refl
+  go (Ok None) e later = refl
+  go (Err f) e later = refl
 
 pub values_fit : (s : List ℕ) → fit_pairs (values_of s) ≡ true
 unfolding values_of pairs_of

@@ -1,4 +1,5 @@
 -- Laws of the added pairs, of the list's size and of the whole writing.
+use Rattle.std.specs.Prelude.{Result, Ok, Err, ⊤}
 use Prim.Native.Nat.{ℕ, ◌+◌, ◌%◌, ◌≤◌, min}
 use mathlib.Core.Path.{◌≡◌, refl, sym, ap, ◌∙◌}
 use mathlib.Core.Bool.{Bool, true, false, ◌&&◌, not, cond}
@@ -10,21 +11,14 @@ use lib.ListN.{length, length-append}
 use Rattle.av_id.specs.AvId.{is_flags, is_timestamp}
 use Rattle.av_pairs.specs.AvPairs.{check_pairs, values_of}
 use Rattle.read_challenge.specs.declared.FullChallenge.{FullChallenge}
-use Rattle.read_challenge.specs.declared.FullReading.{FullReading}
-use Rattle.read_challenge.specs.declared.FullReading.TheVariants.{Taken, Refused as Unread}
-use Rattle.read_challenge.specs.Challenge.{full_reading_of, full_refusal, info_of}
-use Rattle.read_challenge.proofs.Laws.{full-reads, full_there, refusal_alone, info_clear}
-use Rattle.place.specs.declared.written.Written.{Written}
-use Rattle.place.specs.declared.written.Written.TheVariants.{Length, Refused}
+use Rattle.read_challenge.specs.Challenge.{full_reading_of, info_of}
+use Rattle.read_challenge.proofs.Laws.{full-reads, refusal_alone, info_clear}
 use Rattle.place.specs.Place.{Wrote, le32}
 use Rattle.place.proofs.Laws.{and_then, nothing, kept as same_length}
 use Rattle.place.proofs.Numbers.{length-le32}
 use Rattle.place.proofs.Writings.{written, stored, refused, untouched}
-use Rattle.wire.specs.declared.check.Verdict.{Verdict}
-use Rattle.wire.specs.declared.check.Verdict.TheVariants.{Clear, Refused as Not}
 use Rattle.wire.specs.declared.refusal.Refusal.{Refusal}
 use Rattle.wire.specs.declared.refusal.Refusal.TheVariants.{TooLongToWrite, OddNameToWrite, NoRoom}
-use Rattle.wire.specs.Check.{verdict_refusal}
 use Rattle.wire.proofs.Laws.{after_clear}
 use Rattle.write_response_pairs.specs.ResponsePairs.{pair_with, has_pair, is_none, kept, due_bits, bits_due, with_bits, adds_flags, added_pairs, pairs_back, pairs_for, pair_bytes, pairs_bytes, list_bytes, list_with, list_for, check_list, list_answer, list_out, write_answer, write_out}
 use Rattle.write_response_pairs.proofs.Fits.{values_fit, kept_fit, length-pair, bytes_append, bits_size}
@@ -193,7 +187,7 @@ same_checks room size n name e = go (leb size 65535) refl where
   go true f = let m : n ≡ size = omega (arith, e, leb-true size 65535 f) in rw m
   go false f = simp (f, lt-leb n 65535 (omega (arith, e, leb-false size 65535 f)))
 
-module _ (room size : ℕ) (name : List ℕ) (r : Verdict) (e : r ≡ check_list room name size) (h : r ≡ Clear) where
+module _ (room size : ℕ) (name : List ℕ) (r : Result ⊤ Refusal) (e : r ≡ check_list room name size) (h : r ≡ Ok tt) where
   pub within_size : size ≤ 65535
   unfolding check_list
   within_size =
@@ -205,7 +199,7 @@ module _ (room size : ℕ) (name : List ℕ) (r : Verdict) (e : r ≡ check_list
   within_room =
       let x = after_clear (eqb (length name % 2) 0) (OddNameToWrite 2) _ (sym e ∙ h) in
       let y = after_clear (leb size 65535) TooLongToWrite _ x.1 in
-      leb-true size room (after_clear (leb size room) NoRoom Clear y.1).0
+      leb-true size room (after_clear (leb size room) NoRoom (Ok tt) y.1).0
 
 -- ---- the list for TargetInfo's bytes
 
@@ -228,11 +222,11 @@ module _ (info : List ℕ) where
   size_are bits size n name bind f e z g = size_counted bits info name bind size n _ (adds_are bits f e) z g
 
 module _ (bits : ℕ) (info name bind : List ℕ) (n : ℕ) (g : n ≡ min 65536 (length (list_with bits info name bind)))
-    (room : ℕ) (r : Verdict) (e : r ≡ check_list room name n) where
+    (room : ℕ) (r : Result ⊤ Refusal) (e : r ≡ check_list room name n) where
   check_is : r ≡ check_list room name (length (list_with bits info name bind))
   check_is = e ∙ same_checks room (length (list_with bits info name bind)) n name g
 
-  module _ (h : r ≡ Clear) where
+  module _ (h : r ≡ Ok tt) where
     pub list_short : length (list_with bits info name bind) ≤ 65535
     list_short = within_size room _ name r check_is h
 
@@ -240,7 +234,7 @@ module _ (bits : ℕ) (info name bind : List ℕ) (n : ℕ) (g : n ≡ min 65536
     list_room = within_room room _ name r check_is h
 
 module _ (bits : ℕ) (info name bind : List ℕ) (unverified : Bool) (d : bits ≡ bits_due info name unverified)
-    (n : ℕ) (g : n ≡ min 65536 (length (list_with bits info name bind))) (out : List ℕ) (r : Verdict) (e : r ≡ check_list (length out) name n) where
+    (n : ℕ) (g : n ≡ min 65536 (length (list_with bits info name bind))) (out : List ℕ) (r : Result ⊤ Refusal) (e : r ≡ check_list (length out) name n) where
   list_is : list_for info name unverified bind ≡ list_with bits info name bind
   unfolding list_for
   list_is = ap (λ (b : ℕ). list_with b info name bind) (sym d)
@@ -248,19 +242,19 @@ module _ (bits : ℕ) (info name bind : List ℕ) (unverified : Bool) (d : bits 
   check_for : r ≡ check_list (length out) name (length (list_for info name unverified bind))
   check_for = rw list_is (check_is bits info name bind n g (length out) r e)
 
-  pub list_refused : (p q : Refusal) → r ≡ Not p → q ≡ verdict_refusal r → Refused q ≡ list_answer (length out) info name unverified bind
+  pub list_refused : (p : Refusal) → r ≡ Err p → Err p ≡ list_answer (length out) info name unverified bind
   unfolding list_answer
-  list_refused p q h w = refused _ r p check_for h _ q w
+  list_refused p h = refused _ r p check_for h _
 
-  pub list_untouched : (p : Refusal) → r ≡ Not p → out ≡ list_out out info name unverified bind
+  pub list_untouched : (p : Refusal) → r ≡ Err p → out ≡ list_out out info name unverified bind
   unfolding list_out
   list_untouched p h = untouched _ r p check_for h _ out
 
-  module _ (h : r ≡ Clear) (k : List ℕ) (q : ℕ) (w : Wrote out k 0 q (list_with bits info name bind)) where
+  module _ (h : r ≡ Ok tt) (k : List ℕ) (q : ℕ) (w : Wrote out k 0 q (list_with bits info name bind)) where
     for : Wrote out k 0 q (list_for info name unverified bind)
     for = rw list_is w
 
-    pub list_written : Length q ≡ list_answer (length out) info name unverified bind
+    pub list_written : Ok q ≡ list_answer (length out) info name unverified bind
     unfolding list_answer
     list_written = written _ r check_for h out k _ q for
 
@@ -270,18 +264,18 @@ module _ (bits : ℕ) (info name bind : List ℕ) (unverified : Bool) (d : bits 
 
 -- ---- after the reading
 
-module _ (s name bind : List ℕ) (unverified : Bool) (a : FullReading) (e : a ≡ full_reading_of s) where
-  module _ (f : Refusal) (h : a ≡ Unread f) where
-    pub reading_refused : (room : ℕ) (g : Refusal) → g ≡ full_refusal a → Refused g ≡ write_answer room s name unverified bind
+module _ (s name bind : List ℕ) (unverified : Bool) (a : Result FullChallenge Refusal) (e : a ≡ full_reading_of s) where
+  module _ (f : Refusal) (h : a ≡ Err f) where
+    pub reading_refused : (room : ℕ) → Err f ≡ write_answer room s name unverified bind
     unfolding write_answer
-    reading_refused room g q = simp (← refusal_alone s a e f h, q, ← full_there a f h)
+    reading_refused room = simp (← refusal_alone s a e f h)
 
     pub reading_untouched : (out : List ℕ) → out ≡ write_out out s name unverified bind
     unfolding write_out
     reading_untouched out = simp (← refusal_alone s a e f h)
 
-  module _ (f : FullChallenge) (h : a ≡ Taken f) (l : List ℕ) (i : l ≡ info_of s f.challenge) where
-    pub reading_taken : (room : ℕ) (x : Written) → x ≡ list_answer room l name unverified bind → x ≡ write_answer room s name unverified bind
+  module _ (f : FullChallenge) (h : a ≡ Ok f) (l : List ℕ) (i : l ≡ info_of s f.challenge) where
+    pub reading_taken : (room : ℕ) (x : Result ℕ Refusal) → x ≡ list_answer room l name unverified bind → x ≡ write_answer room s name unverified bind
     unfolding write_answer
     reading_taken room x q = q ∙ simp (full-reads s a e f h, i)
 
@@ -290,6 +284,6 @@ module _ (s name bind : List ℕ) (unverified : Bool) (a : FullReading) (e : a �
     reading_stored out k q = q ∙ simp (full-reads s a e f h, i)
 
 -- the pairs of a challenge that was taken were checked
-pub taken_clear : (s : List ℕ) (a : FullReading) (f : FullChallenge) (l : List ℕ) →
-    a ≡ full_reading_of s → a ≡ Taken f → l ≡ info_of s f.challenge → check_pairs l ≡ Clear
+pub taken_clear : (s : List ℕ) (a : Result FullChallenge Refusal) (f : FullChallenge) (l : List ℕ) →
+    a ≡ full_reading_of s → a ≡ Ok f → l ≡ info_of s f.challenge → check_pairs l ≡ Ok tt
 taken_clear s a f l e h i = info_clear s l f.challenge (full-reads s a e f h) i

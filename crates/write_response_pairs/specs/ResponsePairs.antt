@@ -1,18 +1,16 @@
 -- The pair list that goes back in the answer (request 2/12, source document 004), as pairs and then as bytes.
-use Rattle.std.specs.Prelude.{ℕ, ◌+◌, ◌%◌, Bool, false, ◌||◌, ◌&&◌, not, cond, List, [], ◌∷◌, ◌++◌, eqb, length}
+use Rattle.wire.specs.Check.{on_ok}
+use Rattle.wire.specs.declared.refusal.Refusal.{Refusal}
+use Rattle.std.specs.Prelude.{Result, Ok, Err, ⊤, ℕ, ◌+◌, ◌%◌, Bool, false, ◌||◌, ◌&&◌, not, cond, List, [], ◌∷◌, ◌++◌, eqb, length}
 use Rattle.std.specs.Int.Bits.{bit_or}
 use Rattle.av_id.specs.declared.AvId.{AvId}
 use Rattle.av_id.specs.AvId.{end_id, flags_id, target_name_id, channel_bindings_id, is_flags, is_timestamp, is_target_name, is_channel_bindings}
 use Rattle.av_pairs.specs.declared.AvPair.{AvPair}
 use Rattle.av_pairs.specs.AvPairs.{Valued, value_in, values_of}
-use Rattle.read_challenge.specs.Challenge.{reading_of, on_taken, info_of}
-use Rattle.place.specs.declared.written.Written.{Written}
-use Rattle.place.specs.declared.written.Written.TheVariants.{Refused}
+use Rattle.read_challenge.specs.Challenge.{reading_of, info_of}
 use Rattle.place.specs.Place.{le16, le32}
 use Rattle.place.specs.Written.{size_holds, room_holds, answered, out_after}
 use Rattle.wire.specs.declared.check.Checked.{Checked}
-use Rattle.wire.specs.declared.check.Verdict.{Verdict}
-use Rattle.wire.specs.declared.check.Verdict.TheVariants.{Clear, Refused as Not}
 use Rattle.wire.specs.declared.refusal.Refusal.TheVariants.{TooLongToWrite, OddNameToWrite, NoRoom}
 use Rattle.wire.specs.Check.{checked, after}
 use Rattle.wire.specs.Number.{u32_at}
@@ -103,15 +101,15 @@ abbrev pub even_target_name : List ℕ → Checked
 even_target_name name = checked (eqb (length name % 2) 0)
 
 -- checks 31, 30 and 33 for a list of so many bytes
-unfoldable pub check_list : ℕ → List ℕ → ℕ → Verdict
+unfoldable pub check_list : ℕ → List ℕ → ℕ → Result ⊤ Refusal
 check_list room name size =
-    after (even_target_name name) (Not (OddNameToWrite 2)) (
-    after (size_holds size) (Not TooLongToWrite) (
-    after (room_holds size room) (Not NoRoom)
-    Clear))
+    after (even_target_name name) (Err (OddNameToWrite 2)) (
+    after (size_holds size) (Err TooLongToWrite) (
+    after (room_holds size room) (Err NoRoom)
+    (Ok tt)))
 
 -- the length written or the refusal, and the output afterwards
-unfoldable pub list_answer : ℕ → List ℕ → List ℕ → Bool → List ℕ → Written
+unfoldable pub list_answer : ℕ → List ℕ → List ℕ → Bool → List ℕ → Result ℕ Refusal
 list_answer room info name unverified bindings =
     answered (check_list room name (length (list_for info name unverified bindings))) (list_for info name unverified bindings)
 
@@ -120,10 +118,10 @@ list_out out info name unverified bindings =
     out_after (check_list (length out) name (length (list_for info name unverified bindings))) (list_for info name unverified bindings) out
 
 -- the same after the reading's checks, and the output as it was where one of these fails
-unfoldable pub write_answer : ℕ → List ℕ → List ℕ → Bool → List ℕ → Written
+unfoldable pub write_answer : ℕ → List ℕ → List ℕ → Bool → List ℕ → Result ℕ Refusal
 write_answer room s name unverified bindings =
-    on_taken Refused (reading_of s) (λ c. list_answer room (info_of s c) name unverified bindings)
+    on_ok Err (reading_of s) (λ c. list_answer room (info_of s c) name unverified bindings)
 
 unfoldable pub write_out : List ℕ → List ℕ → List ℕ → Bool → List ℕ → List ℕ
 write_out out s name unverified bindings =
-    on_taken (λ e. out) (reading_of s) (λ c. list_out out (info_of s c) name unverified bindings)
+    on_ok (λ e. out) (reading_of s) (λ c. list_out out (info_of s c) name unverified bindings)

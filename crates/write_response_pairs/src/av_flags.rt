@@ -15,6 +15,7 @@ impl AvFlags {
     pub const UNVERIFIED_TARGET_NAME: u32 = 0x4;
 
     // The bits due: with a timestamp, and with a name that is marked unverified.
+    #[tactic(auto, unfolding(crate::specs::ResponsePairs::due_bits))]
     pub(crate) fn due(timestamp: bool, unverified: bool) -> AvFlags
         ensures { result.bits ≡ due_bits timestamp unverified }
     {

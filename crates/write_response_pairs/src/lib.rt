@@ -3,9 +3,8 @@
 
 pub mod av_flags;
 
-ghost use Rattle.std.specs.Prelude.{◌≡◌, true, cond, [], ◌∷◌, ◌+◌, ◌≤◌, min, eqb, length};
+ghost use Rattle.std.specs.Prelude.{◌≡◌, true, cond, [], ◌∷◌, ◌+◌, ◌≤◌, min, eqb, length, Ok};
 ghost use Rattle.av_id.specs.AvId.{end_id, flags_id, is_flags, is_timestamp};
-ghost use Rattle.wire.specs.declared.check.Verdict.TheVariants.{Clear};
 ghost use Rattle.av_pairs.specs.AvPairs.{check_pairs, values_of};
 ghost use Rattle.place.specs.Place.{Wrote, le32};
 ghost use Rattle.write_response_pairs.specs.ResponsePairs.{pair_with, has_pair, left_out, kept, bits_due, with_bits, adds_flags, added_pairs};
@@ -13,18 +12,26 @@ ghost use Rattle.write_response_pairs.specs.ResponsePairs.{pair_bytes, pairs_byt
 
 use crate::av_flags::AvFlags;
 use av_id::AvId;
-use av_pairs::{AvPair, Found};
+use av_pairs::AvPair;
 use place::Place;
-use place::written::{Written, add_capped, room_holds, size_holds};
-use read_challenge::{FullReading, read_full};
+use place::written::{add_capped, room_holds, size_holds};
+use read_challenge::read_full;
 use target_info::{pair_at, value_of};
-use wire::check::{Checked, Verdict, check};
+use wire::check::{Checked, check};
 use wire::number::u32_at;
 use wire::refusal::Refusal;
 
+// What the caller gives for the pairs that are added: the target name, whether it is marked unverified, and the channel bindings.
+#[derive(Clone, Copy)]
+struct Added<'a> {
+    pub name: &'a [u8],
+    pub unverified: bool,
+    pub bindings: &'a [u8],
+}
+
 // What the walk over a list finds: the size of the pairs that are kept, as it is counted for check 30, and whether a timestamp
 // and a flags pair are there.
-#[derive(Clone, Copy)]
+#[derive(Clone, Copy, Default)]
 struct Seen {
     pub size: usize,
     pub timestamp: bool,
@@ -47,6 +54,7 @@ fn left_out(id: AvId) -> bool
 }
 
 // How many bytes a pair takes in the list that goes back.
+#[tactic(auto, using(wire::proofs::Laws::branches))]
 fn kept_size(id: AvId, len: u16) -> usize
     ensures { result ≡ cond (left_out id) 0 (4 + len) }
 {
@@ -58,28 +66,19 @@ fn kept_size(id: AvId, len: u16) -> usize
 
 // Goes over a list once.
 fn look_over(list: &[u8]) -> Seen
-    requires { check_pairs list.now ≡ Clear }
+    requires { check_pairs list.now ≡ Ok tt }
     ensures size { result.size ≡ min 65536 (length (pairs_bytes (kept (values_of list.now)))) }
     ensures timestamp { result.timestamp ≡ has_pair is_timestamp (values_of list.now) }
     ensures flags { result.flags ≡ has_pair is_flags (values_of list.now) }
 {
+    let mut seen = Seen::default();
     let mut at: usize = 0;
-    let mut size: usize = 0;
-    let mut timestamp = false;
-    let mut flags = false;
-    let seen = loop {
-        let Found::At(p) = pair_at(list, at) else {
-            break Seen {
-                size: size,
-                timestamp: timestamp,
-                flags: flags,
-            };
-        };
-        size = add_capped(size, kept_size(p.id, p.len));
-        timestamp = timestamp | p.id.is_timestamp();
-        flags = flags | p.id.is_flags();
+    while let Some(p) = pair_at(list, at) {
+        seen.size = add_capped(seen.size, kept_size(p.id, p.len));
+        seen.timestamp |= p.id.is_timestamp();
+        seen.flags |= p.id.is_flags();
         at = p.at + p.len as usize;
-    };
+    }
     seen
 }
 
@@ -123,7 +122,7 @@ fn put_part(out: &mut [u8], list: &[u8], p: AvPair, bits: u32) -> Place
         return place;
     }
     let value = value_of(list, p);
-    if id.is_flags() & !(bits == 0) {
+    if id.is_flags() & (bits != 0) {
         return put_flags(place, out, u32_at(value, 0) | bits);
     }
     put_pair(place, out, id.id, value)
@@ -141,6 +140,7 @@ fn put_one(place: Place, out: &mut [u8], list: &[u8], p: AvPair, bits: u32) -> P
 }
 
 // The bits that are due behind a pair.
+#[tactic(auto, using(wire::proofs::Laws::branches))]
 fn bits_after(bits: u32, id: AvId) -> u32
     ensures { result ≡ cond (is_flags id) 0 bits }
 {
@@ -152,49 +152,41 @@ fn bits_after(bits: u32, id: AvId) -> u32
 
 // Writes the pairs of a list that are kept, from the start of the output on.
 fn put_kept(out: &mut [u8], list: &[u8], due: u32) -> Place
-    requires { (check_pairs list.now ≡ Clear) × (length (pairs_bytes (with_bits due (kept (values_of list.now)))) ≤ length out.old) }
+    requires { (check_pairs list.now ≡ Ok tt) × (length (pairs_bytes (with_bits due (kept (values_of list.now)))) ≤ length out.old) }
     ensures { Wrote out.old out.new 0 result.at (pairs_bytes (with_bits due (kept (values_of list.now)))) }
 {
     let mut at: usize = 0;
     let mut place = Place { at: 0 };
     let mut bits = due;
-    let end = loop {
-        let Found::At(p) = pair_at(list, at) else {
-            break place;
-        };
+    while let Some(p) = pair_at(list, at) {
         place = put_one(place, out, list, p, bits);
         bits = bits_after(bits, p.id);
         at = p.at + p.len as usize;
-    };
-    end
+    }
+    place
 }
 
 // The added flags pair, if one is.
-fn put_added_flags(place: Place, out: &mut [u8], adds: bool, bits: u32) -> Place
-    requires { place.at + cond adds 8 0 ≤ length out.old }
-    ensures { Wrote out.old out.new place.at result.at (pairs_bytes (cond adds (pair_with flags_id (le32 bits) ∷ []) [])) }
+fn put_added_flags(place: Place, out: &mut [u8], plan: Plan) -> Place
+    requires { place.at + cond plan.adds 8 0 ≤ length out.old }
+    ensures { Wrote out.old out.new place.at result.at (pairs_bytes (cond plan.adds (pair_with flags_id (le32 plan.bits) ∷ []) [])) }
 {
-    if adds {
-        return put_flags(place, out, bits);
+    if plan.adds {
+        return put_flags(place, out, plan.bits);
     }
     place
 }
 
 // The added pairs and the end pair.
-fn put_added(
-    place: Place,
-    out: &mut [u8],
-    adds: bool,
-    bits: u32,
-    name: &[u8],
-    bindings: &[u8],
-) -> Place
-    requires { (length name.now ≤ 65535) × (length bindings.now ≤ 65535) × (place.at + length (list_bytes (added_pairs adds bits name.now bindings.now)) ≤ length out.old) }
-    ensures { Wrote out.old out.new place.at result.at (list_bytes (added_pairs adds bits name.now bindings.now)) }
+fn put_added(place: Place, out: &mut [u8], plan: Plan, added: &Added) -> Place
+    requires { (length added.now.name.now ≤ 65535) × (length added.now.bindings.now ≤ 65535)
+        × (place.at + length (list_bytes (added_pairs plan.adds plan.bits added.now.name.now added.now.bindings.now)) ≤ length out.old) }
+    ensures { Wrote out.old out.new place.at result.at
+        (list_bytes (added_pairs plan.adds plan.bits added.now.name.now added.now.bindings.now)) }
 {
-    let place = put_added_flags(place, out, adds, bits);
-    let place = put_pair(place, out, AvId::CHANNEL_BINDINGS, bindings);
-    let place = put_pair(place, out, AvId::TARGET_NAME, name);
+    let place = put_added_flags(place, out, plan);
+    let place = put_pair(place, out, AvId::CHANNEL_BINDINGS, added.bindings);
+    let place = put_pair(place, out, AvId::TARGET_NAME, added.name);
     put_end(place, out)
 }
 
@@ -209,90 +201,75 @@ fn flags_size(adds: bool) -> usize
 
 // The size of the whole list, as it is counted for check 30: with this size of the pairs that are kept, and whether a flags
 // pair is added.
-fn list_size(list: &[u8], size: usize, adds: bool, name: &[u8], bindings: &[u8]) -> usize
+fn list_size(list: &[u8], size: usize, adds: bool, added: &Added) -> usize
     requires { size ≤ 65536 }
-    ensures { result ≡ min 65536 (cond (eqb (length list.now) 0) 4 (size + (cond adds 8 0 + (12 + (length name.now + length bindings.now))))) }
+    ensures { result ≡ min 65536 (cond (eqb (length list.now) 0) 4 (size + (cond adds 8 0 + (12 + (length added.now.name.now + length added.now.bindings.now))))) }
 {
     if list.len() == 0 {
         return 4;
     }
     let n = add_capped(size, flags_size(adds) + 12);
-    add_capped(add_capped(n, name.len()), bindings.len())
+    add_capped(add_capped(n, added.name.len()), added.bindings.len())
 }
 
 // What the list for TargetInfo's bytes will be.
-fn plan_for(list: &[u8], name: &[u8], unverified: bool, bindings: &[u8]) -> Plan
-    requires { check_pairs list.now ≡ Clear }
-    ensures bits { result.bits ≡ bits_due list.now name.now unverified }
+fn plan_for(list: &[u8], added: &Added) -> Plan
+    requires { check_pairs list.now ≡ Ok tt }
+    ensures bits { result.bits ≡ bits_due list.now added.now.name.now added.now.unverified }
     ensures adds { result.adds ≡ adds_flags result.bits (values_of list.now) }
-    ensures size { result.size ≡ min 65536 (length (list_with result.bits list.now name.now bindings.now)) }
+    ensures size { result.size ≡ min 65536 (length (list_with result.bits list.now added.now.name.now added.now.bindings.now)) }
 {
     let seen = look_over(list);
-    let due = AvFlags::due(seen.timestamp, unverified & !(name.len() == 0));
-    let adds = !(due.bits == 0) & !seen.flags;
+    let due = AvFlags::due(seen.timestamp, added.unverified & (added.name.len() != 0));
+    let adds = (due.bits != 0) & !seen.flags;
     Plan {
-        size: list_size(list, seen.size, adds, name, bindings),
+        size: list_size(list, seen.size, adds, added),
         bits: due.bits,
-        adds: adds,
+        adds,
     }
 }
 
 // Checks 31, 30 and 33, for a list of so many bytes and an output of `room` bytes.
-fn check_list(room: usize, name: &[u8], size: usize) -> Verdict
+#[tactic(auto, using(wire::proofs::Laws::chain), unfolding(crate::specs::ResponsePairs::check_list))]
+fn check_list(room: usize, name: &[u8], size: usize) -> Result<(), Refusal>
     ensures { result ≡ check_list room name.now size }
 {
     let Checked::Held = check(name.len() % 2 == 0) else {
-        return Verdict::Refused(Refusal::OddNameToWrite(2));
+        return Err(Refusal::OddNameToWrite(2));
     };
     let Checked::Held = size_holds(size) else {
-        return Verdict::Refused(Refusal::TooLongToWrite);
+        return Err(Refusal::TooLongToWrite);
     };
     let Checked::Held = room_holds(size, room) else {
-        return Verdict::Refused(Refusal::NoRoom);
+        return Err(Refusal::NoRoom);
     };
-    Verdict::Clear
+    Ok(())
 }
 
-// A list whose checks held, with these bits due, and with whether a flags pair is added for them.
-fn put_list(
-    out: &mut [u8],
-    list: &[u8],
-    adds: bool,
-    bits: u32,
-    name: &[u8],
-    bindings: &[u8],
-) -> Place
-    requires { (check_pairs list.now ≡ Clear) × (adds ≡ adds_flags bits (values_of list.now))
-        × (length (list_with bits list.now name.now bindings.now) ≤ 65535)
-        × (length (list_with bits list.now name.now bindings.now) ≤ length out.old) }
-    ensures { Wrote out.old out.new 0 result.at (list_with bits list.now name.now bindings.now) }
+// A list whose checks held, by its plan.
+fn put_list(out: &mut [u8], list: &[u8], plan: Plan, added: &Added) -> Place
+    requires { (check_pairs list.now ≡ Ok tt) × (plan.adds ≡ adds_flags plan.bits (values_of list.now))
+        × (length (list_with plan.bits list.now added.now.name.now added.now.bindings.now) ≤ 65535)
+        × (length (list_with plan.bits list.now added.now.name.now added.now.bindings.now) ≤ length out.old) }
+    ensures { Wrote out.old out.new 0 result.at (list_with plan.bits list.now added.now.name.now added.now.bindings.now) }
 {
     if list.len() == 0 {
         return put_end(Place { at: 0 }, out);
     }
-    let place = put_kept(out, list, bits);
-    put_added(place, out, adds, bits, name, bindings)
+    let place = put_kept(out, list, plan.bits);
+    put_added(place, out, plan, added)
 }
 
 // Writes the list for TargetInfo's bytes: its length, or the refusal with the output as it was.
-fn write_list(
-    out: &mut [u8],
-    list: &[u8],
-    name: &[u8],
-    unverified: bool,
-    bindings: &[u8],
-) -> Written
-    requires { check_pairs list.now ≡ Clear }
-    ensures answer { result ≡ list_answer (length out.old) list.now name.now unverified bindings.now }
-    ensures content { out.new ≡ list_out out.old list.now name.now unverified bindings.now }
+fn write_list(out: &mut [u8], list: &[u8], added: &Added) -> Result<usize, Refusal>
+    requires { check_pairs list.now ≡ Ok tt }
+    ensures answer { result ≡ list_answer (length out.old) list.now added.now.name.now added.now.unverified added.now.bindings.now }
+    ensures content { out.new ≡ list_out out.old list.now added.now.name.now added.now.unverified added.now.bindings.now }
 {
-    let plan = plan_for(list, name, unverified, bindings);
-    let verdict = check_list(out.len(), name, plan.size);
-    let Verdict::Clear = verdict else {
-        return Written::Refused(verdict.refusal());
-    };
-    let end = put_list(out, list, plan.adds, plan.bits, name, bindings);
-    Written::Length(end.at)
+    let plan = plan_for(list, added);
+    check_list(out.len(), added.name, plan.size)?;
+    let end = put_list(out, list, plan, added);
+    Ok(end.at)
 }
 
 // Writes the pair list that goes back for a challenge; refuses as reading does, and then by checks 31, 30 and 33.
@@ -302,20 +279,16 @@ pub fn write(
     target_name: &[u8],
     unverified: bool,
     bindings: &[u8; 16],
-) -> Written
+) -> Result<usize, Refusal>
     ensures answer { result ≡ write_answer (length out.old) challenge.now target_name.now unverified bindings.now }
     ensures content { out.new ≡ write_out out.old challenge.now target_name.now unverified bindings.now }
 {
-    let reading = read_full(challenge);
-    let FullReading::Taken(f) = reading else {
-        return Written::Refused(reading.refusal());
-    };
-    let c = f.challenge;
-    write_list(
-        out,
-        c.fields.target_info.bytes(challenge),
-        target_name,
+    let f = read_full(challenge)?;
+    let info = f.challenge.fields.target_info.bytes(challenge);
+    let added = Added {
+        name: target_name,
         unverified,
         bindings,
-    )
+    };
+    write_list(out, info, &added)
 }

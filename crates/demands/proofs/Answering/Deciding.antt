@@ -1,4 +1,7 @@
 -- The decision on a challenge: refused exactly by the reading, 20 or 21, and else the challenge's flags and timestamp.
+use Rattle.wire.specs.Check.{on_ok}
+use Rattle.std.specs.Prelude.{Result, Option, Ok, Err, Some, None, is_some}
+use Rattle.wire.specs.declared.refusal.Refusal.{Refusal}
 use Prim.Native.Nat.{ℕ, ◌+◌}
 use mathlib.Core.Path.{◌≡◌, refl, sym, ap, ◌∙◌, subst}
 use mathlib.Core.Logic.{inl, inr, ⊎_elim, ◌↔◌}
@@ -13,17 +16,11 @@ use Rattle.wire.specs.Number.{u64_at}
 use Rattle.wire.specs.Refusal.{number_of, field_of, place_of}
 use Rattle.wire.proofs.Laws.{held_true}
 use Rattle.av_id.specs.AvId.{is_nb_computer_name, is_nb_domain_name}
-use Rattle.av_pairs.specs.AvPairs.{pairs_of, is_there}
+use Rattle.av_pairs.specs.AvPairs.{pairs_of}
 use Rattle.negotiate_flags.specs.Flags.{negotiate128}
 use Rattle.head.specs.Head.{flags_at}
 use Rattle.read_challenge.specs.declared.Challenge.{Challenge}
-use Rattle.read_challenge.specs.declared.Reading.{Reading}
-use Rattle.read_challenge.specs.declared.Reading.TheVariants.{Taken as Read, Refused as Unread}
-use Rattle.target_info.specs.declared.Timestamp.{Timestamp}
-use Rattle.target_info.specs.declared.Timestamp.TheVariants.{Time, Nothing}
-use Rattle.read_challenge.specs.Challenge.{reading_of, read_challenge, on_taken, info_of}
-use Rattle.respond.specs.declared.decision.Decided.{Decided}
-use Rattle.respond.specs.declared.decision.Decided.TheVariants.{Taken, Refused}
+use Rattle.read_challenge.specs.Challenge.{reading_of, read_challenge, info_of}
 use Rattle.respond.specs.declared.decision.Decision.{Decision}
 use Rattle.respond.specs.declared.decision.Settings.{Settings}
 use Rattle.respond.specs.Decision.{strength_holds, server_names_hold, decision_on}
@@ -41,16 +38,16 @@ use Rattle.demands.proofs.OwnBytes.ChallengeOwn.{taken_as, info_of_lem, asks, ti
 
 pub timestamp_is : (b : List ℕ) → TimestampIs b (timestamp_in b)
 timestamp_is b = go (timestamp_in b) refl where
-  go : (t : Timestamp) → timestamp_in b ≡ t → TimestampIs b t
-  go (Time t) e = time_judged b t e
-  go Nothing e = λ p. no_time_judged b e p.0 p.1
+  go : (t : Option ℕ) → timestamp_in b ≡ t → TimestampIs b t
+  go (Some t) e = time_judged b t e
+  go None e = λ p. no_time_judged b e p.0 p.1
 
-pub one_timestamp : (b : List ℕ) (t u : Timestamp) → TimestampIs b t → TimestampIs b u → t ≡ u
-one_timestamp b (Time t) (Time u) p q =
-    ap Time (p.2 ∙ ap (λ (x : ℕ). u64_at b (x + 4)) (one_place b 7 p.0 q.0 0 p.1 q.1) ∙ sym q.2)
-one_timestamp b (Time t) Nothing p q = absurd (q (p.0, p.1))
-one_timestamp b Nothing (Time u) p q = absurd (p (q.0, q.1))
-one_timestamp b Nothing Nothing p q = refl
+pub one_timestamp : (b : List ℕ) (t u : Option ℕ) → TimestampIs b t → TimestampIs b u → t ≡ u
+one_timestamp b (Some t) (Some u) p q =
+    ap Some (p.2 ∙ ap (λ (x : ℕ). u64_at b (x + 4)) (one_place b 7 p.0 q.0 0 p.1 q.1) ∙ sym q.2)
+one_timestamp b (Some t) None p q = absurd (q (p.0, p.1))
+one_timestamp b None (Some u) p q = absurd (p (q.0, q.1))
+one_timestamp b None None p q = refl
 
 -- ---- checks 20 and 21
 
@@ -71,10 +68,10 @@ held_20 settings s h x = go settings.demand_128 (negotiate128 (flags_at s 20)) r
 module _ (settings : Settings) (b : List ℕ) where
   -- whether pairs 1 and 2 are there
   abbrev one : Bool
-  one = is_there (first_by is_nb_computer_name (pairs_of b))
+  one = is_some (first_by is_nb_computer_name (pairs_of b))
 
   abbrev two : Bool
-  two = is_there (first_by is_nb_domain_name (pairs_of b))
+  two = is_some (first_by is_nb_domain_name (pairs_of b))
 
   one_there : (one ≡ true) ↔ PairThere b 1
   one_there = there_is b 1 is_nb_computer_name (asks 1)
@@ -119,23 +116,23 @@ module _ (settings : Settings) (b : List ℕ) where
 -- ---- the decision
 
 module _ (settings : Settings) (s b : List ℕ) (info : InfoBytes s b) where
-  abbrev pub Judged : Decided → Type 0
-  Judged (Taken d) = Agreed settings s b × (d ≡ record { flags = flags_at s 20; timestamp = timestamp_in b })
-  Judged (Refused e) = Declined settings s b (number_of e) (field_of e) (place_of e)
+  abbrev pub Judged : Result Decision Refusal → Type 0
+  Judged (Ok d) = Agreed settings s b × (d ≡ record { flags = flags_at s 20; timestamp = timestamp_in b })
+  Judged (Err e) = Declined settings s b (number_of e) (field_of e) (place_of e)
 
   pub judged : Judged (decision_on settings s)
   unfolding decision_on read_challenge
   judged = go (reading_of s) refl (reading.judged s b info) where
-    decide : Challenge → Decided
+    decide : Challenge → Result Decision Refusal
     decide c =
-        after (strength_holds settings c.flags) (Refused No128Bit) (
-        after (server_names_hold settings (server_names_in (info_of s c))) (Refused NoServerNames)
-        (Taken (record { flags = c.flags; timestamp = timestamp_in (info_of s c) })))
+        after (strength_holds settings c.flags) (Err No128Bit) (
+        after (server_names_hold settings (server_names_in (info_of s c))) (Err NoServerNames)
+        (Ok (record { flags = c.flags; timestamp = timestamp_in (info_of s c) })))
 
     on : ChallengeHolds s b → Judged
-        (after (strength_holds settings (flags_at s 20)) (Refused No128Bit) (
-        after (server_names_hold settings (server_names_in b)) (Refused NoServerNames)
-        (Taken (record { flags = flags_at s 20; timestamp = timestamp_in b }))))
+        (after (strength_holds settings (flags_at s 20)) (Err No128Bit) (
+        after (server_names_hold settings (server_names_in b)) (Err NoServerNames)
+        (Ok (record { flags = flags_at s 20; timestamp = timestamp_in b }))))
     on holds =
         chained Judged _ _ _
         (λ f. by_20 refl refl refl holds (failed_20 settings s f))
@@ -143,12 +140,12 @@ module _ (settings : Settings) (s b : List ℕ) (info : InfoBytes s b) where
         (λ f. by_21 refl refl refl holds (held_20 settings s h) (failed_21 settings b f))
         (λ g. (record { reading = holds; holds20 = held_20 settings s h; holds21 = held_21 settings b g }, refl)))
 
-    go : (r : Reading) → reading_of s ≡ r → reading.Judged s b info r → Judged (on_taken Refused r decide)
-    go (Read c) e holds =
+    go : (r : Result Challenge Refusal) → reading_of s ≡ r → reading.Judged s b info r → Judged (on_ok Err r decide)
+    go (Ok c) e holds =
         let t = taken_as s c e in
         let l = info_of_lem s b c info e in
         rw (l, t.answer) (on holds)
-    go (Unread f) e fails = by_reading fails
+    go (Err f) e fails = by_reading fails
 
 -- not both; and there is one reason only
 pub agreed_or_declined : (settings : Settings) (s b : List ℕ) (n i p : ℕ) → Agreed settings s b → Declined settings s b n i p → ⊥
@@ -177,19 +174,19 @@ decline_is settings s b {m} {j} {o} {n} {i} {p} e f =
 
 pub decision_refused : DecisionIsRefused
 decision_refused settings s b info n i p = go (decision_on settings s) (judged settings s b info) where
-  go : (d : Decided) → Judged settings s b info d → DecisionRefusedWith d n i p ↔ Declined settings s b n i p
-  go (Taken d) j = (λ t. absurd t, λ f. agreed_or_declined settings s b n i p j.0 f)
-  go (Refused e) j = (
+  go : (d : Result Decision Refusal) → Judged settings s b info d → DecisionRefusedWith d n i p ↔ Declined settings s b n i p
+  go (Ok d) j = (λ t. absurd t, λ f. agreed_or_declined settings s b n i p j.0 f)
+  go (Err e) j = (
     λ t. decline_is settings s b t j,
     λ f. one_decline settings s b (number_of e) (field_of e) (place_of e) n i p j f,
   )
 
 pub decision_taken : DecisionIsTaken
 decision_taken settings s b info d = go (decision_on settings s) (judged settings s b info) where
-  go : (x : Decided) → Judged settings s b info x →
-      (x ≡ Taken d) ↔ (Agreed settings s b × (d.flags.bits ≡ (flags_at s 20).bits) × TimestampIs b d.timestamp)
-  go (Taken c) j = (λ h. told (same h ∙ j.1), λ h. ap Taken (j.1 ∙ made h)) where
-    same : Taken c ≡ Taken d → d ≡ c
+  go : (x : Result Decision Refusal) → Judged settings s b info x →
+      (x ≡ Ok d) ↔ (Agreed settings s b × (d.flags.bits ≡ (flags_at s 20).bits) × TimestampIs b d.timestamp)
+  go (Ok c) j = (λ h. told (same h ∙ j.1), λ h. ap Ok (j.1 ∙ made h)) where
+    same : ◌≡◌ {A = Result Decision Refusal} (Ok c) (Ok d) → d ≡ c
     same h = cc
 
     told : d ≡ record { flags = flags_at s 20; timestamp = timestamp_in b } →
@@ -199,7 +196,7 @@ decision_taken settings s b info d = go (decision_on settings s) (judged setting
     made : Agreed settings s b × (d.flags.bits ≡ (flags_at s 20).bits) × TimestampIs b d.timestamp →
         record { flags = flags_at s 20; timestamp = timestamp_in b } ≡ d
     made h = λ k. record { flags = record { bits = sym h.1 k }; timestamp = one_timestamp b (timestamp_in b) d.timestamp (timestamp_is b) h.2 k }
-  go (Refused e) j = (
+  go (Err e) j = (
     λ h. absurd (let z : ◌≡◌ {A = ℕ} 0 1 = cc in omega arith),
     λ h. absurd (agreed_or_declined settings s b (number_of e) (field_of e) (place_of e) h.0 j),
   )

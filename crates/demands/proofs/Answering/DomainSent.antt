@@ -1,4 +1,8 @@
 -- The domain to send is the settings', or the bytes of the challenge's first pair 2.
+use Rattle.wire.specs.Check.{on_ok}
+use Rattle.std.specs.Prelude.{Result, Option, Ok, Err, Some, None}
+use Rattle.av_pairs.specs.declared.AvPair.{AvPair}
+use Rattle.wire.specs.declared.refusal.Refusal.{Refusal}
 use Prim.Native.Nat.{ℕ, ◌+◌, ◌≤◌, ◌<◌}
 use mathlib.Core.Path.{◌≡◌, refl, sym, ap, ◌∙◌, subst}
 use mathlib.Core.Logic.{◌⊎◌, inl, inr}
@@ -10,17 +14,13 @@ use lib.ListN.{length, take, drop, get_or, length-take, length-drop}
 use lib.Seq.{ext_get_or, get_or-take, get_or-drop, drop-drop, length-take-le}
 use borrow.Author.Tests.{eqb-true, eqb-false, eq-eqb, ne_eqb, le-leb}
 use Rattle.av_id.specs.AvId.{is_nb_domain_name}
-use Rattle.av_pairs.specs.declared.Found.{Found}
-use Rattle.av_pairs.specs.declared.Found.TheVariants.{At, Nothing}
 use Rattle.av_pairs.specs.AvPairs.{pairs_of}
 use Rattle.field.specs.declared.Field.{Field}
 use Rattle.field.specs.Field.{is_empty, field_start}
 use Rattle.head.specs.Head.{flags_at}
 use Rattle.negotiate_flags.specs.Flags.{unicode}
 use Rattle.read_challenge.specs.declared.Challenge.{Challenge}
-use Rattle.read_challenge.specs.declared.Reading.{Reading}
-use Rattle.read_challenge.specs.declared.Reading.TheVariants.{Taken, Refused}
-use Rattle.read_challenge.specs.Challenge.{fields_at, reading_of, read_challenge, on_taken, info_of}
+use Rattle.read_challenge.specs.Challenge.{fields_at, reading_of, read_challenge, info_of}
 use Rattle.respond.specs.Domain.{Part, own_part, value_part, on_pair_found, domain_part}
 use Rattle.target_info.specs.TargetInfo.{first_by}
 use Rattle.demands.specs.Message.{challenge, Set, Nonempty, len_of, offset_of, Fails}
@@ -92,7 +92,7 @@ module _ (s b : List ℕ) (info : InfoBytes s b) where
       ⊎ ((ChallengeHolds s b → Set challenge s 0x1 → PairThere b 2 → ⊥) × (part ≡ own_part own))
 
   part_judged : (own : List ℕ) → Judged own
-      (on_taken (λ e. own_part own) (reading_of s) (λ c.
+      (on_ok (λ e. own_part own) (reading_of s) (λ c.
       cond (unicode c.flags)
       (on_pair_found (first_by is_nb_domain_name (pairs_of (info_of s c))) (value_part s c) (own_part own))
       (own_part own)))
@@ -105,10 +105,10 @@ module _ (s b : List ℕ) (info : InfoBytes s b) where
         rw (e ∙ start_is none place pair) (inl (place, first, refl, holds, set, stands none place pair))
 
     found : ChallengeHolds s b → Set challenge s 0x1 → (none : (n i : ℕ) → Fails challenge s n i → ⊥) (start : ℕ) → start ≡ field_start s (fields_at s (flags_at s 20)).target_info →
-        (x : Found) → JudgedW b 2 is_nb_domain_name (asks 2) 0 x →
+        (x : Option AvPair) → JudgedW b 2 is_nb_domain_name (asks 2) 0 x →
         Judged own (on_pair_found x (λ p. record { of_challenge = true; start = start + p.at; bytes = take p.len (drop p.at b) }) (own_part own))
-    found holds set none start e (At p) j = rw j.3 (at_place holds set none j.0 j.1 j.2 start e)
-    found holds set none start e Nothing j = inr (λ h u p. j p.0 p.1, refl)
+    found holds set none start e (Some p) j = rw j.3 (at_place holds set none j.0 j.1 j.2 start e)
+    found holds set none start e None j = inr (λ h u p. j p.0 p.1, refl)
 
     made : Challenge → List ℕ → Part
     made c l =
@@ -123,17 +123,17 @@ module _ (s b : List ℕ) (info : InfoBytes s b) where
     wide true p holds none = found holds (eqb-true _ 1 p) none (field_start s (fields_at s (flags_at s 20)).target_info) refl (first_by is_nb_domain_name (pairs_of b)) (first_in_list b 2 is_nb_domain_name (asks 2))
     wide false p holds none = inr (λ h u q. both_ways (unicode (flags_at s 20)) (eq-eqb _ 1 u) p, refl)
 
-    go : (r : Reading) → reading_of s ≡ r → reading.Judged s b info r → Judged own
-        (on_taken (λ e. own_part own) r (λ c.
+    go : (r : Result Challenge Refusal) → reading_of s ≡ r → reading.Judged s b info r → Judged own
+        (on_ok (λ e. own_part own) r (λ c.
         cond (unicode c.flags)
         (on_pair_found (first_by is_nb_domain_name (pairs_of (info_of s c))) (value_part s c) (own_part own))
         (own_part own)))
-    go (Taken c) e holds =
+    go (Ok c) e holds =
         let t = taken_as s c e in
         let l = info_of_lem s b c info e in
         subst (λ (x : List ℕ). Judged own (made c x)) (sym l)
         (subst (λ (x : Challenge). Judged own (made x b)) (sym t.answer) (wide (unicode (flags_at s 20)) refl holds t.none))
-    go (Refused d) e fails = inr (λ h u p. holds_or_fails s b _ _ _ h fails, refl)
+    go (Err d) e fails = inr (λ h u p. holds_or_fails s b _ _ _ h fails, refl)
 
   pub domain_judged : (own : List ℕ) → length own ≡ 0 → Judged own (domain_part own s)
   unfolding domain_part

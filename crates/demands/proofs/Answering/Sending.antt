@@ -1,4 +1,5 @@
 -- What is sent, as document 01 says it, is what the definitions make of it.
+use Rattle.std.specs.Prelude.{Option, Some, None}
 use Prim.Native.Nat.{ℕ, ◌+◌, ◌<◌}
 use mathlib.Core.Path.{◌≡◌, refl, sym, ap, ◌∙◌}
 use mathlib.Core.Logic.{inl, inr, ⊎_elim, ◌↔◌}
@@ -11,13 +12,9 @@ use borrow.Author.Tests.{eqb-true, eqb-false, eq-eqb, ne_eqb}
 use Rattle.wire.specs.Number.{u64_at}
 use Rattle.av_id.specs.AvId.{is_nb_domain_name}
 use Rattle.av_pairs.specs.declared.AvPair.{AvPair}
-use Rattle.av_pairs.specs.declared.Found.{Found}
-use Rattle.av_pairs.specs.declared.Found.TheVariants.{At, Nothing as Unfound}
 use Rattle.av_pairs.specs.AvPairs.{pairs_of}
 use Rattle.negotiate_flags.specs.Flags.{unicode, key_exch, sign, seal}
 use Rattle.head.specs.Head.{flags_at}
-use Rattle.target_info.specs.declared.Timestamp.{Timestamp}
-use Rattle.target_info.specs.declared.Timestamp.TheVariants.{Time, Nothing}
 use Rattle.respond.specs.declared.decision.Settings.{Settings}
 use Rattle.respond.specs.Answer.{Supplied, mic_due, time_to_send, lm_to_send, mic_to_send, key_to_send}
 use Rattle.respond.specs.Domain.{Part, on_pair_found, domain_part, domain_to_send}
@@ -36,9 +33,9 @@ use Rattle.demands.proofs.Answering.DomainSent.{none_of, Judged, domain_judged, 
 -- a timestamp pair is there exactly when a MIC is due
 pub due_is : (b : List ℕ) → (mic_due (timestamp_in b) ≡ true) ↔ PairThere b 7
 due_is b = go (timestamp_in b) (timestamp_is b) where
-  go : (t : Timestamp) → TimestampIs b t → (mic_due t ≡ true) ↔ PairThere b 7
-  go (Time t) p = (λ h. (p.0, p.1), λ h. refl)
-  go Nothing p = (λ h. absurd (true_not_false (sym h)), λ h. absurd (p h))
+  go : (t : Option ℕ) → TimestampIs b t → (mic_due t ≡ true) ↔ PairThere b 7
+  go (Some t) p = (λ h. (p.0, p.1), λ h. refl)
+  go None p = (λ h. absurd (true_not_false (sym h)), λ h. absurd (p h))
 
 -- and the key counts exactly when these flags are set
 key_counts : (s : List ℕ) → (key_exch (flags_at s 20) && (sign (flags_at s 20) || seal (flags_at s 20)) ≡ true) ↔ KeyCounts s
@@ -76,16 +73,16 @@ choice_false false x y p h = refl
 time_of : (settings : Settings) (b : List ℕ) (clock place : ℕ) → settings.ntlmv2 ≡ true → FirstWith b 7 place 0 →
     time_to_send settings (timestamp_in b) clock ≡ u64_at b (place + 4)
 time_of settings b clock place v first = go (timestamp_in b) (timestamp_is b) where
-  go : (t : Timestamp) → TimestampIs b t → time_to_send settings t clock ≡ u64_at b (place + 4)
-  go (Time t) p = simp v (p.2 ∙ ap (λ (k : ℕ). u64_at b (k + 4)) (one_place b 7 p.0 place 0 p.1 first))
-  go Nothing p = absurd (p (place, first))
+  go : (t : Option ℕ) → TimestampIs b t → time_to_send settings t clock ≡ u64_at b (place + 4)
+  go (Some t) p = simp v (p.2 ∙ ap (λ (k : ℕ). u64_at b (k + 4)) (one_place b 7 p.0 place 0 p.1 first))
+  go None p = absurd (p (place, first))
 
 time_else : (settings : Settings) (b : List ℕ) (clock : ℕ) → (Stamped settings b → ⊥) → time_to_send settings (timestamp_in b) clock ≡ clock
 time_else settings b clock not_so = go (timestamp_in b) settings.ntlmv2 refl (timestamp_is b) where
-  go : (t : Timestamp) (v : Bool) → settings.ntlmv2 ≡ v → TimestampIs b t → time_to_send settings t clock ≡ clock
-  go (Time t) true e p = absurd (not_so (e, (p.0, p.1)))
-  go (Time t) false e p = simp e
-  go Nothing v e p = refl
+  go : (t : Option ℕ) (v : Bool) → settings.ntlmv2 ≡ v → TimestampIs b t → time_to_send settings t clock ≡ clock
+  go (Some t) true e p = absurd (not_so (e, (p.0, p.1)))
+  go (Some t) false e p = simp e
+  go None v e p = refl
 
 -- ---- what is sent is what the definitions make
 module _ (settings : Settings) (s b : List ℕ) (g : Supplied) (x : ToSend settings s b g) where
@@ -139,16 +136,16 @@ module _ (s b : List ℕ) where
   theirs_is set place first =
       simp (eq-eqb _ 1 set) (go (first_by is_nb_domain_name (pairs_of b)) (first_in_list b 2 is_nb_domain_name (asks 2)))
     where
-      go : (x : Found) → JudgedW b 2 is_nb_domain_name (asks 2) 0 x → on_pair_found x pair_value [] ≡ take (size_of b place) (drop (place + 4) b)
-      go (At p) j = rw j.3 (ap (λ (k : ℕ). take (size_of b k) (drop (k + 4) b)) (one_place b 2 j.0 place 0 j.1 first))
-      go Unfound j = absurd (j place first)
+      go : (x : Option AvPair) → JudgedW b 2 is_nb_domain_name (asks 2) 0 x → on_pair_found x pair_value [] ≡ take (size_of b place) (drop (place + 4) b)
+      go (Some p) j = rw j.3 (ap (λ (k : ℕ). take (size_of b k) (drop (k + 4) b)) (one_place b 2 j.0 place 0 j.1 first))
+      go None j = absurd (j place first)
 
   theirs_none : (Set challenge s 0x1 × PairThere b 2 → ⊥) → theirs ≡ []
   unfolding theirs
   theirs_none not_so = go (unicode (flags_at s 20)) (first_by is_nb_domain_name (pairs_of b)) refl (first_in_list b 2 is_nb_domain_name (asks 2)) where
-    go : (u : Bool) (x : Found) → unicode (flags_at s 20) ≡ u → JudgedW b 2 is_nb_domain_name (asks 2) 0 x → cond u (on_pair_found x pair_value []) [] ≡ []
-    go true (At p) e j = absurd (not_so (eqb-true _ 1 e, (j.0, j.1)))
-    go true Unfound e j = refl
+    go : (u : Bool) (x : Option AvPair) → unicode (flags_at s 20) ≡ u → JudgedW b 2 is_nb_domain_name (asks 2) 0 x → cond u (on_pair_found x pair_value []) [] ≡ []
+    go true (Some p) e j = absurd (not_so (eqb-true _ 1 e, (j.0, j.1)))
+    go true None e j = refl
     go false x e j = refl
 
 pub something_to_send : SomethingToSend

@@ -1,4 +1,5 @@
 -- A line has under 2^20 bytes.
+use Rattle.std.specs.Prelude.{Result, Ok, Err}
 use Prim.Native.Nat.{ℕ, ◌+◌, ◌/◌, ◌%◌, ◌^◌, ◌≤◌, ◌<◌}
 use mathlib.Core.Path.{◌≡◌, refl, ap}
 use mathlib.Core.Logic.{⊎_elim}
@@ -20,25 +21,17 @@ use Rattle.place.specs.Written.{room_holds}
 use Rattle.field.specs.declared.Field.{Field}
 use Rattle.negotiate_flags.specs.Flags.{unicode}
 use Rattle.read_authenticate.specs.declared.Authenticate.{Authenticate}
-use Rattle.read_authenticate.specs.declared.Reading.{Reading}
-use Rattle.read_authenticate.specs.declared.Reading.TheVariants.{Taken, Refused}
 use Rattle.read_authenticate.specs.Authenticate.{read_authenticate}
 use Rattle.av_pairs.specs.AvPairs.{pairs_of}
 use Rattle.av_pairs.proofs.Walks.{few_pairs}
 use Rattle.read_challenge.specs.declared.Challenge.{Challenge}
-use Rattle.read_challenge.specs.declared.Reading.{Reading as ChallengeReading}
-use Rattle.read_challenge.specs.declared.Reading.TheVariants.{Taken as ChallengeTaken, Refused as ChallengeRefused}
 use Rattle.read_challenge.specs.Challenge.{info_of, read_challenge}
 use Rattle.head.specs.declared.Kind.{Kind}
 use Rattle.head.specs.declared.Kind.TheVariants.{Negotiate as AsNegotiate, Challenge as AsChallenge, Authenticate as AsAuthenticate}
 use Rattle.head.specs.Head.{kind_of}
 use Rattle.read_negotiate.specs.declared.Negotiate.{Negotiate}
-use Rattle.read_negotiate.specs.declared.Reading.{Reading as NegotiateReading}
-use Rattle.read_negotiate.specs.declared.Reading.TheVariants.{Taken as NegotiateTaken, Refused as NegotiateRefused}
 use Rattle.read_negotiate.specs.Negotiate.{read_negotiate}
 use Rattle.read_nl_auth.specs.declared.NlAuth.{NlAuth}
-use Rattle.read_nl_auth.specs.declared.Reading.{Reading as NlReading}
-use Rattle.read_nl_auth.specs.declared.Reading.TheVariants.{Taken as NlTaken, Refused as NlRefused}
 use Rattle.read_nl_auth.specs.declared.string.NlString.{NlString}
 use Rattle.read_nl_auth.specs.NlAuth.{no_string, read_nl_auth}
 use Rattle.line_words.specs.Words.{number_word}
@@ -93,7 +86,7 @@ refused_short e small near =
 
 -- ---- AUTHENTICATE
 
-auth_short : (s : List ℕ) (a : Authenticate) → (read_authenticate s).reading ≡ Taken a → length (auth_line s (Taken a)) < 0x100000
+auth_short : (s : List ℕ) (a : Authenticate) → (read_authenticate s).reading ≡ Ok a → length (auth_line s (Ok a)) < 0x100000
 auth_short s a h =
     let n = not-long (length s) (λ l. none_fails s a h 1 0 (refl, l)) in
     let o = authenticate_own s a h in
@@ -109,13 +102,13 @@ auth_short s a h =
 authenticate_short : (s : List ℕ) → length (authenticate_line s) < 0x100000
 unfolding authenticate_line
 authenticate_short s = go (read_authenticate s).reading refl where
-  go : (r : Reading) → (read_authenticate s).reading ≡ r → length (auth_line s r) < 0x100000
-  go (Taken a) p = auth_short s a p
-  go (Refused e) p = refused_short e (authenticate_small s e p) (place.auth_short s (read_authenticate s) e refl p)
+  go : (r : Result Authenticate Refusal) → (read_authenticate s).reading ≡ r → length (auth_line s r) < 0x100000
+  go (Ok a) p = auth_short s a p
+  go (Err e) p = refused_short e (authenticate_small s e p) (place.auth_short s (read_authenticate s) e refl p)
 
 -- ---- NEGOTIATE
 
-nego_short : (s : List ℕ) (m : Negotiate) → read_negotiate s ≡ NegotiateTaken m → length (nego_line s (NegotiateTaken m)) < 0x100000
+nego_short : (s : List ℕ) (m : Negotiate) → read_negotiate s ≡ Ok m → length (nego_line s (Ok m)) < 0x100000
 nego_short s m h =
     let n = not-long (length s) (λ l. (negotiate_judged s).taken.0 (rw h tt) 1 0 (refl, l)) in
     let o = negotiate_own s m h in
@@ -126,13 +119,13 @@ nego_short s m h =
 negotiate_short : (s : List ℕ) → length (negotiate_line s) < 0x100000
 unfolding negotiate_line
 negotiate_short s = go (read_negotiate s) refl where
-  go : (r : NegotiateReading) → read_negotiate s ≡ r → length (nego_line s r) < 0x100000
-  go (NegotiateTaken m) p = nego_short s m p
-  go (NegotiateRefused e) p = refused_short e (negotiate_small s e p) (place.nego_short s (read_negotiate s) e refl p)
+  go : (r : Result Negotiate Refusal) → read_negotiate s ≡ r → length (nego_line s r) < 0x100000
+  go (Ok m) p = nego_short s m p
+  go (Err e) p = refused_short e (negotiate_small s e p) (place.nego_short s (read_negotiate s) e refl p)
 
 -- ---- CHALLENGE
 
-chal_short : (s : List ℕ) (c : Challenge) → (read_challenge s).reading ≡ ChallengeTaken c → length (chal_line s (ChallengeTaken c)) < 0x100000
+chal_short : (s : List ℕ) (c : Challenge) → (read_challenge s).reading ≡ Ok c → length (chal_line s (Ok c)) < 0x100000
 unfolding chal_text
 chal_short s c h = words_short where
   n : length s ≤ 65535
@@ -151,9 +144,9 @@ chal_short s c h = words_short where
 challenge_short : (s : List ℕ) → length (challenge_line s) < 0x100000
 unfolding challenge_line read_challenge
 challenge_short s = go (read_challenge s).reading refl (challenge_small s) where
-  go : (r : ChallengeReading) → (read_challenge s).reading ≡ r → SmallC r → length (chal_line s r) < 0x100000
-  go (ChallengeTaken c) p w = chal_short s c p
-  go (ChallengeRefused e) p w = refused_short e w (omega (arith, place_in_message s e p))
+  go : (r : Result Challenge Refusal) → (read_challenge s).reading ≡ r → SmallC r → length (chal_line s r) < 0x100000
+  go (Ok c) p w = chal_short s c p
+  go (Err e) p w = refused_short e w (omega (arith, place_in_message s e p))
 
 -- ---- NL_AUTH: strings A and B lie within the message
 
@@ -163,7 +156,7 @@ own_short s i x o = go (eqb (u32_at s 4 / mask_of i % 2) 1) refl where
   go true e = let w = o.there (eqb-true _ 1 e) in omega (arith, w.5, w.3.inside)
   go false e = omega (arith, (o.none (eqb-false _ 1 e)).1)
 
-nl_short : (s : List ℕ) (m : NlAuth) → read_nl_auth s ≡ NlTaken m → length (nl_line s (NlTaken m)) < 0x100000
+nl_short : (s : List ℕ) (m : NlAuth) → read_nl_auth s ≡ Ok m → length (nl_line s (Ok m)) < 0x100000
 nl_short s m h =
     let n = not-long (length s) (λ l. (nl_auth_judged s).taken.0 (rw h tt) 1 0 (refl, l)) in
     ⊎_elim
@@ -175,7 +168,7 @@ nl_short s m h =
     none x e = omega (arith, ap (λ (y : NlString). y.len) e)
 
     by : length s ≤ 65535 → m.message_type ≤ 1 → m.strings.nb_domain.len ≤ length s → m.strings.nb_computer.len ≤ length s →
-        length (nl_line s (NlTaken m)) < 0x100000
+        length (nl_line s (Ok m)) < 0x100000
     by n t a b =
         let word = number_bound (ascii "nl type=") m.message_type (omega (arith, t)) in
         omega (arith, n, a, b, word, nl_bound s m)
@@ -183,9 +176,9 @@ nl_short s m h =
 nl_auth_short : (s : List ℕ) → length (nl_auth_line s) < 0x100000
 unfolding nl_auth_line
 nl_auth_short s = go (read_nl_auth s) refl where
-  go : (r : NlReading) → read_nl_auth s ≡ r → length (nl_line s r) < 0x100000
-  go (NlTaken m) p = nl_short s m p
-  go (NlRefused e) p = refused_short e (nl_auth_small s e p) (place.nl_short s (read_nl_auth s) e refl p)
+  go : (r : Result NlAuth Refusal) → read_nl_auth s ≡ r → length (nl_line s r) < 0x100000
+  go (Ok m) p = nl_short s m p
+  go (Err e) p = refused_short e (nl_auth_small s e p) (place.nl_short s (read_nl_auth s) e refl p)
 
 -- ---- all of them
 

@@ -1,4 +1,6 @@
 -- An AUTHENTICATE is written canonically exactly when no check of its reading fails, nor 32, 30 or 33.
+use Rattle.std.specs.Prelude.{Result, Ok, Err}
+use Rattle.wire.specs.declared.refusal.Refusal.{Refusal}
 use Prim.Native.Nat.{ℕ, ◌+◌, ◌/◌, ◌%◌, ◌≤◌, ◌<◌}
 use mathlib.Core.Path.{◌≡◌, refl, sym, ap, ◌∙◌, subst}
 use mathlib.Core.Logic.{◌⊎◌, inl, inr, ⊎_elim}
@@ -8,15 +10,11 @@ use native.Mathlib.Omega.{arith}
 use lib.Dec.{eqb, ltb}
 use lib.ListN.{length, replicate, length-take, length-drop, length-replicate}
 use borrow.Author.Tests.{eqb-true, eqb-false, eq-eqb, ne_eqb, ltb-true, ltb-false}
-use Rattle.wire.specs.declared.check.Verdict.TheVariants.{Refused as Not}
 use Rattle.wire.specs.Number.{u32_at}
 use Rattle.wire.specs.Refusal.{number_of, field_of, place_of}
 use Rattle.field.specs.declared.Field.{Field}
 use Rattle.field.specs.Field.{field_bytes}
-use Rattle.place.specs.declared.written.Written.{Written}
 use Rattle.read_authenticate.specs.declared.Authenticate.{Authenticate}
-use Rattle.read_authenticate.specs.declared.Reading.{Reading}
-use Rattle.read_authenticate.specs.declared.Reading.TheVariants.{Taken, Refused}
 use Rattle.read_authenticate.specs.Authenticate.{read_authenticate}
 use Rattle.write_canonical.specs.Canonical.{Meaning, meaning_of, zero_version, meaning_answer, canonical_answer}
 use Rattle.demands.specs.Canonical.{key_len, canonical_size, CanonicalFails, canonical_order, CanonicalIsWritten, NoOtherRefusal}
@@ -33,7 +31,7 @@ use Rattle.demands.proofs.WrittenExactly.{Rows, rows, by_verdict}
 use Rattle.demands.proofs.WrittenExactly.MessagesWritten.{authenticate_written}
 
 -- the same failures under another table and another order, in which each stands d places further on
-module _ (answer : Written) (o p : List ℕ) (F G : ℕ → ℕ → Type 0) (size size' d : ℕ) (sizes : size ≡ size')
+module _ (answer : Result ℕ Refusal) (o p : List ℕ) (F G : ℕ → ℕ → Type 0) (size size' d : ℕ) (sizes : size ≡ size')
     (to : (n i : ℕ) → F n i → G n i) (from : (n i : ℕ) → G n i → F n i) (moved : (n i : ℕ) → F n i → rank_in p n ≡ rank_in o n + d) where
   back : (m j n i : ℕ) → F m j → F n i → BeforeBy (rank_in p) m j n i → BeforeBy (rank_in o) m j n i
   back m j n i f g b = ⊎_elim (λ l. inl (omega (arith, moved m j f, moved n i g, l))) (λ q. inr q) b
@@ -140,7 +138,7 @@ module _ (room : ℕ) (s : List ℕ) where
         on_row 30 m _ _ ⊥ (λ e x. later 30 m j (omega arith) (omega arith) e b) (
         on_row 33 m _ _ ⊥ (λ e x. later 33 m j (omega arith) (omega arith) e b) (λ h. before m j h b)))
 
-  module _ (a : Authenticate) (h : (read_authenticate s).reading ≡ Taken a) where
+  module _ (a : Authenticate) (h : (read_authenticate s).reading ≡ Ok a) where
     m : Meaning
     m = meaning_of s (read_authenticate s).mic a
 
@@ -277,13 +275,13 @@ module _ (room : ℕ) (s : List ℕ) where
 pub canonical_written : CanonicalIsWritten
 unfolding m
 canonical_written room s = go (read_authenticate s).reading refl where
-  go : (r : Reading) → (read_authenticate s).reading ≡ r → WrittenExactly (canonical_answer room s) canonical_order (CanonicalFails room s) (canonical_size s)
-  go (Taken a) p =
+  go : (r : Result Authenticate Refusal) → (read_authenticate s).reading ≡ r → WrittenExactly (canonical_answer room s) canonical_order (CanonicalFails room s) (canonical_size s)
+  go (Ok a) p =
       let k = meaning_of s (read_authenticate s).mic a in
       rw (answer_of s k (each_means s a p) room) (taken_written room s a p)
-  go (Refused e) p =
+  go (Err e) p =
       rw (answer_refused s e p room)
-      (by_verdict canonical_order (CanonicalFails room s) (canonical_rows room s) 0 refl (Not e) (replicate (canonical_size s) 0) (canonical_size s)
+      (by_verdict canonical_order (CanonicalFails room s) (canonical_rows room s) 0 refl (Err e) (replicate (canonical_size s) 0) (canonical_size s)
       (length-replicate (canonical_size s) 0)
       (first_of_reading room s (number_of e) (field_of e) (((authenticate_judged s).refused (number_of e) (field_of e) (place_of e)).0 (rw p (refl, refl, refl))).0))
 

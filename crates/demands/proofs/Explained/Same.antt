@@ -1,4 +1,8 @@
 -- Secrets, MaxLen and ignored bytes change nothing in the print.
+use Rattle.read_authenticate.specs.declared.Authenticate.{Authenticate as AuthenticateMessage}
+use Rattle.read_challenge.specs.declared.Challenge.{Challenge as ChallengeMessage}
+use Rattle.read_negotiate.specs.declared.Negotiate.{Negotiate as NegotiateMessage}
+use Rattle.std.specs.Prelude.{Result, Ok, Err, ⊤}
 use Prim.Native.Nat.{ℕ, ◌+◌, ◌≤◌, ◌<◌}
 use mathlib.Core.Path.{◌≡◌, refl, sym, ap, ◌∙◌}
 use mathlib.Core.Logic.{inl, inr}
@@ -9,8 +13,6 @@ use native.Mathlib.Omega.{arith}
 use lib.Dec.{leb, eqb}
 use lib.ListN.{length, get_or, length-take}
 use borrow.Author.Tests.{leb-true, eqb-true, eqb-false}
-use Rattle.wire.specs.declared.check.Verdict.{Verdict}
-use Rattle.wire.specs.declared.check.Verdict.TheVariants.{Clear, Refused as Not}
 use Rattle.wire.specs.declared.refusal.Refusal.{Refusal}
 use Rattle.wire.specs.Number.{u16_at}
 use Rattle.wire.specs.Refusal.{number_of, field_of, place_of}
@@ -20,17 +22,11 @@ use Rattle.negotiate_flags.specs.declared.NegotiateFlags.{NegotiateFlags}
 use Rattle.head.specs.declared.Kind.{Kind}
 use Rattle.head.specs.declared.Kind.TheVariants.{Negotiate, Challenge, Authenticate}
 use Rattle.head.specs.Head.{flags_at, kind_of}
-use Rattle.read_negotiate.specs.declared.Reading.{Reading as NegoReading}
-use Rattle.read_negotiate.specs.declared.Reading.TheVariants.{Taken as NegoTaken, Refused as NegoRefused}
 use Rattle.read_negotiate.specs.Negotiate.{read_negotiate}
 use Rattle.read_negotiate.specs.Negotiate as N
-use Rattle.read_challenge.specs.declared.Reading.{Reading as ChalReading}
-use Rattle.read_challenge.specs.declared.Reading.TheVariants.{Taken as ChalTaken, Refused as ChalRefused}
 use Rattle.read_challenge.specs.Challenge.{read_challenge}
 use Rattle.read_challenge.specs.Challenge as C
 use Rattle.read_authenticate.specs.declared.Fields.{Fields as AuthFields}
-use Rattle.read_authenticate.specs.declared.Reading.{Reading as AuthReading}
-use Rattle.read_authenticate.specs.declared.Reading.TheVariants.{Taken as AuthTaken, Refused as AuthRefused}
 use Rattle.read_authenticate.specs.Authenticate.{read_authenticate}
 use Rattle.read_authenticate.specs.Authenticate as A
 use Rattle.line_checks.specs.declared.Figures.{Figures as Given}
@@ -79,12 +75,12 @@ numbered_bare i (f ∷ fs) = go (eqb i f.0) (numbered_bare i fs) where
   go false p = p
 
 -- the figures of one refusal are the same where the heads are, MaxLen apart, and the numbers of its pair
-figures_same : (s t : List ℕ) (fs gs : List (ℕ × Field)) (v : Verdict) → length s ≡ length t → heads_without_max_len fs ≡ heads_without_max_len gs →
-    ((e : Refusal) → v ≡ Not e → fails_at_pair (number_of e) ≡ true → (u16_at s (place_of e) ≡ u16_at t (place_of e)) × (u16_at s (place_of e + 2) ≡ u16_at t (place_of e + 2))) →
+figures_same : (s t : List ℕ) (fs gs : List (ℕ × Field)) (v : Result ⊤ Refusal) → length s ≡ length t → heads_without_max_len fs ≡ heads_without_max_len gs →
+    ((e : Refusal) → v ≡ Err e → fails_at_pair (number_of e) ≡ true → (u16_at s (place_of e) ≡ u16_at t (place_of e)) × (u16_at s (place_of e + 2) ≡ u16_at t (place_of e + 2))) →
     figures_without_max_len (figures_on s fs v) ≡ figures_without_max_len (figures_on t gs v)
 unfolding figures_of
-figures_same s t fs gs Clear l f h = refl
-figures_same s t fs gs (Not e) l f h = go (fails_at_pair (number_of e)) refl where
+figures_same s t fs gs (Ok tt) l f h = refl
+figures_same s t fs gs (Err e) l f h = go (fails_at_pair (number_of e)) refl where
   head : kept false (field_numbered (field_of e) fs) ≡ kept false (field_numbered (field_of e) gs)
   head = numbered_bare (field_of e) fs ∙ ap (field_numbered (field_of e)) f ∙ sym (numbered_bare (field_of e) gs)
 
@@ -111,14 +107,14 @@ pair_number n h = go (eqb n 10) (eqb n 12) refl refl where
       inr (inr (omega (arith, leb-true 10 n (and_left (leb 10 n) (leb n 13) within), leb-true n 13 (and_right (leb 10 n) (leb n 13) within), eqb-false n 10 p, eqb-false n 12 q, eqb-false n 11 (other (eqb n 11) (and_right (leb 10 n && leb n 13) (not (eqb n 11)) h)))))
 
 -- only a challenge has one
-no_pair : (k : Kind) (s : List ℕ) → (k ≡ Challenge → ⊥) → (e : Refusal) → read_as k s ≡ Not e → fails_at_pair (number_of e) ≡ true → ⊥
+no_pair : (k : Kind) (s : List ℕ) → (k ≡ Challenge → ⊥) → (e : Refusal) → read_as k s ≡ Err e → fails_at_pair (number_of e) ≡ true → ⊥
 no_pair k s other e h p = go (why k s _ _ _ (refused_as (read_as k s) e h)).fails where
   go : FailsAt k s (number_of e) (field_of e) (place_of e) → ⊥
   go (at_field f z) = omega (arith, up_to_9 _ s (number_of e) (field_of e) f, by_pair (number_of e) (λ m. 10 ≤ m) (pair_number (number_of e) p) (omega arith) (omega arith) (omega arith))
   go (at_pair b q c i x l t f z) = other c
 
 -- and its numbers are no ignored bytes
-module _ (s t : List ℕ) (d : DifferInIgnored challenge s t) (e : Refusal) (h : read_as Challenge s ≡ Not e) (p : fails_at_pair (number_of e) ≡ true) where
+module _ (s t : List ℕ) (d : DifferInIgnored challenge s t) (e : Refusal) (h : read_as Challenge s ≡ Err e) (p : fails_at_pair (number_of e) ≡ true) where
   reason : Why Challenge s (number_of e) (field_of e) (place_of e)
   reason = why Challenge s _ _ _ (refused_as (read_as Challenge s) e h)
 
@@ -148,13 +144,13 @@ module _ (s t : List ℕ) (d : DifferInIgnored challenge s t) (e : Refusal) (h :
 -- ---- the print
 
 print_same : (k : Kind) (s t : List ℕ) → length s ≡ length t → read_as k s ≡ read_as k t → heads_without_max_len (fields_by_number k s) ≡ heads_without_max_len (fields_by_number k t) →
-    ((e : Refusal) → read_as k s ≡ Not e → fails_at_pair (number_of e) ≡ true → (u16_at s (place_of e) ≡ u16_at t (place_of e)) × (u16_at s (place_of e + 2) ≡ u16_at t (place_of e + 2))) →
+    ((e : Refusal) → read_as k s ≡ Err e → fails_at_pair (number_of e) ≡ true → (u16_at s (place_of e) ≡ u16_at t (place_of e)) × (u16_at s (place_of e + 2) ≡ u16_at t (place_of e + 2))) →
     explained_as k s ≡ explained_as k t
 unfolding explained_as figures_as check_lines
 print_same k s t l v f h =
     lines_bare true (figures_as k s) (checks_of k)
     ∙ ap (λ (g : Given). lines_from true g (checks_of k))
-    (figures_same s t (fields_by_number k s) (fields_by_number k t) (read_as k s) l f h ∙ ap (λ (x : Verdict). figures_without_max_len (figures_on t (fields_by_number k t) x)) v)
+    (figures_same s t (fields_by_number k s) (fields_by_number k t) (read_as k s) l f h ∙ ap (λ (x : Result ⊤ Refusal). figures_without_max_len (figures_on t (fields_by_number k t) x)) v)
     ∙ sym (lines_bare true (figures_as k t) (checks_of k))
 
 secret_print : (s t : List ℕ) → DifferInSecrets s t → explained_as Authenticate s ≡ explained_as Authenticate t
@@ -174,17 +170,17 @@ secret_explained s t d e =
     }
 
 -- a reading's verdict doesn't go by MaxLen
-nego_verdict_lem : (r : NegoReading) → nego_verdict r ≡ nego_verdict (negotiate_without_max_len r)
-nego_verdict_lem (NegoTaken m) = refl
-nego_verdict_lem (NegoRefused e) = refl
+nego_verdict_lem : (r : Result NegotiateMessage Refusal) → nego_verdict r ≡ nego_verdict (negotiate_without_max_len r)
+nego_verdict_lem (Ok m) = refl
+nego_verdict_lem (Err e) = refl
 
-auth_verdict_lem : (r : AuthReading) → auth_verdict r ≡ auth_verdict (authenticate_without_max_len r)
-auth_verdict_lem (AuthTaken a) = refl
-auth_verdict_lem (AuthRefused e) = refl
+auth_verdict_lem : (r : Result AuthenticateMessage Refusal) → auth_verdict r ≡ auth_verdict (authenticate_without_max_len r)
+auth_verdict_lem (Ok a) = refl
+auth_verdict_lem (Err e) = refl
 
-chal_verdict_lem : (r : ChalReading) → chal_verdict r ≡ chal_verdict (challenge_without_max_len r)
-chal_verdict_lem (ChalTaken c) = refl
-chal_verdict_lem (ChalRefused e) = refl
+chal_verdict_lem : (r : Result ChallengeMessage Refusal) → chal_verdict r ≡ chal_verdict (challenge_without_max_len r)
+chal_verdict_lem (Ok c) = refl
+chal_verdict_lem (Err e) = refl
 
 pub ignored_read : (k : Kind) (s t : List ℕ) → DifferInIgnored (format_of k) s t → read_as k s ≡ read_as k t
 ignored_read Negotiate s t d =

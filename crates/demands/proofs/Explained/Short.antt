@@ -1,4 +1,6 @@
 -- How long the print is at most.
+use Rattle.read_challenge.specs.declared.Challenge.{Challenge as ChallengeMessage}
+use Rattle.std.specs.Prelude.{Result, Ok, Err, ⊤}
 use Prim.Native.Nat.{ℕ, ◌+◌, ◌≤◌, ◌<◌}
 use mathlib.Core.Path.{◌≡◌, refl}
 use mathlib.Core.Bool.{Bool, true, false, ◌&&◌, not, cond}
@@ -8,8 +10,6 @@ use lib.Dec.{ltb, eqb}
 use lib.ListN.{length, get_or, length-append}
 use borrow.Author.Tests.{ltb-true, ltb-false}
 use Rattle.wire.specs.Text.{ascii}
-use Rattle.wire.specs.declared.check.Verdict.{Verdict}
-use Rattle.wire.specs.declared.check.Verdict.TheVariants.{Clear, Refused as Not}
 use Rattle.wire.specs.declared.refusal.Refusal.{Refusal}
 use Rattle.wire.specs.Number.{u16_at, u32_at}
 use Rattle.wire.specs.Refusal.{number_of, field_of, place_of}
@@ -19,8 +19,6 @@ use Rattle.line_words.proofs.Labels.{number_word_bound}
 use Rattle.head.specs.declared.Kind.{Kind}
 use Rattle.head.specs.declared.Kind.TheVariants.{Negotiate, Challenge, Authenticate}
 use Rattle.head.specs.Head.{kind_of}
-use Rattle.read_challenge.specs.declared.Reading.{Reading}
-use Rattle.read_challenge.specs.declared.Reading.TheVariants.{Taken, Refused}
 use Rattle.read_challenge.specs.Challenge.{read_challenge}
 use Rattle.line_checks.specs.declared.Figures.{Figures as Given}
 use Rattle.line_checks.specs.Checks.{about_pair, plain_words, pair_figures, pair_words, message_words, figure_words, failed_words, words_of, check_line, lines_from, check_lines}
@@ -129,11 +127,11 @@ module _ (s : List ℕ) (bytes : (i : ℕ) → get_or s i 0 < 256) where
         let none = no_head k s i (omega (arith, ltb-false 0 i p)) in
         (omega (arith, ltb-false 0 i p), rw (← none) (omega arith), rw (← none) (omega arith))
 
-  chal_is : (r : Reading) (e : Refusal) → chal_verdict r ≡ Not e → r ≡ Refused e
-  chal_is (Taken c) e h = cc
-  chal_is (Refused d) e h = cc
+  chal_is : (r : Result ChallengeMessage Refusal) (e : Refusal) → chal_verdict r ≡ Err e → r ≡ Err e
+  chal_is (Ok c) e h = cc
+  chal_is (Err d) e h = cc
 
-  place_small : (k : Kind) (e : Refusal) → read_as k s ≡ Not e → place_of e ≤ 65535
+  place_small : (k : Kind) (e : Refusal) → read_as k s ≡ Err e → place_of e ≤ 65535
   place_small Negotiate e h = omega (arith, (((negotiate_judged s).refused (number_of e) (field_of e) (place_of e)).0 (refused_as (read_as Negotiate s) e h)).1)
   place_small Challenge e h = place_in_message s e (chal_is (read_challenge s).reading e h)
   place_small Authenticate e h = omega (arith, (((authenticate_judged s).refused (number_of e) (field_of e) (place_of e)).0 (refused_as (read_as Authenticate s) e h)).1)
@@ -141,8 +139,8 @@ module _ (s : List ℕ) (bytes : (i : ℕ) → get_or s i 0 < 256) where
   given_small : (k : Kind) → Small (figures_as k s)
   unfolding figures_as figures_of
   given_small k = go (read_as k s) refl where
-    go : (v : Verdict) → read_as k s ≡ v → Small (figures_on s (fields_by_number k s) v)
-    go Clear h =
+    go : (v : Result ⊤ Refusal) → read_as k s ≡ v → Small (figures_on s (fields_by_number k s) v)
+    go (Ok tt) h =
         record {
           number = omega arith;
           field = omega arith;
@@ -153,7 +151,7 @@ module _ (s : List ℕ) (bytes : (i : ℕ) → get_or s i 0 < 256) where
           id = omega arith;
           size = omega arith;
         }
-    go (Not e) h =
+    go (Err e) h =
         let x = head_small k (field_of e) (why k s _ _ _ (refused_as (read_as k s) e h)).head in
         record {
           number = omega (arith, number_small e);

@@ -1,4 +1,7 @@
 -- MaxLen and ignored bytes of a CHALLENGE message change nothing but a record's MaxLen.
+use Rattle.wire.specs.Check.{on_ok}
+use Rattle.std.specs.Prelude.{Result, Ok, Err, ⊤}
+use Rattle.read_challenge.specs.declared.Challenge.{Challenge}
 use Prim.Native.Nat.{ℕ, ◌+◌, ◌-◌, ◌*◌, ◌≤◌, ◌<◌}
 use mathlib.Core.Path.{◌≡◌, refl, sym, ap, ◌∙◌}
 use mathlib.Core.Logic.{◌⊎◌, inl, inr, ⊎_elim}
@@ -9,8 +12,6 @@ use lib.Dec.{ltb, eqb}
 use borrow.Author.Tests.{eqb-true, eqb-false, ltb-true, ltb-false}
 use Rattle.negotiate_flags.specs.declared.NegotiateFlags.{NegotiateFlags}
 use Rattle.wire.specs.declared.refusal.Refusal.{Refusal}
-use Rattle.wire.specs.declared.check.Verdict.{Verdict}
-use Rattle.wire.specs.declared.check.Verdict.TheVariants.{Clear, Refused as Not}
 use Rattle.wire.specs.Check.{on_clear}
 use Rattle.field.specs.Field.{field_bytes}
 use Rattle.negotiate_flags.specs.Flags.{unicode, request_target, target_info}
@@ -18,11 +19,7 @@ use Rattle.head.specs.Head.{flags_at}
 use Rattle.av_pairs.specs.AvPairs.{check_pairs}
 use Rattle.read_challenge.specs.declared.Challenge.{Challenge as Message}
 use Rattle.read_challenge.specs.declared.Fields.{Fields}
-use Rattle.read_challenge.specs.declared.Reading.{Reading}
-use Rattle.read_challenge.specs.declared.Reading.TheVariants.{Taken, Refused}
-use Rattle.read_challenge.specs.declared.ServerNamesReading.TheVariants.{Taken as NamesTaken, Refused as NamesRefused}
-use Rattle.read_challenge.specs.declared.TimestampReading.TheVariants.{Taken as TimeTaken, Refused as TimeRefused}
-use Rattle.read_challenge.specs.Challenge.{fields_at, check_ends, check_begins, check_names, check_fields, fields_of, on_taken, info_of, in_message, check_info, reading_of, server_challenge, read_challenge, timestamp_of, server_names_of}
+use Rattle.read_challenge.specs.Challenge.{fields_at, check_ends, check_begins, check_names, check_fields, fields_of, info_of, in_message, check_info, reading_of, server_challenge, read_challenge, timestamp_of, server_names_of}
 use Rattle.target_info.specs.TargetInfo.{timestamp_in, server_names_in}
 use Rattle.demands.specs.Message.{challenge, Fails, Ignored, DifferInIgnored, SameMaxLen}
 use Rattle.demands.specs.Ignored.{SameBytes, ChallengeIgnored}
@@ -70,35 +67,35 @@ at_server s p l r g =
 
 -- what follows the head's checks goes by the records without MaxLen
 module _ (m : Bool) (w : NegotiateFlags) where
-  abbrev rest : ℕ → Fields → Reading
-  rest n f = on_clear Refused (check_fields n (unicode w) f) (Taken (record { flags = w; fields = f }))
+  abbrev rest : ℕ → Fields → Result Challenge Refusal
+  rest n f = on_clear Err (check_fields n (unicode w) f) (Ok (record { flags = w; fields = f }))
 
   rest_kept : (n : ℕ) (f : Fields) → kept_challenge m (rest n f) ≡ rest n (kept_challenge_fields m f)
   unfolding check_fields check_ends check_begins check_names kept
   rest_kept n f = go (check_fields n (unicode w) f) where
-    go : (v : Verdict) →
-        kept_challenge m (on_clear Refused v (Taken (record { flags = w; fields = f })))
-        ≡ on_clear Refused v (Taken (record { flags = w; fields = kept_challenge_fields m f }))
-    go Clear = refl
-    go (Not e) = refl
+    go : (v : Result ⊤ Refusal) →
+        kept_challenge m (on_clear Err v (Ok (record { flags = w; fields = f })))
+        ≡ on_clear Err v (Ok (record { flags = w; fields = kept_challenge_fields m f }))
+    go (Ok tt) = refl
+    go (Err e) = refl
 
 -- and so do checks 10 to 13
 module _ (m : Bool) (s : List ℕ) where
-  abbrev listed : Message → Reading
-  listed c = on_clear Refused (check_info s c) (Taken c)
+  abbrev listed : Message → Result Challenge Refusal
+  listed c = on_clear Err (check_info s c) (Ok c)
 
-  listed_kept : (r : Reading) → kept_challenge m (on_taken Refused r listed) ≡ on_taken Refused (kept_challenge m r) (λ c. kept_challenge m (listed c))
+  listed_kept : (r : Result Challenge Refusal) → kept_challenge m (on_ok Err r listed) ≡ on_ok Err (kept_challenge m r) (λ c. kept_challenge m (listed c))
   unfolding check_info kept field_bytes
-  listed_kept (Taken c) = go (check_pairs (info_of s c)) where
-    go : (v : Verdict) →
-        kept_challenge m (on_clear Refused (in_message c.fields.target_info v) (Taken c))
-        ≡ kept_challenge m (on_clear Refused (in_message (kept m c.fields.target_info) v) (Taken (kept_message m c)))
-    go Clear = by m where
-      by : (n : Bool) → kept_challenge n (Taken c) ≡ kept_challenge n (Taken (kept_message n c))
+  listed_kept (Ok c) = go (check_pairs (info_of s c)) where
+    go : (v : Result ⊤ Refusal) →
+        kept_challenge m (on_clear Err (in_message c.fields.target_info v) (Ok c))
+        ≡ kept_challenge m (on_clear Err (in_message (kept m c.fields.target_info) v) (Ok (kept_message m c)))
+    go (Ok tt) = by m where
+      by : (n : Bool) → kept_challenge n (Ok c) ≡ kept_challenge n (Ok (kept_message n c))
       by true = refl
       by false = refl
-    go (Not e) = refl
-  listed_kept (Refused e) = refl
+    go (Err e) = refl
+  listed_kept (Err e) = refl
 
 module _ (a b : List ℕ) (d : DifferInIgnored challenge a b) where
   -- the fields' bytes of a message that passed checks 1 to 8
@@ -120,52 +117,52 @@ module _ (a b : List ℕ) (d : DifferInIgnored challenge a b) where
     -- checks 1 to 8
     head_same : kept_challenge m (fields_of a) ≡ kept_challenge m (fields_of b)
     unfolding fields_of
-    head_same = same.read_same challenge a b (seen a) d Refused (rest m) fields_at (kept_challenge_fields m) (kept_challenge m) (omega arith) (rest_kept m) fields_same
+    head_same = same.read_same challenge a b (seen a) d Err (rest m) fields_at (kept_challenge_fields m) (kept_challenge m) (omega arith) (rest_kept m) fields_same
 
     pub reading_same : kept_challenge m (reading_of a) ≡ kept_challenge m (reading_of b)
     unfolding reading_of check_info
     reading_same =
         ap (kept_challenge m) (go (fields_of a) (fields_of_judged a))
         ∙ listed_kept m b (fields_of a)
-        ∙ ap (λ (r : Reading). on_taken Refused r (λ c. kept_challenge m (listed m b c))) head_same
+        ∙ ap (λ (r : Result Challenge Refusal). on_ok Err r (λ c. kept_challenge m (listed m b c))) head_same
         ∙ sym (listed_kept m b (fields_of b))
       where
-        go : (r : Reading) → JudgedF a r → on_taken Refused r (listed m a) ≡ on_taken Refused r (listed m b)
-        go (Taken c) j = rw j.1 (ap (λ (l : List ℕ). on_clear Refused (in_message (fields_at a (flags_at a 20)).target_info (check_pairs l)) (Taken (record { flags = flags_at a 20; fields = fields_at a (flags_at a 20) }))) (bytes_same j.0).1)
-        go (Refused e) j = refl
+        go : (r : Result Challenge Refusal) → JudgedF a r → on_ok Err r (listed m a) ≡ on_ok Err r (listed m b)
+        go (Ok c) j = rw j.1 (ap (λ (l : List ℕ). on_clear Err (in_message (fields_at a (flags_at a 20)).target_info (check_pairs l)) (Ok (record { flags = flags_at a 20; fields = fields_at a (flags_at a 20) }))) (bytes_same j.0).1)
+        go (Err e) j = refl
 
   pub bare_same : kept_challenge false (reading_of a) ≡ kept_challenge false (reading_of b)
   bare_same = reading_same false bare_only
 
   -- what is made of a taken message and its TargetInfo, without a look at MaxLen
   pub made_same : {A : Type 0} (refuse : Refusal → A) (x : Message → List ℕ → A) → ((c : Message) (l : List ℕ) → x c l ≡ x (kept_message false c) l) →
-      on_taken refuse (reading_of a) (λ c. x c (info_of a c)) ≡ on_taken refuse (reading_of b) (λ c. x c (info_of b c))
+      on_ok refuse (reading_of a) (λ c. x c (info_of a c)) ≡ on_ok refuse (reading_of b) (λ c. x c (info_of b c))
   unfolding read_challenge kept field_bytes
   made_same refuse x blind =
       go (reading_of a) refl ∙ by (reading_of a)
-      ∙ ap (λ (r : Reading). on_taken refuse r (λ c. x c (info_of b c))) bare_same
+      ∙ ap (λ (r : Result Challenge Refusal). on_ok refuse r (λ c. x c (info_of b c))) bare_same
       ∙ sym (by (reading_of b))
     where
-      go : (r : Reading) → reading_of a ≡ r → on_taken refuse r (λ c. x c (info_of a c)) ≡ on_taken refuse r (λ c. x c (info_of b c))
-      go (Taken c) e = let t = taken_as a c e in rw t.answer (ap (x (record { flags = flags_at a 20; fields = fields_at a (flags_at a 20) })) (bytes_same t.none).1)
-      go (Refused f) e = refl
+      go : (r : Result Challenge Refusal) → reading_of a ≡ r → on_ok refuse r (λ c. x c (info_of a c)) ≡ on_ok refuse r (λ c. x c (info_of b c))
+      go (Ok c) e = let t = taken_as a c e in rw t.answer (ap (x (record { flags = flags_at a 20; fields = fields_at a (flags_at a 20) })) (bytes_same t.none).1)
+      go (Err f) e = refl
 
-      by : (r : Reading) → on_taken refuse r (λ c. x c (info_of b c)) ≡ on_taken refuse (kept_challenge false r) (λ c. x c (info_of b c))
-      by (Taken c) = blind c (info_of b c)
-      by (Refused f) = refl
+      by : (r : Result Challenge Refusal) → on_ok refuse r (λ c. x c (info_of b c)) ≡ on_ok refuse (kept_challenge false r) (λ c. x c (info_of b c))
+      by (Ok c) = blind c (info_of b c)
+      by (Err f) = refl
 
   server_same : server_challenge (reading_of a) a ≡ server_challenge (reading_of b) b
   server_same =
       go (reading_of a) ∙ by (reading_of a)
-      ∙ ap (λ (r : Reading). server_challenge r b) bare_same ∙ sym (by (reading_of b))
+      ∙ ap (λ (r : Result Challenge Refusal). server_challenge r b) bare_same ∙ sym (by (reading_of b))
     where
-      go : (r : Reading) → server_challenge r a ≡ server_challenge r b
-      go (Taken c) = same_part a b d.length_same 24 8 (λ p l r. same.looked challenge a b (seen a) d p (at_server a p l r))
-      go (Refused e) = refl
+      go : (r : Result Challenge Refusal) → server_challenge r a ≡ server_challenge r b
+      go (Ok c) = same_part a b d.length_same 24 8 (λ p l r. same.looked challenge a b (seen a) d p (at_server a p l r))
+      go (Err e) = refl
 
-      by : (r : Reading) → server_challenge r b ≡ server_challenge (kept_challenge false r) b
-      by (Taken c) = refl
-      by (Refused e) = refl
+      by : (r : Result Challenge Refusal) → server_challenge r b ≡ server_challenge (kept_challenge false r) b
+      by (Ok c) = refl
+      by (Err e) = refl
 
   whole_reading : SameMaxLen challenge a b → reading_of a ≡ reading_of b
   whole_reading x = sym (challenge_as_it_is (reading_of a)) ∙ reading_same true (λ e. x) ∙ challenge_as_it_is (reading_of b)
@@ -177,8 +174,8 @@ challenge_ignored a b d =
       reading = challenge_bare_is (reading_of a) ∙ bare_same a b d ∙ sym (challenge_bare_is (reading_of b));
       server_challenge_is = server_same a b d;
       whole = λ x. λ i. record { reading = whole_reading a b d x i; server_challenge = server_same a b d i };
-      timestamp = made_same a b d TimeRefused (λ c l. TimeTaken (timestamp_in l)) (λ c l. refl);
-      server_names = made_same a b d NamesRefused (λ c l. NamesTaken (server_names_in l)) (λ c l. refl);
+      timestamp = made_same a b d Err (λ c l. Ok (timestamp_in l)) (λ c l. refl);
+      server_names = made_same a b d Err (λ c l. Ok (server_names_in l)) (λ c l. refl);
       target_name = λ c h. let t = taken_as a c h in rw t.answer (bytes_same a b d t.none).0;
       target_info_is = λ c h. let t = taken_as a c h in rw t.answer (bytes_same a b d t.none).1;
     }

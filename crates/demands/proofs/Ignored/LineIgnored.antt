@@ -1,4 +1,10 @@
 -- MaxLen and ignored bytes change no log line but for its last word.
+use Rattle.std.specs.Prelude.{Result, Ok, Err}
+use Rattle.read_authenticate.specs.declared.Authenticate.{Authenticate}
+use Rattle.read_challenge.specs.declared.Challenge.{Challenge}
+use Rattle.read_negotiate.specs.declared.Negotiate.{Negotiate}
+use Rattle.read_nl_auth.specs.declared.NlAuth.{NlAuth}
+use Rattle.wire.specs.declared.refusal.Refusal.{Refusal}
 use Prim.Native.Nat.{ℕ}
 use mathlib.Core.Path.{◌≡◌, refl, sym, ap, ◌∙◌, subst}
 use mathlib.Core.List.{List, [], ◌++◌, append_assoc}
@@ -19,19 +25,11 @@ use Rattle.read_challenge.specs.declared.Challenge.{Challenge as Asked}
 use Rattle.read_negotiate.specs.declared.Negotiate.{Negotiate as Opening}
 use Rattle.read_authenticate.specs.declared.Authenticate.{Authenticate as Message}
 use Rattle.read_authenticate.specs.declared.Answer.{Answer}
-use Rattle.read_authenticate.specs.declared.Reading.{Reading}
-use Rattle.read_authenticate.specs.declared.Reading.TheVariants.{Taken, Refused}
 use Rattle.read_authenticate.specs.Authenticate.{read_authenticate}
 use Rattle.read_challenge.specs.declared.Answer.{Answer as ChallengeAnswer}
-use Rattle.read_challenge.specs.declared.Reading.{Reading as ChallengeReading}
-use Rattle.read_challenge.specs.declared.Reading.TheVariants.{Taken as ChallengeTaken, Refused as ChallengeRefused}
 use Rattle.read_challenge.specs.Challenge.{info_of, read_challenge}
 use Rattle.head.specs.Head.{flags_at, kind_of}
-use Rattle.read_negotiate.specs.declared.Reading.{Reading as NegotiateReading}
-use Rattle.read_negotiate.specs.declared.Reading.TheVariants.{Taken as NegotiateTaken, Refused as NegotiateRefused}
 use Rattle.read_negotiate.specs.Negotiate.{read_negotiate}
-use Rattle.read_nl_auth.specs.declared.Reading.{Reading as NlReading}
-use Rattle.read_nl_auth.specs.declared.Reading.TheVariants.{Taken as NlTaken, Refused as NlRefused}
 use Rattle.read_nl_auth.specs.NlAuth.{read_nl_auth}
 use Rattle.line_negotiate.specs.Nego.{nego_names, nego_text}
 use Rattle.line_authenticate.specs.Auth.{auth_names, auth_lengths, auth_end, auth_text}
@@ -64,12 +62,12 @@ alike_to k s t line line' before e f =
     record { before = before; first = e; second = f; same_length = ap length e.line_is ∙ same ∙ sym (ap length f.line_is) }
 
 -- an AUTHENTICATE line goes by the reading and the names' bytes
-pub auth_line_same : (s t : List ℕ) (r : Reading) → ((a : Message) → r ≡ Taken a → SameFields s t a.fields) → auth_line s r ≡ auth_line t r
+pub auth_line_same : (s t : List ℕ) (r : Result Authenticate Refusal) → ((a : Message) → r ≡ Ok a → SameFields s t a.fields) → auth_line s r ≡ auth_line t r
 unfolding auth_text auth_names
-auth_line_same s t (Taken a) same =
+auth_line_same s t (Ok a) same =
     let f = same a refl in
     simp (f.domain, f.user, f.workstation)
-auth_line_same s t (Refused e) same = refl
+auth_line_same s t (Err e) same = refl
 
 -- it ends in the last word, and what stands before that doesn't go by MaxLen
 auth_before : List ℕ → Message → List ℕ
@@ -83,7 +81,7 @@ auth_parts : (s : List ℕ) (a : Message) → auth_text s a ≡ auth_before s a 
 unfolding auth_text auth_end auth_before max_end max_word
 auth_parts s a = simp append_assoc
 
-auth_ends : (s : List ℕ) (a : Message) → (read_authenticate s).reading ≡ Taken a → EndsInMax authenticate s (auth_text s a) (auth_before s a)
+auth_ends : (s : List ℕ) (a : Message) → (read_authenticate s).reading ≡ Ok a → EndsInMax authenticate s (auth_text s a) (auth_before s a)
 auth_ends s a h =
     record {
       digits = max_digits (A.all_fields a.fields);
@@ -91,15 +89,15 @@ auth_ends s a h =
       said = rw (taken_answer s a h) (digits_said authenticate s (A.all_fields (A.fields_at s (flags_at s 60))) (auth_all s) refl);
     }
 
-auth_before_same : (s t : List ℕ) (a b : Message) → SameFields s t a.fields → authenticate_without_max_len (Taken a) ≡ authenticate_without_max_len (Taken b) →
+auth_before_same : (s t : List ℕ) (a b : Message) → SameFields s t a.fields → authenticate_without_max_len (Ok a) ≡ authenticate_without_max_len (Ok b) →
     auth_before t b ≡ auth_before s a
 unfolding auth_before auth_names field_bytes
 auth_before_same s t a b f e =
     sym (ap (before t) e) ∙ sym (simp (f.domain, f.user, f.workstation))
   where
-    before : List ℕ → Reading → List ℕ
-    before s (Taken a) = auth_before s a
-    before s (Refused e) = []
+    before : List ℕ → Result Authenticate Refusal → List ℕ
+    before s (Ok a) = auth_before s a
+    before s (Err e) = []
 
 pub authenticate_line_ignored : AuthenticateLineIgnored
 unfolding authenticate_line
@@ -111,34 +109,34 @@ authenticate_line_ignored s t d = (
     w : SameAnswer s t
     w = authenticate_ignored s t d
 
-    taken : (r q : Reading) → (read_authenticate s).reading ≡ r → (read_authenticate t).reading ≡ q → authenticate_without_max_len r ≡ authenticate_without_max_len q →
+    taken : (r q : Result Authenticate Refusal) → (read_authenticate s).reading ≡ r → (read_authenticate t).reading ≡ q → authenticate_without_max_len r ≡ authenticate_without_max_len q →
         IsTaken (auth_verdict r) → AlikeToMax authenticate s t (auth_line s r) (auth_line t q)
-    taken (Taken a) (Taken b) p q e i =
+    taken (Ok a) (Ok b) p q e i =
         alike_to authenticate s t _ _ (auth_before s a) (auth_ends s a p)
         (subst (EndsInMax authenticate t (auth_text t b)) (auth_before_same s t a b (w.bytes a p) e) (auth_ends t b q))
-    taken (Taken a) (Refused x) p q e i = absurd (let z : ◌≡◌ {A = ℕ} 0 1 = cc in omega arith)
-    taken (Refused x) q p r e i = absurd i
+    taken (Ok a) (Err x) p q e i = absurd (let z : ◌≡◌ {A = ℕ} 0 1 = cc in omega arith)
+    taken (Err x) q p r e i = absurd i
 
-    refused : (r q : Reading) → authenticate_without_max_len r ≡ authenticate_without_max_len q → (IsTaken (auth_verdict r) → ⊥) → auth_line s r ≡ auth_line t q
-    refused (Taken a) q e i = absurd (i tt)
-    refused (Refused x) (Taken b) e i = absurd (let z : ◌≡◌ {A = ℕ} 0 1 = cc in omega arith)
-    refused (Refused x) (Refused y) e i = ap refused_line (let same : x ≡ y = cc in same)
+    refused : (r q : Result Authenticate Refusal) → authenticate_without_max_len r ≡ authenticate_without_max_len q → (IsTaken (auth_verdict r) → ⊥) → auth_line s r ≡ auth_line t q
+    refused (Ok a) q e i = absurd (i tt)
+    refused (Err x) (Ok b) e i = absurd (let z : ◌≡◌ {A = ℕ} 0 1 = cc in omega arith)
+    refused (Err x) (Err y) e i = ap refused_line (let same : x ≡ y = cc in same)
 
-nl_line_same : (s t : List ℕ) (r : NlReading) → SameNlAuth s t → read_nl_auth s ≡ r → nl_line s r ≡ nl_line t r
+nl_line_same : (s t : List ℕ) (r : Result NlAuth Refusal) → SameNlAuth s t → read_nl_auth s ≡ r → nl_line s r ≡ nl_line t r
 unfolding nl_text nl_oem nl_utf8 oem_text utf8_text
-nl_line_same s t (NlTaken m) w e = simp ((w.a m e).bytes, (w.b m e).bytes, (w.c m e).labels, (w.d m e).labels, (w.e m e).labels)
-nl_line_same s t (NlRefused d) w e = refl
+nl_line_same s t (Ok m) w e = simp ((w.a m e).bytes, (w.b m e).bytes, (w.c m e).labels, (w.d m e).labels, (w.e m e).labels)
+nl_line_same s t (Err d) w e = refl
 
 pub nl_auth_line_ignored : NlAuthLineIgnored
 unfolding nl_auth_line
 nl_auth_line_ignored s t d =
     let w = nl_auth_ignored s t d in
-    nl_line_same s t (read_nl_auth s) w refl ∙ ap (λ (r : NlReading). nl_line t r) w.answer
+    nl_line_same s t (read_nl_auth s) w refl ∙ ap (λ (r : Result NlAuth Refusal). nl_line t r) w.answer
 
-challenge_line_same : (s t : List ℕ) (r : ChallengeReading) → SameChallenge s t → (read_challenge s).reading ≡ r → chal_line s r ≡ chal_line t r
+challenge_line_same : (s t : List ℕ) (r : Result Challenge Refusal) → SameChallenge s t → (read_challenge s).reading ≡ r → chal_line s r ≡ chal_line t r
 unfolding chal_text chal_words
-challenge_line_same s t (ChallengeTaken c) w e = simp (w.target_name c e, w.target_info_is c e)
-challenge_line_same s t (ChallengeRefused x) w e = refl
+challenge_line_same s t (Ok c) w e = simp (w.target_name c e, w.target_info_is c e)
+challenge_line_same s t (Err x) w e = refl
 
 chal_before : List ℕ → Asked → List ℕ
 chal_before s c =
@@ -151,7 +149,7 @@ chal_parts : (s : List ℕ) (c : Asked) →
 unfolding chal_text chal_words chal_end chal_before max_end max_word
 chal_parts s c = simp append_assoc
 
-chal_ends : (s : List ℕ) (c : Asked) → (read_challenge s).reading ≡ ChallengeTaken c → EndsInMax challenge s (chal_text s c) (chal_before s c)
+chal_ends : (s : List ℕ) (c : Asked) → (read_challenge s).reading ≡ Ok c → EndsInMax challenge s (chal_text s c) (chal_before s c)
 unfolding read_challenge
 chal_ends s c h =
     record {
@@ -161,14 +159,14 @@ chal_ends s c h =
     }
 
 chal_before_same : (s t : List ℕ) (c e : Asked) → SameBytes s t c.fields.target_name → SameBytes s t c.fields.target_info →
-    challenge_without_max_len (ChallengeTaken c) ≡ challenge_without_max_len (ChallengeTaken e) → chal_before t e ≡ chal_before s c
+    challenge_without_max_len (Ok c) ≡ challenge_without_max_len (Ok e) → chal_before t e ≡ chal_before s c
 unfolding chal_before field_bytes
 chal_before_same s t c e n i p =
     sym (ap (before t) p) ∙ sym (simp (n, i))
   where
-    before : List ℕ → ChallengeReading → List ℕ
-    before s (ChallengeTaken c) = chal_before s c
-    before s (ChallengeRefused e) = []
+    before : List ℕ → Result Challenge Refusal → List ℕ
+    before s (Ok c) = chal_before s c
+    before s (Err e) = []
 
 pub challenge_line_ignored : ChallengeLineIgnored
 unfolding challenge_line
@@ -180,23 +178,23 @@ challenge_line_ignored s t d = (
     w : SameChallenge s t
     w = challenge_ignored s t d
 
-    taken : (r q : ChallengeReading) → (read_challenge s).reading ≡ r → (read_challenge t).reading ≡ q → challenge_without_max_len r ≡ challenge_without_max_len q →
+    taken : (r q : Result Challenge Refusal) → (read_challenge s).reading ≡ r → (read_challenge t).reading ≡ q → challenge_without_max_len r ≡ challenge_without_max_len q →
         IsTaken (chal_verdict r) → AlikeToMax challenge s t (chal_line s r) (chal_line t q)
-    taken (ChallengeTaken c) (ChallengeTaken e) p q same i =
+    taken (Ok c) (Ok e) p q same i =
         alike_to challenge s t _ _ (chal_before s c) (chal_ends s c p)
         (subst (EndsInMax challenge t (chal_text t e)) (chal_before_same s t c e (w.target_name c p) (w.target_info_is c p) same) (chal_ends t e q))
-    taken (ChallengeTaken c) (ChallengeRefused x) p q same i = absurd (let z : ◌≡◌ {A = ℕ} 0 1 = cc in omega arith)
-    taken (ChallengeRefused x) q p r same i = absurd i
+    taken (Ok c) (Err x) p q same i = absurd (let z : ◌≡◌ {A = ℕ} 0 1 = cc in omega arith)
+    taken (Err x) q p r same i = absurd i
 
-    refused : (r q : ChallengeReading) → challenge_without_max_len r ≡ challenge_without_max_len q → (IsTaken (chal_verdict r) → ⊥) → chal_line s r ≡ chal_line t q
-    refused (ChallengeTaken c) q same i = absurd (i tt)
-    refused (ChallengeRefused x) (ChallengeTaken e) same i = absurd (let z : ◌≡◌ {A = ℕ} 0 1 = cc in omega arith)
-    refused (ChallengeRefused x) (ChallengeRefused y) same i = ap refused_line (let e : x ≡ y = cc in e)
+    refused : (r q : Result Challenge Refusal) → challenge_without_max_len r ≡ challenge_without_max_len q → (IsTaken (chal_verdict r) → ⊥) → chal_line s r ≡ chal_line t q
+    refused (Ok c) q same i = absurd (i tt)
+    refused (Err x) (Ok e) same i = absurd (let z : ◌≡◌ {A = ℕ} 0 1 = cc in omega arith)
+    refused (Err x) (Err y) same i = ap refused_line (let e : x ≡ y = cc in e)
 
-negotiate_line_same : (s t : List ℕ) (r : NegotiateReading) → SameNegotiate s t → read_negotiate s ≡ r → nego_line s r ≡ nego_line t r
+negotiate_line_same : (s t : List ℕ) (r : Result Negotiate Refusal) → SameNegotiate s t → read_negotiate s ≡ r → nego_line s r ≡ nego_line t r
 unfolding nego_text nego_names
-negotiate_line_same s t (NegotiateTaken m) w e = simp (w.domain m e, w.workstation m e)
-negotiate_line_same s t (NegotiateRefused x) w e = refl
+negotiate_line_same s t (Ok m) w e = simp (w.domain m e, w.workstation m e)
+negotiate_line_same s t (Err x) w e = refl
 
 nego_before : List ℕ → Opening → List ℕ
 nego_before s m = ascii "nego" ++ (flags_word m.flags.bits ++ nego_names s m)
@@ -205,7 +203,7 @@ nego_parts : (s : List ℕ) (m : Opening) → nego_text s m ≡ nego_before s m 
 unfolding nego_text nego_before max_end max_word
 nego_parts s m = simp append_assoc
 
-nego_ends : (s : List ℕ) (m : Opening) → read_negotiate s ≡ NegotiateTaken m → EndsInMax negotiate s (nego_text s m) (nego_before s m)
+nego_ends : (s : List ℕ) (m : Opening) → read_negotiate s ≡ Ok m → EndsInMax negotiate s (nego_text s m) (nego_before s m)
 nego_ends s m h =
     record {
       digits = max_digits (N.all_fields m.fields);
@@ -214,37 +212,37 @@ nego_ends s m h =
     }
 
 nego_before_same : (s t : List ℕ) (m o : Opening) → SameBytes s t m.fields.domain → SameBytes s t m.fields.workstation →
-    negotiate_without_max_len (NegotiateTaken m) ≡ negotiate_without_max_len (NegotiateTaken o) → nego_before t o ≡ nego_before s m
+    negotiate_without_max_len (Ok m) ≡ negotiate_without_max_len (Ok o) → nego_before t o ≡ nego_before s m
 unfolding nego_before nego_names field_bytes
 nego_before_same s t m o f g e =
     sym (ap (before t) e) ∙ sym (simp (f, g))
   where
-    before : List ℕ → NegotiateReading → List ℕ
-    before s (NegotiateTaken m) = nego_before s m
-    before s (NegotiateRefused e) = []
+    before : List ℕ → Result Negotiate Refusal → List ℕ
+    before s (Ok m) = nego_before s m
+    before s (Err e) = []
 
 pub negotiate_line_ignored : NegotiateLineIgnored
 unfolding negotiate_line
 negotiate_line_ignored s t d = (
   record { taken = taken (read_negotiate s) (read_negotiate t) refl refl w.reading; refused = refused (read_negotiate s) (read_negotiate t) w.reading },
-  λ x. negotiate_line_same s t (read_negotiate s) w refl ∙ ap (λ (r : NegotiateReading). nego_line t r) (w.whole x),
+  λ x. negotiate_line_same s t (read_negotiate s) w refl ∙ ap (λ (r : Result Negotiate Refusal). nego_line t r) (w.whole x),
 )
   where
     w : SameNegotiate s t
     w = negotiate_ignored s t d
 
-    taken : (r q : NegotiateReading) → read_negotiate s ≡ r → read_negotiate t ≡ q → negotiate_without_max_len r ≡ negotiate_without_max_len q →
+    taken : (r q : Result Negotiate Refusal) → read_negotiate s ≡ r → read_negotiate t ≡ q → negotiate_without_max_len r ≡ negotiate_without_max_len q →
         IsTaken (nego_verdict r) → AlikeToMax negotiate s t (nego_line s r) (nego_line t q)
-    taken (NegotiateTaken m) (NegotiateTaken o) p q e i =
+    taken (Ok m) (Ok o) p q e i =
         alike_to negotiate s t _ _ (nego_before s m) (nego_ends s m p)
         (subst (EndsInMax negotiate t (nego_text t o)) (nego_before_same s t m o (w.domain m p) (w.workstation m p) e) (nego_ends t o q))
-    taken (NegotiateTaken m) (NegotiateRefused x) p q e i = absurd (let z : ◌≡◌ {A = ℕ} 0 1 = cc in omega arith)
-    taken (NegotiateRefused x) q p r e i = absurd i
+    taken (Ok m) (Err x) p q e i = absurd (let z : ◌≡◌ {A = ℕ} 0 1 = cc in omega arith)
+    taken (Err x) q p r e i = absurd i
 
-    refused : (r q : NegotiateReading) → negotiate_without_max_len r ≡ negotiate_without_max_len q → (IsTaken (nego_verdict r) → ⊥) → nego_line s r ≡ nego_line t q
-    refused (NegotiateTaken m) q e i = absurd (i tt)
-    refused (NegotiateRefused x) (NegotiateTaken o) e i = absurd (let z : ◌≡◌ {A = ℕ} 0 1 = cc in omega arith)
-    refused (NegotiateRefused x) (NegotiateRefused y) e i = ap refused_line (let same : x ≡ y = cc in same)
+    refused : (r q : Result Negotiate Refusal) → negotiate_without_max_len r ≡ negotiate_without_max_len q → (IsTaken (nego_verdict r) → ⊥) → nego_line s r ≡ nego_line t q
+    refused (Ok m) q e i = absurd (i tt)
+    refused (Err x) (Ok o) e i = absurd (let z : ◌≡◌ {A = ℕ} 0 1 = cc in omega arith)
+    refused (Err x) (Err y) e i = ap refused_line (let same : x ≡ y = cc in same)
 
 -- the type, by which the NTLM program chooses, is no ignored byte of any kind
 pub kind_same : (k : Format) (s t : List ℕ) → Seen k s → DifferInIgnored k s t → kind_of s ≡ kind_of t
@@ -260,17 +258,17 @@ max_word_said =
       chal = λ s i. chal s (read_challenge s).reading refl i;
     }
   where
-    auth : (s : List ℕ) (r : Reading) → (read_authenticate s).reading ≡ r → IsTaken (auth_verdict r) → (before : List ℕ) × EndsInMax authenticate s (auth_line s r) before
-    auth s (Taken a) p i = (auth_before s a, auth_ends s a p)
-    auth s (Refused e) p i = absurd i
+    auth : (s : List ℕ) (r : Result Authenticate Refusal) → (read_authenticate s).reading ≡ r → IsTaken (auth_verdict r) → (before : List ℕ) × EndsInMax authenticate s (auth_line s r) before
+    auth s (Ok a) p i = (auth_before s a, auth_ends s a p)
+    auth s (Err e) p i = absurd i
 
-    nego : (s : List ℕ) (r : NegotiateReading) → read_negotiate s ≡ r → IsTaken (nego_verdict r) → (before : List ℕ) × EndsInMax negotiate s (nego_line s r) before
-    nego s (NegotiateTaken m) p i = (nego_before s m, nego_ends s m p)
-    nego s (NegotiateRefused e) p i = absurd i
+    nego : (s : List ℕ) (r : Result Negotiate Refusal) → read_negotiate s ≡ r → IsTaken (nego_verdict r) → (before : List ℕ) × EndsInMax negotiate s (nego_line s r) before
+    nego s (Ok m) p i = (nego_before s m, nego_ends s m p)
+    nego s (Err e) p i = absurd i
 
-    chal : (s : List ℕ) (r : ChallengeReading) → (read_challenge s).reading ≡ r → IsTaken (chal_verdict r) → (before : List ℕ) × EndsInMax challenge s (chal_line s r) before
-    chal s (ChallengeTaken c) p i = (chal_before s c, chal_ends s c p)
-    chal s (ChallengeRefused e) p i = absurd i
+    chal : (s : List ℕ) (r : Result Challenge Refusal) → (read_challenge s).reading ≡ r → IsTaken (chal_verdict r) → (before : List ℕ) × EndsInMax challenge s (chal_line s r) before
+    chal s (Ok c) p i = (chal_before s c, chal_ends s c p)
+    chal s (Err e) p i = absurd i
 
 pub ntlm_line_ignored : NtlmLineIgnored
 unfolding ntlm_line

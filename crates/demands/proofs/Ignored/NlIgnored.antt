@@ -1,4 +1,8 @@
 -- The ignored flag bits of an NL_AUTH message change nothing.
+use Rattle.std.specs.Prelude.{Result, Option, Ok, Err, Some, None}
+use Rattle.read_dns_name.specs.declared.Fault.{Fault}
+use Rattle.read_dns_name.specs.declared.Name.{Name}
+use Rattle.wire.specs.declared.refusal.Refusal.{Refusal}
 use Prim.Native.Nat.{ℕ, ◌+◌, ◌-◌, ◌/◌, ◌%◌, ◌≤◌}
 use mathlib.Core.Path.{◌≡◌, refl, sym, ap, ◌∙◌}
 use mathlib.Core.Logic.{inl, inr, ⊎_elim}
@@ -15,15 +19,8 @@ use Rattle.wire.specs.Number.{u32_at}
 use Rattle.read_nl_auth.proofs.Names.{own_bytes_lem}
 use Rattle.nl_auth_flags.specs.declared.NlAuthFlags.{NlAuthFlags}
 use Rattle.read_nl_auth.specs.declared.NlAuth.{NlAuth}
-use Rattle.read_nl_auth.specs.declared.Reading.{Reading}
-use Rattle.read_nl_auth.specs.declared.Reading.TheVariants.{Taken, Refused}
 use Rattle.read_nl_auth.specs.declared.string.NlString.{NlString}
-use Rattle.read_nl_auth.specs.declared.name.NameScan.TheVariants.{Found as Named, Refused as Not}
-use Rattle.read_dns_name.specs.declared.Reading.{Reading as NameReading}
-use Rattle.read_dns_name.specs.declared.Reading.TheVariants.{Taken as Read, Refused as Faulty}
 use Rattle.read_dns_name.specs.DnsName.{read_name}
-use Rattle.read_nl_auth.specs.declared.string.Scan.{Scan}
-use Rattle.read_nl_auth.specs.declared.string.Scan.TheVariants.{Found, Missing}
 use Rattle.nl_auth_flags.specs.Flags.{nb_domain, nb_computer, dns_domain, dns_host, utf8_computer}
 use Rattle.read_nl_auth.specs.NlAuth.{no_string, labels_of, string_length, holds_zero, string_at, string_under, on_found, refusal_in, name_string, on_name, name_at, name_under, on_named, flags_at, read_utf8, read_request, read_response, read_nl_auth}
 use Rattle.demands.specs.Ignored.{SameString, NlDifferInIgnored, NlAuthIgnored}
@@ -43,39 +40,39 @@ module _ (s t : List ℕ) (d : NlDifferInIgnored s t) where
   type_same = same32 s t 0 (λ p l r. d.bytes_same p (inl (omega arith)))
 
   -- a string from the buffer on
-  string_same : (b : Bool) (at : ℕ) (e : Reading) (x y : NlString → ℕ → Reading) → 8 ≤ at →
+  string_same : (b : Bool) (at : ℕ) (e : Result NlAuth Refusal) (x y : NlString → ℕ → Result NlAuth Refusal) → 8 ≤ at →
       ((f : NlString) (next : ℕ) → 8 ≤ next → x f next ≡ y f next) →
       on_found (string_under b s at) e x ≡ on_found (string_under b t at) e y
   unfolding string_under string_at
   string_same b at e x y l h = rw (buffer_same at l) (go b) where
-    here : Scan
-    here = cond (holds_zero (drop at t)) (Found (record { offset = at; len = string_length (drop at t); jumps = 0 }) (at + string_length (drop at t) + 1)) Missing
+    here : Option (NlString × ℕ)
+    here = cond (holds_zero (drop at t)) (Some ((record { offset = at; len = string_length (drop at t); jumps = 0 }), (at + string_length (drop at t) + 1))) None
 
     found : (z : Bool) →
-        on_found (cond z (Found (record { offset = at; len = string_length (drop at t); jumps = 0 }) (at + string_length (drop at t) + 1)) Missing) e x
-        ≡ on_found (cond z (Found (record { offset = at; len = string_length (drop at t); jumps = 0 }) (at + string_length (drop at t) + 1)) Missing) e y
+        on_found (cond z (Some ((record { offset = at; len = string_length (drop at t); jumps = 0 }), (at + string_length (drop at t) + 1))) None) e x
+        ≡ on_found (cond z (Some ((record { offset = at; len = string_length (drop at t); jumps = 0 }), (at + string_length (drop at t) + 1))) None) e y
     found true = h (record { offset = at; len = string_length (drop at t); jumps = 0 }) (at + string_length (drop at t) + 1) (omega arith)
     found false = refl
 
     go : (c : Bool) →
-        on_found (cond c (cond (holds_zero (drop at t)) (Found (record { offset = at; len = string_length (drop at t); jumps = 0 }) (at + string_length (drop at t) + 1)) Missing) (Found no_string at)) e x
-        ≡ on_found (cond c (cond (holds_zero (drop at t)) (Found (record { offset = at; len = string_length (drop at t); jumps = 0 }) (at + string_length (drop at t) + 1)) Missing) (Found no_string at)) e y
+        on_found (cond c (cond (holds_zero (drop at t)) (Some ((record { offset = at; len = string_length (drop at t); jumps = 0 }), (at + string_length (drop at t) + 1))) None) (Some (no_string, at))) e x
+        ≡ on_found (cond c (cond (holds_zero (drop at t)) (Some ((record { offset = at; len = string_length (drop at t); jumps = 0 }), (at + string_length (drop at t) + 1))) None) (Some (no_string, at))) e y
     go true = found (holds_zero (drop at t))
     go false = h no_string at l
 
-  name_same : (b : Bool) (at i : ℕ) (x y : NlString → ℕ → Reading) → 8 ≤ at →
+  name_same : (b : Bool) (at i : ℕ) (x y : NlString → ℕ → Result NlAuth Refusal) → 8 ≤ at →
       ((f : NlString) (next : ℕ) → 8 ≤ next → x f next ≡ y f next) → on_named (name_under b s at i) x ≡ on_named (name_under b t at i) y
   unfolding name_under name_at
   name_same b at i x y l h = rw (buffer_same 8 (omega arith)) (go b) where
-    found : (r : NameReading) →
-        on_named (on_name r (λ m. Named (name_string at m) (8 + m.next)) (λ e. Not (refusal_in e i))) x
-        ≡ on_named (on_name r (λ m. Named (name_string at m) (8 + m.next)) (λ e. Not (refusal_in e i))) y
-    found (Read m) = h (name_string at m) (8 + m.next) (omega arith)
-    found (Faulty e) = refl
+    found : (r : Result Name Fault) →
+        on_named (on_name r (λ m. (Ok ((name_string at m), (8 + m.next)))) (λ e. Err (refusal_in e i))) x
+        ≡ on_named (on_name r (λ m. (Ok ((name_string at m), (8 + m.next)))) (λ e. Err (refusal_in e i))) y
+    found (Ok m) = h (name_string at m) (8 + m.next) (omega arith)
+    found (Err e) = refl
 
     go : (c : Bool) →
-        on_named (cond c (on_name (read_name (drop 8 t) (at - 8)) (λ m. Named (name_string at m) (8 + m.next)) (λ e. Not (refusal_in e i))) (Named no_string at)) x
-        ≡ on_named (cond c (on_name (read_name (drop 8 t) (at - 8)) (λ m. Named (name_string at m) (8 + m.next)) (λ e. Not (refusal_in e i))) (Named no_string at)) y
+        on_named (cond c (on_name (read_name (drop 8 t) (at - 8)) (λ m. (Ok ((name_string at m), (8 + m.next)))) (λ e. Err (refusal_in e i))) (Ok (no_string, at))) x
+        ≡ on_named (cond c (on_name (read_name (drop 8 t) (at - 8)) (λ m. (Ok ((name_string at m), (8 + m.next)))) (λ e. Err (refusal_in e i))) (Ok (no_string, at))) y
     go true = found (read_name (drop 8 t) (at - 8))
     go false = h no_string at l
 
@@ -89,8 +86,8 @@ module _ (s t : List ℕ) (d : NlDifferInIgnored s t) where
   request_same : (w : NlAuthFlags) → read_request w s ≡ read_request w t
   unfolding read_request
   request_same w =
-      simp (string_same (nb_domain w) 8 (Refused (Unterminated 1)) _ _ (omega arith) (λ a a' m.
-      string_same (nb_computer w) a' (Refused (Unterminated 2)) _ _ m (λ b b' n. utf8_same w a b b' n)))
+      simp (string_same (nb_domain w) 8 (Err (Unterminated 1)) _ _ (omega arith) (λ a a' m.
+      string_same (nb_computer w) a' (Err (Unterminated 2)) _ _ m (λ b b' n. utf8_same w a b b' n)))
 
   response_same : read_response s ≡ read_response t
   unfolding read_response
@@ -101,14 +98,14 @@ module _ (s t : List ℕ) (d : NlDifferInIgnored s t) where
   answer_same =
       ap (λ (n : ℕ). frame n (type_of s) (read_request (flags_at s) s) (read_response s)) d.length_same
       ∙ ap (λ (n : ℕ). frame (length t) n (read_request (flags_at s) s) (read_response s)) type_same
-      ∙ ap (λ (r : Reading). frame (length t) (type_of t) (read_request (flags_at s) s) r) response_same
-      ∙ ap (λ (r : Reading). frame (length t) (type_of t) r (read_response t)) (request_same (flags_at s))
+      ∙ ap (λ (r : Result NlAuth Refusal). frame (length t) (type_of t) (read_request (flags_at s) s) r) response_same
+      ∙ ap (λ (r : Result NlAuth Refusal). frame (length t) (type_of t) r (read_response t)) (request_same (flags_at s))
       ∙ ⊎_elim
       (λ e. ap (λ (n : ℕ). frame (length t) (type_of t) (read_request (record { bits = n }) t) (read_response t)) e)
       (λ e. no_request (sym type_same ∙ e)) d.flags_same
     where
-      frame : ℕ → ℕ → Reading → Reading → Reading
-      frame n k x y = after (checked (leb n 65535)) (Refused TooLong) (after (checked (leb 8 n)) (Refused TooShort) (after (checked (eqb k 0 || eqb k 1)) (Refused WrongType) (cond (eqb k 0) x y)))
+      frame : ℕ → ℕ → Result NlAuth Refusal → Result NlAuth Refusal → Result NlAuth Refusal
+      frame n k x y = after (checked (leb n 65535)) (Err TooLong) (after (checked (leb 8 n)) (Err TooShort) (after (checked (eqb k 0 || eqb k 1)) (Err WrongType) (cond (eqb k 0) x y)))
 
       no_request : type_of t ≡ 1 → frame (length t) (type_of t) (read_request (flags_at s) t) (read_response t) ≡ frame (length t) (type_of t) (read_request (flags_at t) t) (read_response t)
       no_request e = go (type_of t) e where
@@ -178,5 +175,5 @@ nl_auth_ignored s t d =
       e = λ m h. each m.strings.utf8_computer m h (λ r. name_own_same s t d 5 m.strings.utf8_computer r.e) (λ r. none s t d m.strings.utf8_computer r.e);
     }
   where
-    each : (f : NlString) (m : NlAuth) → read_nl_auth s ≡ Taken m → (OwnRequest s m → SameString s t f) → (OwnResponse s m → SameString s t f) → SameString s t f
+    each : (f : NlString) (m : NlAuth) → read_nl_auth s ≡ Ok m → (OwnRequest s m → SameString s t f) → (OwnResponse s m → SameString s t f) → SameString s t f
     each f m h x y = ⊎_elim (λ w. x w.1) (λ w. y w.1) (nl_auth_own s m h)

@@ -1,4 +1,13 @@
 -- What a call of the C interface hands out stands at the front of its arrays, and nothing after it changes.
+use Rattle.std.specs.Prelude.{Result, Option, Ok, Err, Some, None, ⊤}
+use Rattle.av_pairs.specs.declared.AvPair.{AvPair}
+use Rattle.read_authenticate.specs.declared.Authenticate.{Authenticate}
+use Rattle.read_challenge.specs.declared.Challenge.{Challenge}
+use Rattle.read_negotiate.specs.declared.Negotiate.{Negotiate}
+use Rattle.read_nl_auth.specs.declared.NlAuth.{NlAuth}
+use Rattle.respond.specs.declared.decision.Decision.{Decision}
+use Rattle.target_info.specs.declared.ServerNames.{ServerNames}
+use Rattle.wire.specs.declared.refusal.Refusal.{Refusal}
 use Prim.Native.Nat.{ℕ, ◌≤◌, ◌<◌}
 use mathlib.Core.Path.{◌≡◌, refl}
 use mathlib.Core.Bool.{Bool, true, false, ◌&&◌, cond}
@@ -8,40 +17,16 @@ use lib.Dec.{leb}
 use lib.ListN.{length, take, drop, replicate, length-take, length-drop}
 use lib.Seq.{take-append_seam}
 use borrow.Author.Tests.{leb-true}
-use Rattle.wire.specs.declared.check.Verdict.{Verdict}
-use Rattle.wire.specs.declared.check.Verdict.TheVariants.{Clear, Refused as Not}
 use Rattle.wire.specs.declared.refusal.Refusal.TheVariants.{NoRoom}
 use Rattle.wire.specs.Check.{checked, after}
 use Rattle.wire.proofs.Bools.{and_left, and_right}
 use Rattle.place.specs.Written.{at_front}
-use Rattle.read_authenticate.specs.declared.Reading.{Reading}
-use Rattle.read_authenticate.specs.declared.Reading.TheVariants.{Taken, Refused}
 use Rattle.read_authenticate.specs.Authenticate.{reading_of, read_authenticate, mic_bytes}
 use Rattle.read_authenticate.proofs.Mic.{mic_room}
-use Rattle.av_pairs.specs.declared.Count.{Count}
-use Rattle.av_pairs.specs.declared.Count.TheVariants.{Pairs, Refused as Uncounted}
-use Rattle.av_pairs.specs.declared.Found.TheVariants.{At, Nothing}
-use Rattle.target_info.specs.declared.Search.{Search}
-use Rattle.target_info.specs.declared.Search.TheVariants.{Done, Refused as Unsearched}
-use Rattle.av_pairs.specs.declared.Step.{Step}
-use Rattle.av_pairs.specs.declared.Step.TheVariants.{Pair, End, Refused as Faulty}
 use Rattle.av_pairs.specs.AvPairs.{count_pairs, ask_at}
-use Rattle.read_challenge.specs.declared.Reading.{Reading as ChallengeReading}
-use Rattle.read_challenge.specs.declared.Reading.TheVariants.{Taken as ChallengeTaken, Refused as ChallengeRefused}
-use Rattle.read_challenge.specs.declared.ServerNamesReading.{ServerNamesReading}
-use Rattle.read_challenge.specs.declared.ServerNamesReading.TheVariants.{Taken as NamesTaken, Refused as NamesRefused}
-use Rattle.target_info.specs.declared.Timestamp.TheVariants.{Time, Nothing as NoTime}
-use Rattle.read_challenge.specs.declared.TimestampReading.{TimestampReading}
-use Rattle.read_challenge.specs.declared.TimestampReading.TheVariants.{Taken as TimeTaken, Refused as TimeRefused}
 use Rattle.read_challenge.specs.Challenge.{reading_of as challenge_reading, read_challenge, server_challenge, timestamp_of, server_names_of}
-use Rattle.read_negotiate.specs.declared.Reading.{Reading as NegotiateReading}
-use Rattle.read_negotiate.specs.declared.Reading.TheVariants.{Taken as NegotiateTaken, Refused as NegotiateRefused}
 use Rattle.read_negotiate.specs.Negotiate.{read_negotiate}
-use Rattle.read_nl_auth.specs.declared.Reading.{Reading as NlReading}
-use Rattle.read_nl_auth.specs.declared.Reading.TheVariants.{Taken as NlTaken, Refused as NlRefused}
 use Rattle.read_nl_auth.specs.NlAuth.{read_nl_auth}
-use Rattle.respond.specs.declared.decision.Decided.{Decided}
-use Rattle.respond.specs.declared.decision.Decided.TheVariants.{Taken as Decides, Refused as Declines}
 use Rattle.respond.specs.Decision.{decision_on}
 use Rattle.c_number.specs.Number.{refusal_number}
 use Rattle.c_number.specs.Outcome.{Outcome, numbers, refused, outcome_number, outcome_out, outcome_bytes, call_number, call_out, two_array_number, two_array_out, two_array_bytes}
@@ -86,58 +71,58 @@ Counted n (refused e) = Unit
 counted : (c : Call) → Counted (count c) (outcome c)
 unfolding negotiate_numbers timestamp_numbers server_names_numbers nl_auth_numbers found_numbers pair_numbers decision_numbers computed_mic
 counted (read_negotiate_call s) = go (read_negotiate s) where
-  go : (r : NegotiateReading) → Counted 7 (negotiate_outcome r)
-  go (NegotiateTaken m) = refl
-  go (NegotiateRefused e) = tt
+  go : (r : Result Negotiate Refusal) → Counted 7 (negotiate_outcome r)
+  go (Ok m) = refl
+  go (Err e) = tt
 counted (read_timestamp s) = go (timestamp_of s) where
-  go : (r : TimestampReading) → Counted 2 (timestamp_outcome r)
-  go (TimeTaken (Time t)) = refl
-  go (TimeTaken NoTime) = refl
-  go (TimeRefused e) = tt
+  go : (r : Result (Option ℕ) Refusal) → Counted 2 (timestamp_outcome r)
+  go (Ok (Some t)) = refl
+  go (Ok None) = refl
+  go (Err e) = tt
 counted (read_server_names s) = go (server_names_of s) where
-  go : (r : ServerNamesReading) → Counted 2 (server_names_outcome r)
-  go (NamesTaken n) = refl
-  go (NamesRefused e) = tt
+  go : (r : Result ServerNames Refusal) → Counted 2 (server_names_outcome r)
+  go (Ok n) = refl
+  go (Err e) = tt
 counted (read_nl_auth_call s) = go (read_nl_auth s) where
-  go : (r : NlReading) → Counted 15 (nl_auth_outcome r)
-  go (NlTaken m) = refl
-  go (NlRefused e) = tt
+  go : (r : Result NlAuth Refusal) → Counted 15 (nl_auth_outcome r)
+  go (Ok m) = refl
+  go (Err e) = tt
 counted (count_pairs_call s) = go (count_pairs s) where
-  go : (r : Count) → Counted 1 (count_outcome r)
-  go (Pairs n) = refl
-  go (Uncounted e) = tt
+  go : (r : Result ℕ Refusal) → Counted 1 (count_outcome r)
+  go (Ok n) = refl
+  go (Err e) = tt
 counted (find_pair_call s id) = go (find_pair (record { id = id }) s) where
-  go : (r : Search) → Counted 3 (search_outcome r)
-  go (Done (At p)) = refl
-  go (Done Nothing) = refl
-  go (Unsearched e) = tt
+  go : (r : Result (Option AvPair) Refusal) → Counted 3 (search_outcome r)
+  go (Ok (Some p)) = refl
+  go (Ok None) = refl
+  go (Err e) = tt
 counted (next_pair s at) = go (ask_at s at).step (ask_at s at).next where
-  go : (r : Step) (next : ℕ) → Counted 5 (step_outcome r next)
-  go (Pair p) next = refl
-  go End next = refl
-  go (Faulty e) next = tt
+  go : (r : Result (Option AvPair) Refusal) (next : ℕ) → Counted 5 (step_outcome r next)
+  go (Ok (Some p)) next = refl
+  go (Ok None) next = refl
+  go (Err e) next = tt
 counted (decide settings s) = go (decision_on (settings_of settings) s) where
-  go : (r : Decided) → Counted 3 (decided_outcome r)
-  go (Decides d) = by d.timestamp where
+  go : (r : Result Decision Refusal) → Counted 3 (decided_outcome r)
+  go (Ok d) = by d.timestamp where
     by : (t : _) → length (decision_numbers d.flags.bits t) ≡ 3
-    by (Time t) = refl
-    by NoTime = refl
-  go (Declines e) = tt
+    by (Some t) = refl
+    by None = refl
+  go (Err e) = tt
 counted (compute_mic key nego chal auth) = go (check_inputs (length key) nego chal auth) where
-  go : (v : Verdict) → Counted 16 (handed_out v (when_clear v (mic_of key nego chal auth)))
-  go Clear = mic_length key nego chal auth
-  go (Not e) = tt
+  go : (v : Result ⊤ Refusal) → Counted 16 (handed_out v (when_clear v (mic_of key nego chal auth)))
+  go (Ok tt) = mic_length key nego chal auth
+  go (Err e) = tt
 
 two_counted : (c : TwoArrayCall) → Counted (number_count c) (two_array_outcome c)
 unfolding authenticate_numbers challenge_numbers
 two_counted (read_authenticate_call s) = go (read_authenticate s).reading where
-  go : (r : Reading) → Counted 20 (authenticate_outcome r)
-  go (Taken a) = refl
-  go (Refused e) = tt
+  go : (r : Result Authenticate Refusal) → Counted 20 (authenticate_outcome r)
+  go (Ok a) = refl
+  go (Err e) = tt
 two_counted (read_challenge_call s) = go (read_challenge s).reading where
-  go : (r : ChallengeReading) → Counted 7 (challenge_outcome r)
-  go (ChallengeTaken c) = refl
-  go (ChallengeRefused e) = tt
+  go : (r : Result Challenge Refusal) → Counted 7 (challenge_outcome r)
+  go (Ok c) = refl
+  go (Err e) = tt
 
 -- ---- a call that is answered 0
 
@@ -165,12 +150,12 @@ call_front c out h = go (leb (count c) (length out)) refl (outcome c) (counted c
 pub mic_16 : (s : List ℕ) → length (read_authenticate s).mic ≡ 16
 unfolding read_authenticate
 mic_16 s = go (reading_of s) refl where
-  go : (r : Reading) → r ≡ reading_of s → length (mic_bytes r s) ≡ 16
-  go (Taken a) e = by a.mic_present refl where
+  go : (r : Result Authenticate Refusal) → r ≡ reading_of s → length (mic_bytes r s) ≡ 16
+  go (Ok a) e = by a.mic_present refl where
     by : (b : Bool) → a.mic_present ≡ b → length (cond b (take 16 (drop 72 s)) (replicate 16 0)) ≡ 16
-    by true p = simp (length-take, length-drop) (omega (arith, mic_room s (Taken a) a e refl p))
+    by true p = simp (length-take, length-drop) (omega (arith, mic_room s (Ok a) a e refl p))
     by false p = refl
-  go (Refused d) e = refl
+  go (Err d) e = refl
 
 server_8 : (s : List ℕ) → length (read_challenge s).server_challenge ≡ 8
 unfolding read_challenge
@@ -178,9 +163,9 @@ server_8 s = go (challenge_reading s) refl where
   long : (length s < 48 → ⊥) → length (take 8 (drop 24 s)) ≡ 8
   long h = simp (length-take, length-drop) (omega (arith, h))
 
-  go : (r : ChallengeReading) → challenge_reading s ≡ r → length (server_challenge r s) ≡ 8
-  go (ChallengeTaken c) e = long (λ l. (taken_as s c e).none 2 0 (refl, l))
-  go (ChallengeRefused d) e = refl
+  go : (r : Result Challenge Refusal) → challenge_reading s ≡ r → length (server_challenge r s) ≡ 8
+  go (Ok c) e = long (λ l. (taken_as s c e).none 2 0 (refl, l))
+  go (Err d) e = refl
 
 beside_counted : (c : TwoArrayCall) → length (bytes_beside c) ≡ byte_count c
 beside_counted (read_authenticate_call s) = mic_16 s

@@ -1,4 +1,6 @@
 -- A refused call of the C interface leaves its arrays as they were, and an answer that is sent changes only what it hands out.
+use Rattle.std.specs.Prelude.{Result, Err}
+use Rattle.respond.specs.declared.answer.Answer.{Answer}
 use Prim.Native.Nat.{ℕ}
 use mathlib.Core.Path.{◌≡◌, refl}
 use mathlib.Core.Logic.{◌⊎◌, inl, inr}
@@ -10,8 +12,6 @@ use borrow.Author.Tests.{le-leb, lt-leb}
 use Rattle.wire.specs.declared.refusal.Refusal.{Refusal}
 use Rattle.wire.specs.declared.refusal.Refusal.TheVariants.{NoRoom}
 use Rattle.wire.specs.Check.{checked, after}
-use Rattle.respond.specs.declared.answer.Answered.{Answered}
-use Rattle.respond.specs.declared.answer.Answered.TheVariants.{Refused}
 use Rattle.respond.specs.Answer.{respond_to}
 use Rattle.c_number.specs.Number.{refusal_number, bit}
 use Rattle.c_number.specs.Outcome.{Outcome, numbers, refused, outcome_number, outcome_out, outcome_bytes, call_number, call_out, two_array_number, two_array_out, two_array_bytes}
@@ -53,7 +53,7 @@ responded_kept settings s x xs v8 m16 =
       rest = λ y h. by_rest (leb 2 (length xs)) y.len (kept.rest y h);
     }
   where
-    a : Answered
+    a : Result Answer Refusal
     a = (respond_to settings s x).answer
 
     out : List ℕ
@@ -66,12 +66,12 @@ responded_kept settings s x xs v8 m16 =
     kept = respond_kept settings s x v8 m16
 
     -- what comes of a call, by whether its array has its room
-    whole : Bool → Answered → List ℕ → EffectFromC
+    whole : Bool → Result Answer Refusal → List ℕ → EffectFromC
     whole t b l =
         after (checked t) (record { number = refusal_number NoRoom; output = out; numbers = xs })
         (as_numbers (record { answer = b; output = l }) xs)
 
-    by_room : (t : Bool) → t ≡ false → (b : Answered) (l : List ℕ) →
+    by_room : (t : Bool) → t ≡ false → (b : Result Answer Refusal) (l : List ℕ) →
         ((whole t b l).numbers ≡ xs) × ((whole t b l).output ≡ out)
     by_room true p b l = absurd (true_not_false p)
     by_room false p b l = (refl, refl)
@@ -84,7 +84,7 @@ responded_kept settings s x xs v8 m16 =
     by_rest true n e = e
     by_rest false n e = refl
 
-    by_answer : (t : Bool) (b : Answered) (l : List ℕ) (e : Refusal) → b ≡ Refused e → l ≡ out →
+    by_answer : (t : Bool) (b : Result Answer Refusal) (l : List ℕ) (e : Refusal) → b ≡ Err e → l ≡ out →
         ((whole t b l).numbers ≡ xs) × ((whole t b l).output ≡ out)
     by_answer true b l e h k = (rw h refl, k)
     by_answer false b l e h k = (refl, refl)

@@ -1,4 +1,5 @@
 -- The lines of the forms, each by its words.
+use Rattle.std.specs.Prelude.{Option, Some, None}
 use Prim.Native.Nat.{ℕ}
 use mathlib.Core.Path.{◌≡◌, refl, sym, ap, ◌∙◌}
 use mathlib.Core.Bool.{Bool, true, false, cond}
@@ -27,8 +28,6 @@ use Rattle.read_authenticate.specs.declared.Authenticate.{Authenticate}
 use Rattle.read_authenticate.specs.Authenticate as A
 use Rattle.read_challenge.specs.declared.Challenge.{Challenge}
 use Rattle.read_challenge.specs.Challenge as C
-use Rattle.target_info.specs.declared.Timestamp.{Timestamp}
-use Rattle.target_info.specs.declared.Timestamp.TheVariants.{Time, Nothing}
 use Rattle.demands.proofs.LineShows.Words.{visible, IsLine}
 use Rattle.demands.proofs.LineShows.Names.{hex_visible, decimal_visible, name_is_visible}
 
@@ -176,11 +175,11 @@ auth_line_lem s a =
 -- ---- CHALLENGE
 
 -- with no timestamp its word is left out
-abbrev pub time_first : Timestamp → List (List ℕ) → List (List ℕ)
-time_first (Time t) ws = (ascii "time=" ++ hex 16 t) ∷ ws
-time_first Nothing ws = ws
+abbrev pub time_first : Option ℕ → List (List ℕ) → List (List ℕ)
+time_first (Some t) ws = (ascii "time=" ++ hex 16 t) ∷ ws
+time_first None ws = ws
 
-abbrev pub chal_words_of : List ℕ → Challenge → ℕ → Timestamp → List (List ℕ)
+abbrev pub chal_words_of : List ℕ → Challenge → ℕ → Option ℕ → List (List ℕ)
 chal_words_of s c pairs time =
     (ascii "flags=" ++ hex 8 c.flags.bits) ∷
     set_text (unicode c.flags) ∷
@@ -188,7 +187,7 @@ chal_words_of s c pairs time =
     (ascii "pairs=" ++ decimal pairs) ∷
     time_first time ((ascii "max=" ++ max_digits (C.all_fields c.fields)) ∷ [])
 
-chal_parts : (s : List ℕ) (c : Challenge) (pairs : ℕ) (time : Timestamp) →
+chal_parts : (s : List ℕ) (c : Challenge) (pairs : ℕ) (time : Option ℕ) →
     chal_words (unicode c.flags) s c pairs time
     ≡ ascii "chal" ++ (
     flags_word c.flags.bits ++ (
@@ -200,18 +199,18 @@ chal_parts : (s : List ℕ) (c : Challenge) (pairs : ℕ) (time : Timestamp) →
 unfolding chal_words chal_end
 chal_parts s c pairs time = simp started
 
-pub chal_line_lem : (s : List ℕ) (c : Challenge) (pairs : ℕ) (time : Timestamp) →
+pub chal_line_lem : (s : List ℕ) (c : Challenge) (pairs : ℕ) (time : Option ℕ) →
     IsLine (chal_words (unicode c.flags) s c pairs time) (ascii "chal") (chal_words_of s c pairs time)
 unfolding flags_word name_word number_word time_word time_text max_end max_word
-chal_line_lem s c pairs (Time t) =
+chal_line_lem s c pairs (Some t) =
     record {
-      line_is = chal_parts s c pairs (Time t) ∙ simp set_is;
+      line_is = chal_parts s c pairs (Some t) ∙ simp set_is;
       first_visible = refl;
       words_visible = simp (hex_visible, set-visible, name_is_visible, decimal_visible, max_visible);
     }
-chal_line_lem s c pairs Nothing =
+chal_line_lem s c pairs None =
     record {
-      line_is = chal_parts s c pairs Nothing ∙ simp set_is;
+      line_is = chal_parts s c pairs None ∙ simp set_is;
       first_visible = refl;
       words_visible = simp (hex_visible, set-visible, name_is_visible, decimal_visible, max_visible);
     }

@@ -1,4 +1,5 @@
 -- What the line of NL_AUTH shows.
+use Rattle.std.specs.Prelude.{Ok}
 use Prim.Native.Nat.{ℕ, ◌+◌, ◌/◌, ◌%◌, ◌^◌, ◌<◌}
 use mathlib.Core.Path.{◌≡◌, refl, sym, ap, ◌∙◌, subst}
 use mathlib.Core.Logic.{◌⊎◌, inl, inr, ⊎_elim}
@@ -18,7 +19,6 @@ use Rattle.line_words.specs.Words.{number_word, string_word, flags_word, line_en
 use Rattle.read_dns_name.specs.Rfc1035.{NameFrom, end, label, jump}
 use Rattle.nl_auth_flags.specs.Flags.{nb_domain, nb_computer, dns_domain, dns_host, utf8_computer}
 use Rattle.read_nl_auth.specs.declared.NlAuth.{NlAuth}
-use Rattle.read_nl_auth.specs.declared.Reading.TheVariants.{Taken as NlTaken}
 use Rattle.read_nl_auth.specs.declared.string.NlString.{NlString}
 use Rattle.read_nl_auth.specs.NlAuth.{string_bytes, labels_of, read_nl_auth}
 use Rattle.line_nl_string.specs.StringText.{oem_text, utf8_text}
@@ -50,7 +50,7 @@ module _ (s : List ℕ) (b : Bytes s) where
   name_labels (jump h l j n r) = name_labels r
 
 -- a name under a set bit
-module _ (s : List ℕ) (b : Bytes s) (m : NlAuth) (h : read_nl_auth s ≡ NlTaken m) where
+module _ (s : List ℕ) (b : Bytes s) (m : NlAuth) (h : read_nl_auth s ≡ Ok m) where
   under : (i mask : ℕ) (x : NlString) (pick : OwnRequest s m → BitSet s mask → Labels (labels_of s x)) →
       u32_at s 4 % 32 / mask % 2 ≡ u32_at s 4 / mask % 2 → (0 / mask % 2 ≡ 1 → ⊥) → has m.flags.bits mask ≡ true → Labels (labels_of s x)
   under i mask x pick bit none set = go (nl_auth_own s m h) where
@@ -183,7 +183,7 @@ utf8_told : (s t : List ℕ) (x y : NlString) → Labels (labels_of s x) → Lab
 unfolding utf8_text
 utf8_told s t x y p q e = labels_show (labels_of s x) (labels_of t y) p q e
 
-nl_told : (s t : List ℕ) (m n : NlAuth) → Bytes s → Bytes t → read_nl_auth s ≡ NlTaken m → read_nl_auth t ≡ NlTaken n → nl_text s m ≡ nl_text t n → SameNl s t m n
+nl_told : (s t : List ℕ) (m n : NlAuth) → Bytes s → Bytes t → read_nl_auth s ≡ Ok m → read_nl_auth t ≡ Ok n → nl_text s m ≡ nl_text t n → SameNl s t m n
 nl_told s t m n p q h k e =
     let w = (words_of (nl_text s m) (nl_text t n) (ascii "nl") (ascii "nl") (nl_words s m) (nl_words t n) (nl_line_lem s m) (nl_line_lem t n) e).1 in
     let f = hex_shows 8 m.flags.bits n.flags.bits (flags_small s p m h) (flags_small t q n k) (told 1 (ascii "flags=") _ _ _ _ w refl refl) in

@@ -1,4 +1,5 @@
 -- What the lines of two taken messages show.
+use Rattle.std.specs.Prelude.{Option, Ok, Some, None, Result}
 use Prim.Native.Nat.{ℕ, zero, suc, ◌+◌, ◌-◌, ◌/◌, ◌%◌, ◌^◌, ◌≤◌, ◌<◌}
 use mathlib.Core.Path.{◌≡◌, refl, sym, ap, ◌∙◌, subst}
 use mathlib.Core.Logic.{◌⊎◌, inl, inr}
@@ -27,18 +28,12 @@ use Rattle.line_authenticate.specs.Auth.{auth_text}
 use Rattle.line_challenge.specs.Chal.{chal_words, chal_text}
 use Rattle.line.specs.Line.{negotiate_line, authenticate_line, challenge_line}
 use Rattle.read_negotiate.specs.declared.Negotiate.{Negotiate}
-use Rattle.read_negotiate.specs.declared.Reading.TheVariants.{Taken as NegotiateTaken}
 use Rattle.read_negotiate.specs.Negotiate as N
 use Rattle.read_authenticate.specs.declared.Authenticate.{Authenticate}
-use Rattle.read_authenticate.specs.declared.Reading.TheVariants.{Taken}
 use Rattle.read_authenticate.specs.Authenticate as A
 use Rattle.av_pairs.specs.AvPairs.{pairs_of}
 use Rattle.read_challenge.specs.declared.Challenge.{Challenge}
-use Rattle.read_challenge.specs.declared.Reading.TheVariants.{Taken as ChallengeTaken}
 use Rattle.read_challenge.specs.Challenge as C
-use Rattle.read_challenge.specs.declared.TimestampReading.TheVariants.{Taken as TimeTaken}
-use Rattle.target_info.specs.declared.Timestamp.{Timestamp}
-use Rattle.target_info.specs.declared.Timestamp.TheVariants.{Time, Nothing}
 use Rattle.target_info.specs.TargetInfo.{timestamp_in}
 use Rattle.demands.specs.HeaderLine.{Bytes}
 use Rattle.demands.specs.MaxLen.{Unlike, MaxDigits}
@@ -167,10 +162,10 @@ refused_line_shows e f = (refused_told e f, λ w. same_line _ _ _ _ _ (refused_l
 nego_decides : (s : List ℕ) → Decides negotiate s
 nego_decides s i h = (λ e. bit_decides _ 0x1000 (λ n. h (λ c. n (c.0 e))), λ e. bit_decides _ 0x2000 (λ n. h (λ c. n (c.1 e))))
 
-pub nego_said : (s : List ℕ) (m : Negotiate) → N.read_negotiate s ≡ NegotiateTaken m → MaxDigits negotiate s (max_digits (N.all_fields m.fields))
+pub nego_said : (s : List ℕ) (m : Negotiate) → N.read_negotiate s ≡ Ok m → MaxDigits negotiate s (max_digits (N.all_fields m.fields))
 nego_said s m h = rw (opening_as s m h).1 (digits_said negotiate s (N.all_fields (N.fields_at s (flags_at s 12))) (nego_all s) refl)
 
-nego_told : (s t : List ℕ) (m n : Negotiate) → Bytes s → Bytes t → N.read_negotiate s ≡ NegotiateTaken m → N.read_negotiate t ≡ NegotiateTaken n →
+nego_told : (s t : List ℕ) (m n : Negotiate) → Bytes s → Bytes t → N.read_negotiate s ≡ Ok m → N.read_negotiate t ≡ Ok n →
     nego_text s m ≡ nego_text t n → SameNego s t m n
 nego_told s t m n b d p q e =
     let w = (words_of (nego_text s m) (nego_text t n) (ascii "nego") (ascii "nego") (nego_words s m) (nego_words t n) (nego_line_lem s m) (nego_line_lem t n) e).1 in
@@ -202,7 +197,7 @@ negotiate_line_shows s t m n b d p q =
 auth_decides : (s : List ℕ) → Decides authenticate s
 auth_decides s i h e = bit_decides _ 0x40000000 (λ n. h (λ c. n (c e)))
 
-pub auth_said : (s : List ℕ) (a : Authenticate) → (A.read_authenticate s).reading ≡ Taken a → MaxDigits authenticate s (max_digits (A.all_fields a.fields))
+pub auth_said : (s : List ℕ) (a : Authenticate) → (A.read_authenticate s).reading ≡ Ok a → MaxDigits authenticate s (max_digits (A.all_fields a.fields))
 auth_said s a h = rw (taken_answer s a h) (digits_said authenticate s (A.all_fields (A.fields_at s (flags_at s 60))) (auth_all s) refl)
 
 -- UNICODE, as the flags' bit of a message
@@ -219,7 +214,7 @@ mic_told false true e = absurd (two (ap (λ (t : List ℕ). get_or t 4 0) e)) wh
   two z = omega arith
 mic_told false false e = refl
 
-auth_told : (s t : List ℕ) (a b : Authenticate) → Bytes s → Bytes t → (A.read_authenticate s).reading ≡ Taken a → (A.read_authenticate t).reading ≡ Taken b →
+auth_told : (s t : List ℕ) (a b : Authenticate) → Bytes s → Bytes t → (A.read_authenticate s).reading ≡ Ok a → (A.read_authenticate t).reading ≡ Ok b →
     auth_text s a ≡ auth_text t b → SameAuth s t a b
 auth_told s t a b p q h k e =
     let w = (words_of (auth_text s a) (auth_text t b) (ascii "auth") (ascii "auth") (auth_words s a) (auth_words t b) (auth_line_lem s a) (auth_line_lem t b) e).1 in
@@ -282,7 +277,7 @@ authenticate_line_shows s t a b p q h k =
 chal_decides : (s : List ℕ) → Decides challenge s
 chal_decides s i h = (λ e. bit_decides _ 0x4 (λ n. h (λ c. n (c.0 e))), λ e. bit_decides _ 0x800000 (λ n. h (λ c. n (c.1 e))))
 
-pub chal_said : (s : List ℕ) (c : Challenge) → (C.read_challenge s).reading ≡ ChallengeTaken c → MaxDigits challenge s (max_digits (C.all_fields c.fields))
+pub chal_said : (s : List ℕ) (c : Challenge) → (C.read_challenge s).reading ≡ Ok c → MaxDigits challenge s (max_digits (C.all_fields c.fields))
 chal_said s c h = rw (taken_as s c h).answer (digits_said challenge s (C.all_fields (C.fields_at s (flags_at s 20))) (chal_all s) refl)
 
 -- the line of a taken one is its words
@@ -292,27 +287,27 @@ unfolding chal_text
 chal_words_lem s c = refl
 
 -- a timestamp has 64 bits
-small_time : (b : List ℕ) → Bytes b → (x : Timestamp) → timestamp_in b ≡ x → (v : ℕ) → x ≡ Time v → v < 16 ^ 16
+small_time : (b : List ℕ) → Bytes b → (x : Option ℕ) → timestamp_in b ≡ x → (v : ℕ) → x ≡ Some v → v < 16 ^ 16
 small_time b p x e v h =
     let j = time_judged b v (e ∙ h) in
     subst (λ (z : ℕ). z < 16 ^ 16) (sym j.2) (hex_is_enough b p (j.0 + 4)).3
 
 -- the word of a timestamp that is there, and the last word
-time_told : (x y : Timestamp) (u v : List ℕ) → ((n : ℕ) → x ≡ Time n → n < 16 ^ 16) → ((n : ℕ) → y ≡ Time n → n < 16 ^ 16) →
+time_told : (x y : Option ℕ) (u v : List ℕ) → ((n : ℕ) → x ≡ Some n → n < 16 ^ 16) → ((n : ℕ) → y ≡ Some n → n < 16 ^ 16) →
     time_first x (u ∷ []) ≡ time_first y (v ∷ []) → (x ≡ y) × (u ≡ v)
-time_told (Time m) (Time n) u v p q e = (
-  ap Time (hex_shows 16 m n (p m refl) (q n refl) (told 0 (ascii "time=") _ _ _ _ e refl refl)),
+time_told (Some m) (Some n) u v p q e = (
+  ap Some (hex_shows 16 m n (p m refl) (q n refl) (told 0 (ascii "time=") _ _ _ _ e refl refl)),
   ap (λ (x : List (List ℕ)). get_or x 1 []) e,
 )
-time_told (Time m) Nothing u v p q e = absurd (let l = ap length e in omega (arith, l))
-time_told Nothing (Time n) u v p q e = absurd (let l = ap length e in omega (arith, l))
-time_told Nothing Nothing u v p q e = (refl, ap (λ (x : List (List ℕ)). get_or x 0 []) e)
+time_told (Some m) None u v p q e = absurd (let l = ap length e in omega (arith, l))
+time_told None (Some n) u v p q e = absurd (let l = ap length e in omega (arith, l))
+time_told None None u v p q e = (refl, ap (λ (x : List (List ℕ)). get_or x 0 []) e)
 
-time_is : (s : List ℕ) (c : Challenge) → (C.read_challenge s).reading ≡ ChallengeTaken c → C.timestamp_of s ≡ TimeTaken (timestamp_in (C.info_of s c))
+time_is : (s : List ℕ) (c : Challenge) → (C.read_challenge s).reading ≡ Ok c → C.timestamp_of s ≡ Ok (timestamp_in (C.info_of s c))
 unfolding C.read_challenge C.timestamp_of
 time_is s c h = simp h
 
-chal_told : (s t : List ℕ) (c d : Challenge) → Bytes s → Bytes t → (C.read_challenge s).reading ≡ ChallengeTaken c → (C.read_challenge t).reading ≡ ChallengeTaken d →
+chal_told : (s t : List ℕ) (c d : Challenge) → Bytes s → Bytes t → (C.read_challenge s).reading ≡ Ok c → (C.read_challenge t).reading ≡ Ok d →
     chal_text s c ≡ chal_text t d → SameChal s t c d
 chal_told s t c d p q h k e =
     let w = (words_of _ _ (ascii "chal") (ascii "chal") _ _
@@ -331,11 +326,11 @@ chal_told s t c d p q h k e =
           (λ v. (target_name_whole s c h (wide challenge s c.flags o.flags v)).even) (λ v. (target_name_whole t d k (wide challenge t d.flags r.flags v)).even)
           (told 2 (ascii "target=") _ _ _ _ w refl refl);
       pairs = decimal_shows _ _ (told 3 (ascii "pairs=") _ _ _ _ w refl refl);
-      time = time_is s c h ∙ ap TimeTaken z.0 ∙ sym (time_is t d k);
+      time = time_is s c h ∙ ap Ok z.0 ∙ sym (time_is t d k);
       max = max_told challenge s t _ _ (chal_decides s) (chal_decides t) (chal_said s c h) (chal_said t d k) (past (ascii "max=") _ _ z.1);
     }
 
-same_time : (x y : Timestamp) → TimeTaken x ≡ TimeTaken y → x ≡ y
+same_time : (x y : Option ℕ) → ◌≡◌ {A = Result (Option ℕ) Refusal} (Ok x) (Ok y) → x ≡ y
 same_time x y e = cc
 
 pub challenge_line_shows : ChallengeLineShows
@@ -353,7 +348,7 @@ challenge_line_shows s t c d p q h k =
           ∙ sym (chal_words_lem t d),
     )
   where
-    by_parts : (f g : ℕ) (a b : List ℕ) (n o : ℕ) (i j : Timestamp) (x y : List ℕ) → f ≡ g → a ≡ b → n ≡ o → i ≡ j → x ≡ y →
+    by_parts : (f g : ℕ) (a b : List ℕ) (n o : ℕ) (i j : Option ℕ) (x y : List ℕ) → f ≡ g → a ≡ b → n ≡ o → i ≡ j → x ≡ y →
         (ascii "flags=" ++ hex 8 f) ∷ set_text (has f 0x1) ∷ (ascii "target=" ++ name_text (has f 0x1) a) ∷ (ascii "pairs=" ++ decimal n) ∷ time_first i ((ascii "max=" ++ x) ∷ [])
         ≡ (ascii "flags=" ++ hex 8 g) ∷ set_text (has g 0x1) ∷ (ascii "target=" ++ name_text (has g 0x1) b) ∷ (ascii "pairs=" ++ decimal o) ∷ time_first j ((ascii "max=" ++ y) ∷ [])
     by_parts f g a b n o i j x y p q r t u = simp (p, q, r, t, u)

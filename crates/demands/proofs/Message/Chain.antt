@@ -1,4 +1,6 @@
 -- The chain of checks 1 to 5, and a check over numbered fields, against document 01's table, for every kind of message.
+use Rattle.std.specs.Prelude.{Result, Ok, Err, ⊤}
+use Rattle.negotiate_flags.specs.declared.NegotiateFlags.{NegotiateFlags}
 use Prim.Native.Nat.{ℕ, ◌+◌, ◌≤◌, ◌<◌}
 use mathlib.Core.Path.{◌≡◌, refl, sym, ap, ◌∙◌, subst}
 use mathlib.Core.Logic.{inl, ⊎_elim}
@@ -12,12 +14,8 @@ use lib.Seq.{ext_get_or, get_or-take}
 use borrow.Author.Tests.{leb-true, leb-false, eqb-true, eqb-false, ne_eqb, ltb-true, ltb-false}
 use Rattle.wire.specs.declared.check.Checked.{Checked}
 use Rattle.wire.specs.declared.check.Checked.TheVariants.{Held, Failed}
-use Rattle.wire.specs.declared.check.Verdict.{Verdict}
-use Rattle.wire.specs.declared.check.Verdict.TheVariants.{Refused as Not}
 use Rattle.wire.proofs.Laws.{held_true}
 use Rattle.field.specs.declared.Field.{Field}
-use Rattle.head.specs.declared.Head.{Head}
-use Rattle.head.specs.declared.Head.TheVariants.{Flags, Refused as Stopped}
 use Rattle.head.specs.declared.Layout.{Layout}
 use Rattle.wire.specs.declared.refusal.Refusal.{Refusal}
 use Rattle.wire.specs.Check.{over_all, on_clear}
@@ -36,7 +34,7 @@ abbrev pub layout_of : Format → Layout
 layout_of k = record { fixed = k.fixed; message_type = k.number; flags = k.flags }
 
 -- what a verdict says: nothing fails up to the next check, or its refusal is the first failure
-abbrev pub JudgedV : Format → List ℕ → ℕ → Verdict → Type 0
+abbrev pub JudgedV : Format → List ℕ → ℕ → Result ⊤ Refusal → Type 0
 JudgedV k s = JudgedBy (λ n. n) (Fails k s)
 
 -- a check over numbered fields, against the table's row n, from field i on
@@ -51,9 +49,9 @@ over_judged k s n next ok e is-next = over_judged_by (λ m. m) (Fails k s) n nex
 
 module _ (k : Format) (s : List ℕ) where
   -- checks 1 to 5
-  abbrev pub JudgedH : Head → Type 0
-  JudgedH (Flags w) = (w ≡ flags_at s k.flags) × Free (Fails k s) 6 0
-  JudgedH (Stopped e) = First (Fails k s) (number_of e) (field_of e)
+  abbrev pub JudgedH : Result NegotiateFlags Refusal → Type 0
+  JudgedH (Ok w) = (w ≡ flags_at s k.flags) × Free (Fails k s) 6 0
+  JudgedH (Err e) = First (Fails k s) (number_of e) (field_of e)
 
   none_at_0 : Free (Fails k s) 1 0
   none_at_0 m j b h =
@@ -116,7 +114,7 @@ module _ (k : Format) (s : List ℕ) where
         go false false p q e = true_not_false (sym e)
 
   -- a group of checks, and what follows it
-  pub then : (m next : ℕ) (v x : Verdict) → JudgedV k s m v → (Free (Fails k s) m 0 → JudgedV k s next x) → JudgedV k s next (on_clear Not v x)
+  pub then : (m next : ℕ) (v x : Result ⊤ Refusal) → JudgedV k s m v → (Free (Fails k s) m 0 → JudgedV k s next x) → JudgedV k s next (on_clear Err v x)
   then = then_by (λ n. n) (Fails k s)
 
   -- the table ends at 9

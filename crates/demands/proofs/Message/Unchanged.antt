@@ -1,4 +1,6 @@
 -- Two messages that differ only in ignored bytes have the same head, fields and field's bytes, for every kind of message.
+use Rattle.wire.specs.Check.{on_ok}
+use Rattle.std.specs.Prelude.{Result, Ok, Err}
 use Prim.Native.Nat.{ℕ, ◌+◌, ◌≤◌, ◌<◌}
 use mathlib.Core.Path.{◌≡◌, refl, sym, ap, ◌∙◌}
 use mathlib.Core.Logic.{⊎_elim}
@@ -12,9 +14,7 @@ use Rattle.field.specs.declared.Field.{Field}
 use Rattle.field.specs.Field.{head_at, is_empty, empty_field, field_at, field_bytes}
 use Rattle.wire.specs.declared.refusal.Refusal.{Refusal}
 use Rattle.negotiate_flags.specs.declared.NegotiateFlags.{NegotiateFlags}
-use Rattle.head.specs.declared.Head.{Head}
-use Rattle.head.specs.declared.Head.TheVariants.{Flags, Refused as Stopped}
-use Rattle.head.specs.Head.{flags_at, signature_holds, read_head, on_flags}
+use Rattle.head.specs.Head.{flags_at, signature_holds, read_head}
 use Rattle.field.proofs.Fields.{own_bytes_lem}
 use Rattle.demands.specs.Ignored.{SameBytes}
 use Rattle.demands.specs.Message.{Format, len_of, max_len_of, offset_of, Counts, Nonempty, Covers, Fails, Ignored, DifferInIgnored, SameMaxLen}
@@ -83,18 +83,18 @@ module _ (k : Format) (a b : List ℕ) (seen : Seen k a) (d : DifferInIgnored k 
   pub read_same : {Fs Rd : Type 0} (refuse : Refusal → Rd) (rest : NegotiateFlags → ℕ → Fs → Rd) (at : List ℕ → NegotiateFlags → Fs) (cut : Fs → Fs) (said : Rd → Rd) →
       8 ≤ k.fixed → ((w : NegotiateFlags) (n : ℕ) (f : Fs) → said (rest w n f) ≡ rest w n (cut f)) →
       cut (at a (flags_at a k.flags)) ≡ cut (at b (flags_at a k.flags)) →
-      said (on_flags refuse (read_head (layout_of k) a) (λ w. rest w (length a) (at a w))) ≡ said (on_flags refuse (read_head (layout_of k) b) (λ w. rest w (length b) (at b w)))
-  read_same {Fs} {Rd} refuse rest at cut said wide by same = go (read_head (layout_of k) a) (head_judged k a wide) ∙ ap (λ (h : Head). said (of b h)) head_same where
-    of : List ℕ → Head → Rd
-    of s h = on_flags refuse h (λ w. rest w (length s) (at s w))
+      said (on_ok refuse (read_head (layout_of k) a) (λ w. rest w (length a) (at a w))) ≡ said (on_ok refuse (read_head (layout_of k) b) (λ w. rest w (length b) (at b w)))
+  read_same {Fs} {Rd} refuse rest at cut said wide by same = go (read_head (layout_of k) a) (head_judged k a wide) ∙ ap (λ (h : Result NegotiateFlags Refusal). said (of b h)) head_same where
+    of : List ℕ → Result NegotiateFlags Refusal → Rd
+    of s h = on_ok refuse h (λ w. rest w (length s) (at s w))
 
-    go : (h : Head) → JudgedH k a h → said (of a h) ≡ said (of b h)
-    go (Flags w) j =
+    go : (h : Result NegotiateFlags Refusal) → JudgedH k a h → said (of a h) ≡ said (of b h)
+    go (Ok w) j =
         rw j.0
         (by (flags_at a k.flags) (length a) _ ∙ ap (λ (f : Fs). rest (flags_at a k.flags) (length a) f) same
         ∙ ap (λ (n : ℕ). rest (flags_at a k.flags) n (cut (at b (flags_at a k.flags)))) d.length_same
         ∙ sym (by (flags_at a k.flags) (length b) _))
-    go (Stopped e) j = refl
+    go (Err e) j = refl
 
   -- and so is what a field covers
   pub bytes_same : (i : ℕ) (f : Field) → Stands k a i f → (Fails k a 6 i → ⊥) → (Fails k a 7 i → ⊥) → SameBytes a b f

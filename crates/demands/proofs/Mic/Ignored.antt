@@ -1,11 +1,12 @@
 -- Ignored bytes and MaxLen of the three messages change no refusal of the MIC's calls.
+use Rattle.std.specs.Prelude.{Result, Ok, Err}
+use Rattle.read_authenticate.specs.declared.Authenticate.{Authenticate}
+use Rattle.wire.specs.declared.refusal.Refusal.{Refusal}
 use Prim.Native.Nat.{ℕ}
 use mathlib.Core.Path.{◌≡◌, refl, sym, ap, ◌∙◌}
 use mathlib.Core.List.{List}
 use lib.ListN.{length}
 use Rattle.head.specs.declared.Kind.TheVariants.{Negotiate, Challenge}
-use Rattle.read_authenticate.specs.declared.Reading.{Reading}
-use Rattle.read_authenticate.specs.declared.Reading.TheVariants.{Taken, Refused}
 use Rattle.read_authenticate.specs.Authenticate.{read_authenticate}
 use Rattle.mic.specs.Mic.{authenticate_verdict, check_inputs}
 use Rattle.demands.specs.MaxLen.{authenticate_without_max_len}
@@ -16,9 +17,9 @@ use Rattle.demands.proofs.Ignored.{authenticate_ignored}
 use Rattle.demands.proofs.Mic.{same_refusals}
 
 -- the AUTHENTICATE's verdict doesn't go by MaxLen
-bare_verdict : (r : Reading) → authenticate_verdict r ≡ authenticate_verdict (authenticate_without_max_len r)
-bare_verdict (Taken a) = refl
-bare_verdict (Refused e) = refl
+bare_verdict : (r : Result Authenticate Refusal) → authenticate_verdict r ≡ authenticate_verdict (authenticate_without_max_len r)
+bare_verdict (Ok a) = refl
+bare_verdict (Err e) = refl
 
 auth_same : (s t : List ℕ) → DifferInIgnored authenticate s t →
     authenticate_verdict (read_authenticate s).reading ≡ authenticate_verdict (read_authenticate t).reading

@@ -1,4 +1,6 @@
 -- Sixteen bytes put at 72 of the AUTHENTICATE: the check says yes to what is worked out, and to nothing else.
+use Rattle.std.specs.Prelude.{Result, Ok, Err}
+use Rattle.wire.specs.declared.refusal.Refusal.{Refusal}
 use Prim.Native.Nat.{ℕ, suc, ◌+◌, ◌≤◌, ◌<◌}
 use mathlib.Core.Path.{◌≡◌, refl, sym, ap, ◌∙◌}
 use mathlib.Core.Logic.{◌⊎◌, inl, inr}
@@ -9,9 +11,6 @@ use borrow.Author.Tests.{leb-true, leb-false, ltb-true, ltb-false}
 use lib.Dec.{leb, ltb}
 use lib.ListN.{length, get_or, set, take, drop, length-take}
 use lib.Seq.{sets, sets-eq, length-sets, get_or-set_other, take_at, drop_at}
-use Rattle.wire.specs.declared.check.Verdict.TheVariants.{Clear, Refused as Not}
-use Rattle.mic.specs.declared.Checking.{Checking}
-use Rattle.mic.specs.declared.Checking.TheVariants.{Compared, Refused}
 use Rattle.mic.specs.declared.Computed.{Computed}
 use Rattle.mic.specs.Mic.{computed_mic, check_mic}
 use Rattle.mic.proofs.Laws.{passed}
@@ -32,7 +31,7 @@ put vs l i n e h =
     let at : length (take i l) ≡ i = simp length-take (omega arith) in
     ap (λ (x : List ℕ). take n (drop i x)) there ∙ ap (take n) (drop_at (take i l) (vs ++ drop (i + length vs) l) i at) ∙ take_at vs (drop (i + length vs) l) n e
 
-module _ (key nego chal auth bytes : List ℕ) (clear : (computed_mic key nego chal auth).verdict ≡ Clear) (l : length bytes ≡ 16) where
+module _ (key nego chal auth bytes : List ℕ) (clear : (computed_mic key nego chal auth).verdict ≡ Ok tt) (l : length bytes ≡ 16) where
   t : List ℕ
   t = sets auth 72 bytes
 
@@ -54,18 +53,18 @@ module _ (key nego chal auth bytes : List ℕ) (clear : (computed_mic key nego c
   agree : Agree key nego chal t
   agree = mic_agree key nego chal t
 
-  clear_too : (computed_mic key nego chal t).verdict ≡ Clear
+  clear_too : (computed_mic key nego chal t).verdict ≡ Ok tt
   clear_too = ap (λ (w : Computed). w.verdict) same ∙ clear
 
   mic_same : (computed_mic key nego chal t).mic ≡ (computed_mic key nego chal auth).mic
   mic_same = ap (λ (w : Computed). w.mic) same
 
   -- of the check's three answers one is left for other bytes
-  otherwise : (bytes ≡ (computed_mic key nego chal auth).mic → ⊥) → (c : Checking) → check_mic key nego chal t ≡ c → c ≡ Compared false
-  otherwise other (Compared true) e = absurd (other (sym there ∙ (agree.yes.0 e).1 ∙ mic_same))
-  otherwise other (Compared false) e = refl
-  otherwise other (Refused d) e =
-      absurd (let q : Clear ≡ Not d = sym clear_too ∙ (agree.refused d).0 e in let z : ◌≡◌ {A = ℕ} 0 1 = cc in omega arith)
+  otherwise : (bytes ≡ (computed_mic key nego chal auth).mic → ⊥) → (c : Result Bool Refusal) → check_mic key nego chal t ≡ c → c ≡ Ok false
+  otherwise other (Ok true) e = absurd (other (sym there ∙ (agree.yes.0 e).1 ∙ mic_same))
+  otherwise other (Ok false) e = refl
+  otherwise other (Err d) e =
+      absurd (let q : (Ok tt) ≡ Err d = sym clear_too ∙ (agree.refused d).0 e in let z : ◌≡◌ {A = ℕ} 0 1 = cc in omega arith)
 
   put_in : PutIn key nego chal auth bytes
   unfolding t

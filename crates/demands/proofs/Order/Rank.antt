@@ -1,4 +1,5 @@
 -- The first failure of a table of checks, for any table and any order of its checks.
+use Rattle.std.specs.Prelude.{Result, Ok, Err, ⊤}
 use Prim.Native.Nat.{ℕ, ◌+◌, ◌≤◌, ◌<◌}
 use mathlib.Core.Path.{◌≡◌, refl, sym, ◌∙◌, subst}
 use mathlib.Core.Logic.{◌⊎◌, inl, inr, ⊎_elim}
@@ -10,8 +11,6 @@ use lib.ListN.{length}
 use borrow.Author.Tests.{ltb-true, ltb-false, eqb-true}
 use Rattle.wire.specs.declared.check.Checked.{Checked}
 use Rattle.wire.specs.declared.check.Checked.TheVariants.{Held, Failed}
-use Rattle.wire.specs.declared.check.Verdict.{Verdict}
-use Rattle.wire.specs.declared.check.Verdict.TheVariants.{Clear, Refused as Not}
 use Rattle.wire.specs.declared.refusal.Refusal.{Refusal}
 use Rattle.wire.specs.Check.{over_all, on_clear}
 use Rattle.wire.specs.Refusal.{number_of, field_of}
@@ -80,14 +79,14 @@ module _ (rank : ℕ → ℕ) (F : ℕ → ℕ → Type 0) where
       ⊎_elim (λ l. f m j (inl l) w) (λ q. h j q.1 (subst (λ (x : ℕ). F x j) q.0 w)) b
 
   -- what a verdict says: nothing fails up to the next check, or its refusal is the first failure
-  abbrev pub JudgedBy : ℕ → Verdict → Type 0
-  JudgedBy next Clear = FreeBy next 0
-  JudgedBy next (Not e) = FirstBy rank F (number_of e) (field_of e)
+  abbrev pub JudgedBy : ℕ → Result ⊤ Refusal → Type 0
+  JudgedBy next (Ok tt) = FreeBy next 0
+  JudgedBy next (Err e) = FirstBy rank F (number_of e) (field_of e)
 
   -- a group of checks, and what follows it
-  pub then_by : (m next : ℕ) (v x : Verdict) → JudgedBy m v → (FreeBy m 0 → JudgedBy next x) → JudgedBy next (on_clear Not v x)
-  then_by m next Clear x j f = f j
-  then_by m next (Not e) x j f = j
+  pub then_by : (m next : ℕ) (v x : Result ⊤ Refusal) → JudgedBy m v → (FreeBy m 0 → JudgedBy next x) → JudgedBy next (on_clear Err v x)
+  then_by m next (Ok tt) x j f = f j
+  then_by m next (Err e) x j f = j
 
 -- a check over numbered things, against the table's row n, from number i on
 abbrev pub LinksBy : {A : Type 0} → (ℕ → ℕ → Type 0) → ℕ → (A → Checked) → ℕ → List (ℕ × A) → Type 0
@@ -102,7 +101,7 @@ pub over_judged_by : {A : Type 0} (rank : ℕ → ℕ) (F : ℕ → ℕ → Type
 over_judged_by rank F n next ok e is-next only named [] i links free rest =
     next_check_by rank F n i next is-next only free (λ j l. rest j (omega arith))
 over_judged_by rank F n next ok e is-next only named (f ∷ fs) i links free rest =
-    chained (JudgedBy rank F next) (ok f.1) (Not (e f.0)) (over_all ok e fs)
+    chained (JudgedBy rank F next) (ok f.1) (Err (e f.0)) (over_all ok e fs)
     (λ failed. rw ((named f.0).0, (named f.0).1, links.0) (first_by rank F n i free (links.1 failed)))
     (λ held.
     over_judged_by rank F n next ok e is-next only named fs (i + 1) links.3

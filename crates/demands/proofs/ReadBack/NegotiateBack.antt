@@ -1,4 +1,7 @@
 -- A NEGOTIATE that is written reads back, and its writing keeps what it doesn't write.
+use Rattle.std.specs.Prelude.{Result, Ok, Err}
+use Rattle.read_negotiate.specs.declared.Negotiate.{Negotiate}
+use Rattle.wire.specs.declared.refusal.Refusal.{Refusal}
 use Prim.Native.Nat.{ℕ, ◌+◌, ◌/◌, ◌%◌, ◌≤◌, ◌<◌}
 use mathlib.Core.Path.{◌≡◌, refl, sym, ap, ◌∙◌, subst}
 use mathlib.Core.Logic.{◌↔◌, ⊎_elim}
@@ -10,7 +13,6 @@ use lib.ListN.{length, take, drop}
 use lib.Seq.{take_at}
 use borrow.Author.Tests.{eqb-true, eqb-false, leb-true}
 use Rattle.wire.specs.declared.check.Checked.TheVariants.{Held}
-use Rattle.wire.specs.declared.check.Verdict.TheVariants.{Clear}
 use Rattle.wire.specs.declared.refusal.Refusal.TheVariants.{NoCharset, TooLongToWrite, NoRoom}
 use Rattle.wire.specs.Number.{u32_at, with_bit}
 use Rattle.wire.proofs.Laws.{held_true}
@@ -25,8 +27,6 @@ use Rattle.place.proofs.Numbers.{length-le32, back32}
 use Rattle.write_field.specs.Writing.{version_bytes}
 use Rattle.write_field.proofs.Laws.{length-version}
 use Rattle.read_negotiate.specs.declared.Fields.{Fields}
-use Rattle.read_negotiate.specs.declared.Reading.{Reading}
-use Rattle.read_negotiate.specs.declared.Reading.TheVariants.{Taken, Refused}
 use Rattle.read_negotiate.specs.Negotiate.{read_negotiate}
 use Rattle.write_negotiate.specs.Writing.{nonempty, flags_to_write, fields_to, after_type, fixed_bytes, negotiate_bytes, size_to_write, check_to_write, write_answer, write_out}
 use Rattle.write_negotiate.proofs.Sent.{length-message}
@@ -211,8 +211,8 @@ module _ (w : NegotiateFlags) (v dom wks : List ℕ) (v8 : length v ≡ 8) where
 
   back : charset_holds w ≡ Held → length M ≤ 65535 → NegotiateBack M w dom wks
   back charset size = go (read_negotiate M) refl ((negotiate_judged M).taken.1 (none_fails charset size)) where
-    go : (r : Reading) → read_negotiate M ≡ r → IsTaken (nego_verdict r) → NegotiateBack M w dom wks
-    go (Taken m) e t =
+    go : (r : Result Negotiate Refusal) → read_negotiate M ≡ r → IsTaken (nego_verdict r) → NegotiateBack M w dom wks
+    go (Ok m) e t =
         let o = negotiate_own M m e in
         let same : m.flags.bits ≡ x.bits = o.flags ∙ flags_back in
         record {
@@ -222,7 +222,7 @@ module _ (w : NegotiateFlags) (v dom wks : List ℕ) (v8 : length v ≡ 8) where
           workstation_same = own_same negotiate M 2 m.fields.workstation wks o.workstation workstation_counts len2 (at_offset 2 (length wks) _ wks off2 fields.1.0);
           flags_same = subst (λ (n : ℕ). BitsByNames n w.bits dom wks) (sym same) by_names;
         }
-    go (Refused d) e t = absurd t
+    go (Err d) e t = absurd t
 
 -- what a message that is written went through
 pub record Writable (room : ℕ) (w : NegotiateFlags) (dom wks : List ℕ) : Type 0 where
@@ -230,7 +230,7 @@ pub record Writable (room : ℕ) (w : NegotiateFlags) (dom wks : List ℕ) : Typ
   pub size : size_to_write dom wks ≤ 65535
   pub room_there : size_to_write dom wks ≤ room
 
-pub writable : (room : ℕ) (w : NegotiateFlags) (dom wks : List ℕ) → check_to_write room w dom wks ≡ Clear → Writable room w dom wks
+pub writable : (room : ℕ) (w : NegotiateFlags) (dom wks : List ℕ) → check_to_write room w dom wks ≡ Ok tt → Writable room w dom wks
 unfolding check_to_write
 writable room w dom wks h =
     let c = after_held (charset_holds w) NoCharset _ h in

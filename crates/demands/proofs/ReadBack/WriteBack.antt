@@ -1,4 +1,7 @@
 -- What AUTHENTICATE's writer writes, byte by byte.
+use Rattle.std.specs.Prelude.{Result, Ok, Err}
+use Rattle.read_authenticate.specs.declared.Authenticate.{Authenticate}
+use Rattle.wire.specs.declared.refusal.Refusal.{Refusal}
 use Prim.Native.Nat.{ℕ, ◌+◌, ◌-◌, ◌/◌, ◌%◌, ◌≤◌, ◌<◌}
 use mathlib.Core.Path.{◌≡◌, refl, sym, ap, ◌∙◌, subst}
 use mathlib.Core.Bool.{Bool, true, false, ◌||◌, ◌&&◌, not}
@@ -11,7 +14,6 @@ use lib.Seq.{take_at, get_or-append-add}
 use borrow.Author.Tests.{eqb-true, eqb-false, eq-eqb, leb-true, ltb-true, ltb-false}
 use Rattle.field.specs.declared.Field.{Field}
 use Rattle.wire.specs.declared.check.Checked.TheVariants.{Held}
-use Rattle.wire.specs.declared.check.Verdict.TheVariants.{Clear}
 use Rattle.wire.proofs.Laws.{held_true}
 use Rattle.negotiate_flags.specs.declared.NegotiateFlags.{NegotiateFlags}
 use Rattle.wire.specs.declared.refusal.Refusal.TheVariants.{NoCharset, OddNameToWrite, WrongKey, TooLongToWrite}
@@ -23,8 +25,6 @@ use Rattle.place.specs.Place.{le32}
 use Rattle.place.specs.Written.{size_holds}
 use Rattle.place.proofs.Numbers.{length-le32, back32}
 use Rattle.read_authenticate.specs.declared.Fields.{Fields}
-use Rattle.read_authenticate.specs.declared.Reading.{Reading}
-use Rattle.read_authenticate.specs.declared.Reading.TheVariants.{Taken, Refused}
 use Rattle.read_authenticate.specs.Authenticate.{read_authenticate}
 use Rattle.demands.proofs.Bools.{true_not_false, or-either, after_held}
 use Rattle.demands.proofs.Kept.{clear_both}
@@ -205,7 +205,7 @@ module _ (w : NegotiateFlags) (v mic lm nt dom usr wks key : List ℕ) (v8 : len
       (omega (arith, off1)) (omega (arith, off2)) (omega (arith, off3)) (omega (arith, off4)) (omega (arith, off5)) (omega (arith, off6))
 
   -- the written message passes every check
-  module _ (charset : charset_holds w ≡ Held) (names : check_names_to_write (unicode w) dom usr wks ≡ Clear) (size : length M ≤ 65535) where
+  module _ (charset : charset_holds w ≡ Held) (names : check_names_to_write (unicode w) dom usr wks ≡ Ok tt) (size : length M ≤ 65535) where
     flag : (mask : ℕ) → eqb (w.bits / mask % 2) 1 ≡ true → Set authenticate M mask
     flag mask e = ap (λ (n : ℕ). n / mask % 2) flags_back ∙ eqb-true _ 1 e
 
@@ -270,8 +270,8 @@ module _ (w : NegotiateFlags) (v mic lm nt dom usr wks key : List ℕ) (v8 : len
 
     back : key_holds w key ≡ Held → AuthenticateBack M w mic lm nt dom usr wks key
     back held = go (read_authenticate M).reading refl ((authenticate_judged M).taken.1 none_fails) where
-      go : (r : Reading) → (read_authenticate M).reading ≡ r → IsTaken (auth_verdict r) → AuthenticateBack M w mic lm nt dom usr wks key
-      go (Taken a) e t =
+      go : (r : Result Authenticate Refusal) → (read_authenticate M).reading ≡ r → IsTaken (auth_verdict r) → AuthenticateBack M w mic lm nt dom usr wks key
+      go (Ok a) e t =
           let o = authenticate_own M a e in
           record {
             message = a;
@@ -286,7 +286,7 @@ module _ (w : NegotiateFlags) (v mic lm nt dom usr wks key : List ℕ) (v8 : len
             workstation_same = own_same authenticate M 5 a.fields.workstation wks o.workstation (counted 5 (omega arith) (omega arith)) len5 (at_offset 5 (length wks) _ wks off5 fields.1.1.0);
             key_same = own_same authenticate M 6 a.fields.key key o.key (key_counts held) len6 (at_offset 6 (length key) _ key off6 fields.1.1.1.1.1.0);
           }
-      go (Refused d) e t = absurd t
+      go (Err d) e t = absurd t
 
 -- two messages with secrets of the same lengths: alike outside the secrets and the MIC
 module _ (w : NegotiateFlags) (v dom usr wks mic lm nt key mic' lm' nt' key' : List ℕ) (v8 : length v ≡ 8) (Long-as : AsLong mic lm nt key mic' lm' nt' key') where
@@ -419,7 +419,7 @@ authenticate_reads_back out w v mic lm nt dom usr wks key n v8 m16 h =
     (back w v mic lm nt dom usr wks key v8 m16 c.0 m.0 (omega (arith, size, long w v mic lm nt dom usr wks key v8 m16)) k.0)
 
 -- a written message's key passed check 32
-pub key_held : (room : ℕ) (w : NegotiateFlags) (lm nt dom usr wks key : List ℕ) → check_to_write room w lm nt dom usr wks key ≡ Clear → key_holds w key ≡ Held
+pub key_held : (room : ℕ) (w : NegotiateFlags) (lm nt dom usr wks key : List ℕ) → check_to_write room w lm nt dom usr wks key ≡ Ok tt → key_holds w key ≡ Held
 unfolding check_to_write
 key_held room w lm nt dom usr wks key h =
     let c = after_held (charset_holds w) NoCharset _ h in

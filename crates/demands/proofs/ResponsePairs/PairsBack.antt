@@ -1,4 +1,6 @@
 -- The pair list that goes back: its bytes against those of the list that came in.
+use Rattle.std.specs.Prelude.{Result, Option, Ok, Err, Some, None, is_some}
+use Rattle.wire.specs.declared.refusal.Refusal.{Refusal}
 use Prim.Native.Nat.{ℕ, zero, suc, ◌+◌, ◌/◌, ◌%◌, ◌^◌, ◌<◌}
 use mathlib.Core.Path.{◌≡◌, refl, sym, ap, ◌∙◌, subst}
 use mathlib.Core.Bool.{Bool, true, false, ◌||◌, ◌&&◌, not, cond}
@@ -12,10 +14,7 @@ use lib.ListN.{length, take, drop, length-append, length-take, length-drop}
 use Rattle.av_id.specs.declared.AvId.{AvId}
 use Rattle.av_id.specs.AvId.{is_end, is_flags, is_timestamp, size_allowed}
 use Rattle.av_pairs.specs.declared.AvPair.{AvPair}
-use Rattle.av_pairs.specs.declared.Found.TheVariants.{At}
-use Rattle.av_pairs.specs.declared.Step.{Step}
-use Rattle.av_pairs.specs.declared.Step.TheVariants.{Pair, End, Refused}
-use Rattle.av_pairs.specs.AvPairs.{id_at, step_at, end_of, pairs_of, is_there, Valued, value_in, with_values, values_of}
+use Rattle.av_pairs.specs.AvPairs.{id_at, step_at, end_of, pairs_of, Valued, value_in, with_values, values_of}
 use Rattle.av_pairs.proofs.Walks as walks
 use Rattle.av_pairs.proofs.Walks.{pairs_at, values_at, pairs_pair}
 use Rattle.place.specs.Place.{le32}
@@ -37,10 +36,10 @@ use Rattle.demands.proofs.PairList.{size_is, is_size, JudgedS, step_judged, pair
 
 -- ---- whether a pair is there
 
-has_first : (s : List ℕ) (is : AvId → Bool) (ps : List AvPair) → is_there (first_by is ps) ≡ has_pair is (with_values s ps)
+has_first : (s : List ℕ) (is : AvId → Bool) (ps : List AvPair) → is_some (first_by is ps) ≡ has_pair is (with_values s ps)
 has_first s is [] = refl
 has_first s is (p ∷ ps) = go (is p.id) (has_first s is ps) where
-  go : (b : Bool) → is_there (first_by is ps) ≡ has_pair is (with_values s ps) → is_there (cond b (At p) (first_by is ps)) ≡ b || has_pair is (with_values s ps)
+  go : (b : Bool) → is_some (first_by is ps) ≡ has_pair is (with_values s ps) → is_some (cond b (Some p) (first_by is ps)) ≡ b || has_pair is (with_values s ps)
   go true ih = refl
   go false ih = ih
 
@@ -152,20 +151,20 @@ module _ (b : List ℕ) (some : 0 < length b) (at : ℕ) where
   pub values_pair : PairAt b at → values_at b at ≡ came ∷ values_at b (next_of b at)
   unfolding values_at
   values_pair w = go (step_at b at) refl (step_judged b at some) where
-    go : (x : Step) → step_at b at ≡ x → JudgedS b at x → with_values b (pairs_at b at) ≡ came ∷ with_values b (pairs_at b (next_of b at))
-    go (Pair p) e j =
-        ap (λ (ps : List AvPair). with_values b ps) (pairs_pair b at (Pair p) (sym e) p refl)
+    go : (x : Result (Option AvPair) Refusal) → step_at b at ≡ x → JudgedS b at x → with_values b (pairs_at b at) ≡ came ∷ with_values b (pairs_at b (next_of b at))
+    go (Ok (Some p)) e j =
+        ap (λ (ps : List AvPair). with_values b ps) (pairs_pair b at (Ok (Some p)) (sym e) p refl)
         ∙ ap (λ (q : AvPair). (q.id, value_in b q) ∷ with_values b (pairs_at b (end_of q))) j.1
-    go End e j = absurd (pair_or_end b at w j)
-    go (Refused f) e j = absurd (pair_or_fault b at (number_of f) w j.0)
+    go (Ok None) e j = absurd (pair_or_end b at w j)
+    go (Err f) e j = absurd (pair_or_fault b at (number_of f) w j.0)
 
   pub values_end : EndAt b at → values_at b at ≡ []
   unfolding values_at
   values_end w = go (step_at b at) refl (step_judged b at some) where
-    go : (x : Step) → step_at b at ≡ x → JudgedS b at x → with_values b (pairs_at b at) ≡ []
-    go (Pair p) e j = absurd (pair_or_end b at j.0 w)
-    go End e j = ap (λ (ps : List AvPair). with_values b ps) (walks.at_end b at End (sym e) refl).0
-    go (Refused f) e j = absurd (end_or_fault b at (number_of f) w j.0)
+    go : (x : Result (Option AvPair) Refusal) → step_at b at ≡ x → JudgedS b at x → with_values b (pairs_at b at) ≡ []
+    go (Ok (Some p)) e j = absurd (pair_or_end b at j.0 w)
+    go (Ok None) e j = ap (λ (ps : List AvPair). with_values b ps) (walks.at_end b at (Ok None) (sym e) refl).0
+    go (Err f) e j = absurd (end_or_fault b at (number_of f) w j.0)
 
   pub value_long : PairAt b at → length (pair_value b at) ≡ size_of b at
   value_long w = simp (length-take, length-drop) (omega (arith, w.whole))

@@ -1,36 +1,31 @@
 -- Answering a challenge tells no secret.
+use Rattle.wire.specs.Check.{on_ok}
+use Rattle.std.specs.Prelude.{Result, Ok, Err, ⊤}
+use Rattle.wire.specs.declared.refusal.Refusal.{Refusal}
 use Prim.Native.Nat.{ℕ}
 use mathlib.Core.Path.{◌≡◌, refl, sym, ap, ◌∙◌}
 use mathlib.Core.Bool.{Bool, true, false, ◌&&◌, ◌||◌, cond}
 use mathlib.Core.List.{List, []}
 use native.Mathlib.Omega.{arith}
 use lib.ListN.{length, take, replicate, length-append}
-use Rattle.wire.specs.declared.check.Verdict.{Verdict}
-use Rattle.wire.specs.declared.check.Verdict.TheVariants.{Clear, Refused as Not}
 use Rattle.negotiate_flags.specs.declared.NegotiateFlags.{NegotiateFlags}
 use Rattle.negotiate_flags.specs.Flags.{key_exch, sign, seal}
-use Rattle.place.specs.declared.written.Written.{Written}
-use Rattle.place.specs.declared.written.Written.TheVariants.{Length, Refused as Unwritten}
 use Rattle.place.specs.Written.{answered}
 use Rattle.write_authenticate.specs.Writing.{payload_bytes, authenticate_bytes, check_to_write, write_answer, write_out}
 use Rattle.respond.specs.declared.answer.Answer.{Answer}
-use Rattle.respond.specs.declared.answer.Answered.{Answered}
-use Rattle.respond.specs.declared.answer.Answered.TheVariants.{Sent, Refused}
-use Rattle.respond.specs.declared.decision.Decided.{Decided}
-use Rattle.respond.specs.declared.decision.Decided.TheVariants.{Taken as Decides, Refused as Declines}
 use Rattle.respond.specs.declared.decision.Decision.{Decision}
 use Rattle.respond.specs.declared.decision.Settings.{Settings}
 use Rattle.respond.specs.Answer.{mic_due, time_to_send, lm_to_send, mic_to_send, key_to_send, answer_with, Supplied, Effect, refusing, sending, with_domain, respond_to}
-use Rattle.respond.specs.Decision.{decision_on, on_decided}
+use Rattle.respond.specs.Decision.{decision_on}
 use Rattle.respond.specs.Domain.{domain_to_send}
 use Rattle.demands.specs.Secret.{AsLong, AlikeOutside, with_secrets, AnsweredAlike, SecretAnswered, ThinCallsSecret}
 use Rattle.demands.specs.ThinCalls.{settings_for}
 use Rattle.demands.proofs.ReadBack.{written_is}
 use Rattle.demands.proofs.ReadBack.WriteBack.{messages_alike, key_held}
 
-answered_same : (v : Verdict) (x y : List ℕ) → length x ≡ length y → answered v x ≡ answered v y
-answered_same Clear x y e = ap Length e
-answered_same (Not d) x y e = refl
+answered_same : (v : Result ⊤ Refusal) (x y : List ℕ) → length x ≡ length y → answered v x ≡ answered v y
+answered_same (Ok tt) x y e = ap Ok e
+answered_same (Err d) x y e = refl
 
 -- writing, twice
 module _ (room room' : ℕ) (rooms : room ≡ room') (w : NegotiateFlags) (v dom usr wks mic lm nt key mic' lm' nt' key' : List ℕ) (v8 : length v ≡ 8) (same : AsLong mic lm nt key mic' lm' nt' key') where
@@ -41,18 +36,18 @@ module _ (room room' : ℕ) (rooms : room ≡ room') (w : NegotiateFlags) (v dom
   pub write_same : write_answer room w v mic lm nt dom usr wks key ≡ write_answer room' w v mic' lm' nt' dom usr wks key'
   unfolding write_answer
   write_same = go (check_to_write room w lm nt dom usr wks key) refl where
-    go : (x : Verdict) → check_to_write room w lm nt dom usr wks key ≡ x →
+    go : (x : Result ⊤ Refusal) → check_to_write room w lm nt dom usr wks key ≡ x →
         answered (check_to_write room w lm nt dom usr wks key) (authenticate_bytes w v mic lm nt dom usr wks key)
         ≡ answered (check_to_write room' w lm' nt' dom usr wks key') (authenticate_bytes w v mic' lm' nt' dom usr wks key')
-    go Clear e =
+    go (Ok tt) e =
         rw (← verdict_same)
         (answered_same (check_to_write room w lm nt dom usr wks key) (authenticate_bytes w v mic lm nt dom usr wks key) (authenticate_bytes w v mic' lm' nt' dom usr wks key')
         (messages_alike w v dom usr wks mic lm nt key mic' lm' nt' key' v8 same (key_held room w lm nt dom usr wks key e)).length_same)
-    go (Not d) e = rw (← verdict_same, e)
+    go (Err d) e = rw (← verdict_same, e)
 
 -- the messages that are written
 pub written_alike : (out out' : List ℕ) → length out ≡ length out' → (w : NegotiateFlags) (v dom usr wks mic lm nt key mic' lm' nt' key' : List ℕ) → length v ≡ 8 →
-    AsLong mic lm nt key mic' lm' nt' key' → (n : ℕ) → write_answer (length out) w v mic lm nt dom usr wks key ≡ Length n →
+    AsLong mic lm nt key mic' lm' nt' key' → (n : ℕ) → write_answer (length out) w v mic lm nt dom usr wks key ≡ Ok n →
     AlikeOutside (take n (write_out out w v mic lm nt dom usr wks key)) (take n (write_out out' w v mic' lm' nt' dom usr wks key'))
 unfolding write_answer write_out
 written_alike out out' rooms w v dom usr wks mic lm nt key mic' lm' nt' key' v8 same n h =
@@ -89,12 +84,12 @@ sent_long settings d mic lm nt key mic' lm' nt' key' s =
     other x y false p = p
 
 -- an answer that was sent was written
-pub sent_written : (r : Written) (time : ℕ) (due : Bool) (x : Answer) → answer_with r time due ≡ Sent x → r ≡ Length x.len
-sent_written (Length n) time due x h = ap Length (ap len h) where
-  len : Answered → ℕ
-  len (Sent y) = y.len
-  len (Refused e) = 0
-sent_written (Unwritten e) time due x h = absurd (let z : ◌≡◌ {A = ℕ} 0 1 = cc in omega arith)
+pub sent_written : (r : Result ℕ Refusal) (time : ℕ) (due : Bool) (x : Answer) → answer_with r time due ≡ Ok x → r ≡ Ok x.len
+sent_written (Ok n) time due x h = ap Ok (ap len h) where
+  len : Result Answer Refusal → ℕ
+  len (Ok y) = y.len
+  len (Err e) = 0
+sent_written (Err e) time due x h = absurd (let z : ◌≡◌ {A = ℕ} 0 1 = cc in omega arith)
 
 pub secret_answered : SecretAnswered
 unfolding respond_to sending
@@ -102,23 +97,23 @@ secret_answered settings s x out mic lm nt key rooms v8 same = go (decision_on s
   dom : List ℕ
   dom = domain_to_send x.domain s
 
-  effect : Decided → Supplied → Effect
-  effect d y = on_decided (refusing y) d (λ z. sending settings z (with_domain dom y))
+  effect : Result Decision Refusal → Supplied → Effect
+  effect d y = on_ok (refusing y) d (λ z. sending settings z (with_domain dom y))
 
-  go : (d : Decided) → AnsweredAlike (effect d x) (effect d (with_secrets x out mic lm nt key))
-  go (Decides d) =
+  go : (d : Result Decision Refusal) → AnsweredAlike (effect d x) (effect d (with_secrets x out mic lm nt key))
+  go (Ok d) =
       let as_long = sent_long settings d x.mic x.lm x.nt x.key mic lm nt key same in
       let ts = d.timestamp in
       record {
         answer =
-            ap (λ (r : Written). answer_with r (time_to_send settings ts x.clock) (mic_due ts))
+            ap (λ (r : Result ℕ Refusal). answer_with r (time_to_send settings ts x.clock) (mic_due ts))
             (write_same (length x.out) (length out) rooms d.flags x.version dom x.user x.workstation (mic_to_send ts x.mic) (lm_to_send settings ts x.lm) x.nt (key_to_send d.flags x.key) (mic_to_send ts mic) (lm_to_send settings ts lm) nt (key_to_send d.flags key) v8 as_long);
         messages = λ a h.
             written_alike x.out out rooms d.flags x.version dom x.user x.workstation (mic_to_send ts x.mic) (lm_to_send settings ts x.lm) x.nt (key_to_send d.flags x.key) (mic_to_send ts mic) (lm_to_send settings ts lm) nt (key_to_send d.flags key) v8 as_long a.len
             (sent_written _ (time_to_send settings ts x.clock) (mic_due ts) a h);
       }
-  go (Declines e) = record { answer = refl; messages = λ a h. absurd (not-sent a h) } where
-    not-sent : (a : Answer) → Refused e ≡ Sent a → ⊥
+  go (Err e) = record { answer = refl; messages = λ a h. absurd (not-sent a h) } where
+    not-sent : (a : Answer) → ◌≡◌ {A = Result Answer Refusal} (Err e) (Ok a) → ⊥
     not-sent a h = let z : ◌≡◌ {A = ℕ} 0 1 = cc in omega arith
 
 pub thin_calls_secret : ThinCallsSecret

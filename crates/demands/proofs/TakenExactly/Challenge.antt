@@ -1,4 +1,7 @@
 -- CHALLENGE is taken exactly when every check holds, and refused by the first that fails.
+use Rattle.wire.specs.Check.{on_ok}
+use Rattle.std.specs.Prelude.{Result, Ok, Err, ⊤}
+use Rattle.wire.specs.declared.refusal.Refusal.{Refusal}
 use Prim.Native.Nat.{ℕ, ◌+◌, ◌<◌}
 use mathlib.Core.Path.{◌≡◌, refl, sym, ap, ◌∙◌, subst}
 use mathlib.Core.Bool.{Bool, true, false}
@@ -6,25 +9,18 @@ use mathlib.Core.List.{List, []}
 use native.Mathlib.Omega.{arith}
 use lib.ListN.{length, take, drop}
 use borrow.Author.Tests.{eqb-true, eqb-false, eq-eqb}
-use Rattle.wire.specs.declared.check.Verdict.{Verdict}
-use Rattle.wire.specs.declared.check.Verdict.TheVariants.{Clear, Refused as Not}
 use Rattle.field.specs.declared.Field.{Field}
 use Rattle.negotiate_flags.specs.declared.NegotiateFlags.{NegotiateFlags}
-use Rattle.head.specs.declared.Head.{Head}
-use Rattle.head.specs.declared.Head.TheVariants.{Flags, Refused as Stopped}
 use Rattle.wire.specs.declared.refusal.Refusal.TheVariants.{OddName}
 use Rattle.wire.specs.Check.{on_clear}
 use Rattle.field.specs.Field.{is_empty, field_at, even_name, field_bytes}
 use Rattle.negotiate_flags.specs.Flags.{unicode, request_target, target_info}
-use Rattle.head.specs.Head.{flags_at, read_head, on_flags}
+use Rattle.head.specs.Head.{flags_at, read_head}
 use Rattle.wire.specs.Refusal.{number_of, field_of, place_of}
 use Rattle.wire.proofs.Places.{moved_number, moved_at, placeless_number}
-use Rattle.av_pairs.specs.declared.Count.TheVariants.{Pairs, Refused as Uncounted}
 use Rattle.av_pairs.specs.AvPairs.{check_pairs, count_pairs, pairs_of}
 use Rattle.read_challenge.specs.declared.Challenge.{Challenge}
-use Rattle.read_challenge.specs.declared.Reading.{Reading}
-use Rattle.read_challenge.specs.declared.Reading.TheVariants.{Taken, Refused}
-use Rattle.read_challenge.specs.Challenge.{layout, fields_at, all_fields, names, check_ends, check_begins, check_names, check_fields, fields_of, on_taken, info_of, in_message, check_info, reading_of, read_challenge}
+use Rattle.read_challenge.specs.Challenge.{layout, fields_at, all_fields, names, check_ends, check_begins, check_names, check_fields, fields_of, info_of, in_message, check_info, reading_of, read_challenge}
 use Rattle.verdict.specs.Verdict.{chal_verdict}
 use Rattle.demands.specs.Order.{First}
 use Rattle.demands.specs.Message.{challenge, Fails, len_of, offset_of}
@@ -75,27 +71,27 @@ module _ (s : List ℕ) where
   fields_judged free =
       let f = fields_at s (flags_at s 20) in
       let u = unicode (flags_at s 20) in
-      then challenge s 7 9 (check_ends (length s) f) (on_clear Not (check_begins f) (check_names u f)) (ends_judged challenge s (all_fields f) all refl free) (λ c7.
+      then challenge s 7 9 (check_ends (length s) f) (on_clear Err (check_begins f) (check_names u f)) (ends_judged challenge s (all_fields f) all refl free) (λ c7.
       then challenge s 8 9 (check_begins f) (check_names u f) (begins_judged challenge s (all_fields f) all refl c7) names_judged)
 
   -- checks 1 to 8
-  abbrev pub JudgedF : Reading → Type 0
-  JudgedF (Taken c) = ((n i : ℕ) → Fails challenge s n i → ⊥) × (c ≡ record { flags = flags_at s 20; fields = fields_at s (flags_at s 20) })
-  JudgedF (Refused e) = First (Fails challenge s) (number_of e) (field_of e)
+  abbrev pub JudgedF : Result Challenge Refusal → Type 0
+  JudgedF (Ok c) = ((n i : ℕ) → Fails challenge s n i → ⊥) × (c ≡ record { flags = flags_at s 20; fields = fields_at s (flags_at s 20) })
+  JudgedF (Err e) = First (Fails challenge s) (number_of e) (field_of e)
 
   pub fields_of_judged : JudgedF (fields_of s)
   unfolding fields_of
   fields_of_judged = go (read_head layout s) (head_judged challenge s (omega arith)) where
-    rest : NegotiateFlags → Reading
-    rest w = on_clear Refused (check_fields (length s) (unicode w) (fields_at s w)) (Taken (record { flags = w; fields = fields_at s w }))
+    rest : NegotiateFlags → Result Challenge Refusal
+    rest w = on_clear Err (check_fields (length s) (unicode w) (fields_at s w)) (Ok (record { flags = w; fields = fields_at s w }))
 
-    last : (v : Verdict) → JudgedV challenge s 9 v → JudgedF (on_clear Refused v (Taken (record { flags = flags_at s 20; fields = fields_at s (flags_at s 20) })))
-    last Clear free = (beyond challenge s (next_check (Fails challenge s) 9 0 10 refl free (λ j l h. absurd h.2.3)), refl)
-    last (Not e) f = f
+    last : (v : Result ⊤ Refusal) → JudgedV challenge s 9 v → JudgedF (on_clear Err v (Ok (record { flags = flags_at s 20; fields = fields_at s (flags_at s 20) })))
+    last (Ok tt) free = (beyond challenge s (next_check (Fails challenge s) 9 0 10 refl free (λ j l h. absurd h.2.3)), refl)
+    last (Err e) f = f
 
-    go : (h : Head) → JudgedH challenge s h → JudgedF (on_flags Refused h rest)
-    go (Flags w) j = subst (λ (x : NegotiateFlags). JudgedF (rest x)) (sym j.0) (last (check_fields (length s) (unicode (flags_at s 20)) (fields_at s (flags_at s 20))) (fields_judged j.1))
-    go (Stopped e) j = j
+    go : (h : Result NegotiateFlags Refusal) → JudgedH challenge s h → JudgedF (on_ok Err h rest)
+    go (Ok w) j = subst (λ (x : NegotiateFlags). JudgedF (rest x)) (sym j.0) (last (check_fields (length s) (unicode (flags_at s 20)) (fields_at s (flags_at s 20))) (fields_judged j.1))
+    go (Err e) j = j
 
   -- TargetInfo's bytes of a message that passed them
   pub info_is : (b : List ℕ) → InfoBytes s b → ((n i : ℕ) → Fails challenge s n i → ⊥) → field_bytes s (fields_at s (flags_at s 20)).target_info ≡ b
@@ -118,21 +114,21 @@ info_there s = go (two s (Stands challenge s) (λ i f w. w)).1 where
     by false p = (take (len_of challenge s 2) (drop (offset_of challenge s 2) s), record { there = λ ne. refl; absent = λ none. absurd (none (w.full p)) })
 
 -- checks 10 to 13 over a list
-abbrev pub JudgedP : List ℕ → Verdict → Type 0
-JudgedP b Clear = (n : ℕ) × Holds b n
-JudgedP b (Not e) = ListFails b (number_of e) (field_of e) (place_of e)
+abbrev pub JudgedP : List ℕ → Result ⊤ Refusal → Type 0
+JudgedP b (Ok tt) = (n : ℕ) × Holds b n
+JudgedP b (Err e) = ListFails b (number_of e) (field_of e) (place_of e)
 
 pub pairs_judged : (b : List ℕ) → JudgedP b (check_pairs b)
 unfolding count_pairs
 pairs_judged b = go (check_pairs b) (count_judged b) where
-  go : (v : Verdict) → JudgedC b (on_clear Uncounted v (Pairs (length (pairs_of b)))) → JudgedP b v
-  go Clear j = (length (pairs_of b), j)
-  go (Not e) j = j
+  go : (v : Result ⊤ Refusal) → JudgedC b (on_clear Err v (Ok (length (pairs_of b)))) → JudgedP b v
+  go (Ok tt) j = (length (pairs_of b), j)
+  go (Err e) j = j
 
 module _ (s b : List ℕ) (info : InfoBytes s b) where
-  abbrev pub Judged : Reading → Type 0
-  Judged (Taken c) = ChallengeHolds s b
-  Judged (Refused e) = ChallengeFails s b (number_of e) (field_of e) (place_of e)
+  abbrev pub Judged : Result Challenge Refusal → Type 0
+  Judged (Ok c) = ChallengeHolds s b
+  Judged (Err e) = ChallengeFails s b (number_of e) (field_of e) (place_of e)
 
   abbrev field : Field
   field = (fields_at s (flags_at s 20)).target_info
@@ -147,18 +143,18 @@ module _ (s b : List ℕ) (info : InfoBytes s b) where
   pub judged : Judged (read_challenge s).reading
   unfolding read_challenge reading_of check_info
   judged = go (fields_of s) (fields_of_judged s) where
-    last : (c : Challenge) (v : Verdict) → ((n i : ℕ) → Fails challenge s n i → ⊥) → JudgedP b v → Judged (on_clear Refused (in_message field v) (Taken c))
-    last c Clear none j = record { fields = none; count = j.0; list = j.1 }
-    last c (Not e) none j =
+    last : (c : Challenge) (v : Result ⊤ Refusal) → ((n i : ℕ) → Fails challenge s n i → ⊥) → JudgedP b v → Judged (on_clear Err (in_message field v) (Ok c))
+    last c (Ok tt) none j = record { fields = none; count = j.0; list = j.1 }
+    last c (Err e) none j =
         let same = moved_number field.offset e in
         let moved = moved_at field.offset e (first_number b j.2) in
         rw (same.0, same.1) (in_list none j (moved ∙ ap (λ (x : ℕ). x + place_of e) (offset_is j.0)))
 
-    go : (r : Reading) → JudgedF s r →
-        Judged (on_taken Refused r (λ c. on_clear Refused (in_message c.fields.target_info (check_pairs (info_of s c))) (Taken c)))
-    go (Taken c) j =
+    go : (r : Result Challenge Refusal) → JudgedF s r →
+        Judged (on_ok Err r (λ c. on_clear Err (in_message c.fields.target_info (check_pairs (info_of s c))) (Ok c)))
+    go (Ok c) j =
         rw (j.1, info_is s b info j.0) (last (record { flags = flags_at s 20; fields = fields_at s (flags_at s 20) }) (check_pairs b) j.0 (pairs_judged b))
-    go (Refused e) j = in_fields (placeless_number e (λ b. omega (arith, b.0, up_to_9 challenge s (number_of e) (field_of e) j.fails))) j
+    go (Err e) j = in_fields (placeless_number e (λ b. omega (arith, b.0, up_to_9 challenge s (number_of e) (field_of e) j.fails))) j
 
 -- not both; and there is one reason only
 pub holds_or_fails : (s b : List ℕ) (n i p : ℕ) → ChallengeHolds s b → ChallengeFails s b n i p → ⊥
@@ -178,6 +174,6 @@ challenge_judged s b info =
     judged_by (ChallengeHolds s b) (ChallengeFails s b) (holds_or_fails s b) (one_reason s b)
     (chal_verdict (read_challenge s).reading) (go (read_challenge s).reading (judged s b info))
   where
-    go : (r : Reading) → Judged s b info r → By (ChallengeHolds s b) (ChallengeFails s b) (chal_verdict r)
-    go (Taken c) j = j
-    go (Refused e) j = j
+    go : (r : Result Challenge Refusal) → Judged s b info r → By (ChallengeHolds s b) (ChallengeFails s b) (chal_verdict r)
+    go (Ok c) j = j
+    go (Err e) j = j

@@ -1,5 +1,8 @@
 -- NEGOTIATE is taken exactly when every check holds, and refused by the first that fails; its names are its own; MaxLen and
 -- ignored bytes change nothing but a record's MaxLen.
+use Rattle.wire.specs.Check.{on_ok}
+use Rattle.std.specs.Prelude.{Result, Ok, Err, ⊤}
+use Rattle.wire.specs.declared.refusal.Refusal.{Refusal}
 use Prim.Native.Nat.{ℕ}
 use mathlib.Core.Path.{◌≡◌, refl, sym, ap, ◌∙◌, subst}
 use mathlib.Core.Logic.{inl}
@@ -8,21 +11,15 @@ use mathlib.Core.List.{List}
 use native.Mathlib.Omega.{arith}
 use lib.ListN.{length}
 use borrow.Author.Tests.{eqb-true, eqb-false}
-use Rattle.wire.specs.declared.check.Verdict.{Verdict}
-use Rattle.wire.specs.declared.check.Verdict.TheVariants.{Clear, Refused as Not}
 use Rattle.wire.specs.Check.{on_clear}
 use Rattle.wire.specs.Refusal.{number_of, field_of}
 use Rattle.field.specs.declared.Field.{Field}
 use Rattle.field.specs.Field.{field_at}
 use Rattle.negotiate_flags.specs.declared.NegotiateFlags.{NegotiateFlags}
 use Rattle.negotiate_flags.specs.Flags.{oem_domain_supplied, oem_workstation_supplied}
-use Rattle.head.specs.declared.Head.{Head}
-use Rattle.head.specs.declared.Head.TheVariants.{Flags, Refused as Stopped}
-use Rattle.head.specs.Head.{flags_at, read_head, on_flags}
+use Rattle.head.specs.Head.{flags_at, read_head}
 use Rattle.read_negotiate.specs.declared.Negotiate.{Negotiate}
 use Rattle.read_negotiate.specs.declared.Fields.{Fields}
-use Rattle.read_negotiate.specs.declared.Reading.{Reading}
-use Rattle.read_negotiate.specs.declared.Reading.TheVariants.{Taken, Refused}
 use Rattle.read_negotiate.specs.Negotiate.{layout, fields_at, all_fields, check_ends, check_begins, check_fields, read_negotiate}
 use Rattle.verdict.specs.Verdict.{nego_verdict}
 use Rattle.demands.specs.Order.{First}
@@ -70,15 +67,15 @@ module _ (s : List ℕ) where
       (begins_judged negotiate s (all_fields f) all refl)
 
   -- the whole reading
-  abbrev pub Judged : Reading → Type 0
-  Judged (Taken m) = ((n i : ℕ) → Fails negotiate s n i → ⊥) × (m ≡ record { flags = flags_at s 12; fields = fields_at s (flags_at s 12) })
-  Judged (Refused e) = First (Fails negotiate s) (number_of e) (field_of e)
+  abbrev pub Judged : Result Negotiate Refusal → Type 0
+  Judged (Ok m) = ((n i : ℕ) → Fails negotiate s n i → ⊥) × (m ≡ record { flags = flags_at s 12; fields = fields_at s (flags_at s 12) })
+  Judged (Err e) = First (Fails negotiate s) (number_of e) (field_of e)
 
   judged : Judged (read_negotiate s)
   unfolding read_negotiate
   judged = go (read_head layout s) (head_judged negotiate s (omega arith)) where
-    rest : NegotiateFlags → Reading
-    rest w = on_clear Refused (check_fields (length s) (fields_at s w)) (Taken (record { flags = w; fields = fields_at s w }))
+    rest : NegotiateFlags → Result Negotiate Refusal
+    rest w = on_clear Err (check_fields (length s) (fields_at s w)) (Ok (record { flags = w; fields = fields_at s w }))
 
     none : Free (Fails negotiate s) 8 0 → (n i : ℕ) → Fails negotiate s n i → ⊥
     none free =
@@ -87,22 +84,22 @@ module _ (s : List ℕ) where
         (next_check (Fails negotiate s) 8 0 9 refl free (λ j l h. absurd h.1))
         (λ j l h. absurd h.1))
 
-    last : (v : Verdict) → JudgedV negotiate s 8 v → Judged (on_clear Refused v (Taken (record { flags = flags_at s 12; fields = fields_at s (flags_at s 12) })))
-    last Clear free = (none free, refl)
-    last (Not e) f = f
+    last : (v : Result ⊤ Refusal) → JudgedV negotiate s 8 v → Judged (on_clear Err v (Ok (record { flags = flags_at s 12; fields = fields_at s (flags_at s 12) })))
+    last (Ok tt) free = (none free, refl)
+    last (Err e) f = f
 
-    go : (h : Head) → JudgedH negotiate s h → Judged (on_flags Refused h rest)
-    go (Flags w) j = subst (λ (x : NegotiateFlags). Judged (rest x)) (sym j.0) (last (check_fields (length s) (fields_at s (flags_at s 12))) (fields_judged j.1))
-    go (Stopped e) j = j
+    go : (h : Result NegotiateFlags Refusal) → JudgedH negotiate s h → Judged (on_ok Err h rest)
+    go (Ok w) j = subst (λ (x : NegotiateFlags). Judged (rest x)) (sym j.0) (last (check_fields (length s) (fields_at s (flags_at s 12))) (fields_judged j.1))
+    go (Err e) j = j
 
 pub negotiate_judged : NegotiateJudged
 negotiate_judged s = judged_first (Fails negotiate s) (up_to_9 negotiate s) (nego_verdict (read_negotiate s)) (go (read_negotiate s) (judged s)) where
-  go : (r : Reading) → Judged s r → FirstBy (Fails negotiate s) (nego_verdict r)
-  go (Taken m) j = j.0
-  go (Refused e) j = j
+  go : (r : Result Negotiate Refusal) → Judged s r → FirstBy (Fails negotiate s) (nego_verdict r)
+  go (Ok m) j = j.0
+  go (Err e) j = j
 
 -- what a taken message is answered with
-pub taken_as : (s : List ℕ) (m : Negotiate) → read_negotiate s ≡ Taken m → Judged s (Taken m)
+pub taken_as : (s : List ℕ) (m : Negotiate) → read_negotiate s ≡ Ok m → Judged s (Ok m)
 taken_as s m h = subst (Judged s) h (judged s)
 
 pub negotiate_own : NegotiateOwn
@@ -129,17 +126,17 @@ apart =
 
 -- what follows the head's checks goes by the records without MaxLen
 module _ (m : Bool) (w : NegotiateFlags) where
-  abbrev rest : ℕ → Fields → Reading
-  rest n f = on_clear Refused (check_fields n f) (Taken (record { flags = w; fields = f }))
+  abbrev rest : ℕ → Fields → Result Negotiate Refusal
+  rest n f = on_clear Err (check_fields n f) (Ok (record { flags = w; fields = f }))
 
   rest_kept : (n : ℕ) (f : Fields) → kept_negotiate m (rest n f) ≡ rest n (kept_negotiate_fields m f)
   unfolding check_fields check_ends check_begins kept
   rest_kept n f = go (check_fields n f) where
-    go : (v : Verdict) →
-        kept_negotiate m (on_clear Refused v (Taken (record { flags = w; fields = f })))
-        ≡ on_clear Refused v (Taken (record { flags = w; fields = kept_negotiate_fields m f }))
-    go Clear = refl
-    go (Not e) = refl
+    go : (v : Result ⊤ Refusal) →
+        kept_negotiate m (on_clear Err v (Ok (record { flags = w; fields = f })))
+        ≡ on_clear Err v (Ok (record { flags = w; fields = kept_negotiate_fields m f }))
+    go (Ok tt) = refl
+    go (Err e) = refl
 
 module _ (a b : List ℕ) (d : DifferInIgnored negotiate a b) where
   -- without MaxLen, and with it where it is the same
@@ -154,7 +151,7 @@ module _ (a b : List ℕ) (d : DifferInIgnored negotiate a b) where
 
     reading_same : kept_negotiate m (read_negotiate a) ≡ kept_negotiate m (read_negotiate b)
     unfolding read_negotiate
-    reading_same = same.read_same negotiate a b (seen negotiate apart a) d Refused (rest m) fields_at (kept_negotiate_fields m) (kept_negotiate m) (omega arith) (rest_kept m) fields_same
+    reading_same = same.read_same negotiate a b (seen negotiate apart a) d Err (rest m) fields_at (kept_negotiate_fields m) (kept_negotiate m) (omega arith) (rest_kept m) fields_same
 
   bytes_same : ((n i : ℕ) → Fails negotiate a n i → ⊥) → SameBytes a b (fields_at a (flags_at a 12)).domain × SameBytes a b (fields_at a (flags_at a 12)).workstation
   bytes_same none =

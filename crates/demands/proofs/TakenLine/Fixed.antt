@@ -1,4 +1,5 @@
 -- What a line is made of fixes it.
+use Rattle.std.specs.Prelude.{Option, Some, None}
 use Prim.Native.Nat.{ℕ, ◌+◌, ◌-◌, ◌≤◌, ◌<◌}
 use mathlib.Core.Path.{◌≡◌, refl, sym, ap, ◌∙◌, subst}
 use mathlib.Core.Logic.{◌⊎◌, inl, inr}
@@ -12,8 +13,6 @@ use borrow.Author.Tests.{eqb-true, eqb-false}
 use Rattle.wire.specs.Text.{ascii}
 use Rattle.wire.specs.Number.{u64_at}
 use Rattle.line_words.specs.Digits.{hex}
-use Rattle.target_info.specs.declared.Timestamp.{Timestamp}
-use Rattle.target_info.specs.declared.Timestamp.TheVariants.{Time, Nothing}
 use Rattle.demands.specs.Answering.{TimestampIs}
 use Rattle.demands.specs.MaxLen.{Unlike, MaxDigits}
 use Rattle.demands.specs.Message.{Format, Set, Counts, Nonempty, MicThere, authenticate, FlagSet}
@@ -95,13 +94,13 @@ one_digits k s ds es a b = ext_get_or 0 ds es (a.count ∙ sym b.count) (λ j l.
       (either_number (Unlike k s (j + 1)) (get_or ds (j + 1 - 1) 0) (get_or es (j + 1 - 1) 0)
       (λ u. a.one (j + 1) low last u ∙ sym (b.one (j + 1) low last u)) (λ u. a.else (j + 1) low last u ∙ sym (b.else (j + 1) low last u)))
 
-one_time : (b : List ℕ) (x y : Timestamp) → TimestampIs b x → TimestampIs b y → time_shown x ≡ time_shown y
-one_time b (Time t) (Time u) p q =
+one_time : (b : List ℕ) (x y : Option ℕ) → TimestampIs b x → TimestampIs b y → time_shown x ≡ time_shown y
+one_time b (Some t) (Some u) p q =
     ap (λ (n : ℕ). ascii " time=" ++ hex 16 n)
     (p.2 ∙ ap (λ (n : ℕ). u64_at b (n + 4)) (one_place b 7 p.0 q.0 0 p.1 q.1) ∙ sym q.2)
-one_time b (Time t) Nothing p q = absurd (q (p.0, p.1))
-one_time b Nothing (Time u) p q = absurd (p (q.0, q.1))
-one_time b Nothing Nothing p q = refl
+one_time b (Some t) None p q = absurd (q (p.0, p.1))
+one_time b None (Some u) p q = absurd (p (q.0, q.1))
+one_time b None None p q = refl
 
 -- ---- NL_AUTH
 

@@ -1,4 +1,6 @@
 -- The line of NL_AUTH, whole.
+use Rattle.std.specs.Prelude.{Result, Ok, Err}
+use Rattle.wire.specs.declared.refusal.Refusal.{Refusal}
 use Prim.Native.Nat.{ℕ, ◌/◌, ◌%◌}
 use mathlib.Core.Path.{◌≡◌, refl, sym, ap, ◌∙◌, subst}
 use mathlib.Core.Logic.{◌⊎◌, inl, inr, ⊎_elim}
@@ -16,8 +18,6 @@ use Rattle.line_words.specs.Words.{number_word, string_word, flags_word}
 use Rattle.line_dns_name.specs.DnsNameText.{byte_text, label_text, part_text, joined, dns_name_text as dns_text}
 use Rattle.nl_auth_flags.specs.Flags.{nb_domain, nb_computer, dns_domain, dns_host, utf8_computer}
 use Rattle.read_nl_auth.specs.declared.NlAuth.{NlAuth}
-use Rattle.read_nl_auth.specs.declared.Reading.{Reading as NlReading}
-use Rattle.read_nl_auth.specs.declared.Reading.TheVariants.{Taken as NlTaken, Refused as NlRefused}
 use Rattle.read_nl_auth.specs.declared.string.NlString.{NlString}
 use Rattle.read_nl_auth.specs.NlAuth.{string_bytes, labels_of, read_nl_auth}
 use Rattle.line_nl_string.specs.StringText.{oem_text, utf8_text}
@@ -71,7 +71,7 @@ word_shown flags i label text Shows f =
       left_out = λ n. ap (λ (t : Bool). cond t (label ++ text) []) (ne_eqb (flags / mask_of i % 2) 1 n);
     }
 
-module _ (s : List ℕ) (m : NlAuth) (h : read_nl_auth s ≡ NlTaken m) where
+module _ (s : List ℕ) (m : NlAuth) (h : read_nl_auth s ≡ Ok m) where
   -- a bit that the answer has is the request's
   asked : (A : Type 0) (mask : ℕ) → u32_at s 4 % 32 / mask % 2 ≡ u32_at s 4 / mask % 2 → (0 / mask % 2 ≡ 1 → ⊥) →
       (OwnRequest s m → BitSet s mask → A) → FlagSet m.flags.bits mask → A
@@ -146,6 +146,6 @@ module _ (s : List ℕ) (m : NlAuth) (h : read_nl_auth s ≡ NlTaken m) where
 
 pub nl_line_whole : NlLineWhole
 nl_line_whole s t = go (read_nl_auth s) refl t where
-  go : (r : NlReading) → read_nl_auth s ≡ r → IsTaken (nl_verdict r) → NlLine s (nl_auth_line s)
-  go (NlTaken m) h i = nl_whole s m h
-  go (NlRefused e) h i = absurd i
+  go : (r : Result NlAuth Refusal) → read_nl_auth s ≡ r → IsTaken (nl_verdict r) → NlLine s (nl_auth_line s)
+  go (Ok m) h i = nl_whole s m h
+  go (Err e) h i = absurd i

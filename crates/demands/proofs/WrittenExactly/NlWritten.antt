@@ -1,4 +1,5 @@
 -- An NL_AUTH request or response is written exactly when no check of its writing fails.
+use Rattle.std.specs.Prelude.{Ok, Err}
 use Prim.Native.Nat.{ℕ, ◌+◌, ◌/◌, ◌%◌, ◌≤◌, ◌<◌}
 use mathlib.Core.Path.{◌≡◌, refl, sym, ap, ◌∙◌, subst}
 use mathlib.Core.Logic.{⊎_elim}
@@ -10,12 +11,10 @@ use lib.ListN.{length, length-append}
 use borrow.Author.Tests.{leb-true, leb-false, eqb-true, eqb-false, eq-eqb, ltb-true, ltb-false}
 use Rattle.wire.specs.declared.check.Checked.{Checked}
 use Rattle.wire.specs.declared.check.Checked.TheVariants.{Held, Failed}
-use Rattle.wire.specs.declared.check.Verdict.TheVariants.{Clear, Refused as Not}
 use Rattle.wire.specs.declared.refusal.Refusal.TheVariants.{NoRoom, ZeroInString, WrongLabel, NameTooLong}
 use Rattle.wire.specs.Check.{checked, after}
 use Rattle.wire.specs.Number.{has}
 use Rattle.wire.proofs.Laws.{held_true}
-use Rattle.place.specs.declared.written.Written.TheVariants.{Length, Refused}
 use Rattle.place.specs.Written.{answered}
 use Rattle.nl_auth_flags.specs.declared.NlAuthFlags.{NlAuthFlags}
 use Rattle.nl_auth_flags.specs.Flags.{nb_domain, nb_computer, dns_domain, dns_host, utf8_computer, known, strings_hold}
@@ -245,9 +244,9 @@ pub nl_response_written : NlResponseIsWritten
 unfolding response_answer
 nl_response_written room =
     rw length-response (go (leb 9 room) (by_verdict (33 ∷ []) (RoomFails room 9) (only_room room 9) 0 refl
-    (after (checked (leb 9 room)) (Not NoRoom) Clear) response_bytes 9 length-response (only_room_judged room 9)))
+    (after (checked (leb 9 room)) (Err NoRoom) (Ok tt)) response_bytes 9 length-response (only_room_judged room 9)))
   where
-    go : (t : Bool) → WrittenExactly (answered (after (checked t) (Not NoRoom) Clear) response_bytes) (33 ∷ []) (RoomFails room 9) 9 →
-        WrittenExactly (after (checked t) (Refused NoRoom) (Length 9)) (33 ∷ []) (RoomFails room 9) 9
-    go true x = subst (λ (n : ℕ). WrittenExactly (Length n) (33 ∷ []) (RoomFails room 9) 9) length-response x
+    go : (t : Bool) → WrittenExactly (answered (after (checked t) (Err NoRoom) (Ok tt)) response_bytes) (33 ∷ []) (RoomFails room 9) 9 →
+        WrittenExactly (after (checked t) (Err NoRoom) (Ok 9)) (33 ∷ []) (RoomFails room 9) 9
+    go true x = subst (λ (n : ℕ). WrittenExactly (Ok n) (33 ∷ []) (RoomFails room 9) 9) length-response x
     go false x = x

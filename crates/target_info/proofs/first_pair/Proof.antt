@@ -1,9 +1,9 @@
 -- `first_pair` stops at the first pair with the id: what is left decides.
+use Rattle.std.specs.Prelude.{Ok}
 use Prim.Native.Nat.{◌-◌}
 use mathlib.Core.Path.{◌≡◌}
 use borrow.Author.Rules.{rules}
 use lib.ListN.{length}
-use Rattle.wire.specs.declared.check.Verdict.TheVariants.{Clear}
 use Rattle.av_pairs.specs.AvPairs.{stop_at}
 use Rattle.av_pairs.proofs.Walks.{clear_all, there_clear, there_fits, there_falls}
 use Rattle.target_info.proofs.Searches.{Looked, look, look_next, look_stop, look_here}
@@ -11,7 +11,7 @@ use Rattle.target_info.proofs.first_pair.Statement.{statement}
 use Rattle.target_info.proofs.first_pair.Tie as tie
 
 abbrev invariant-loop-p : tie.invariant-loop-p
-invariant-loop-p list id at₀ at = Looked id list at × (stop_at list at ≡ Clear)
+invariant-loop-p list id at₀ at = Looked id list at × (stop_at list at ≡ Ok tt)
 
 abbrev decreases-loop-p : tie.decreases-loop-p
 decreases-loop-p list id at₀ at = length list - at

@@ -1,21 +1,27 @@
-use Rattle.std.proofs.Common.{rules, ◌∙◌}
-use Rattle.md5_digest.proofs.States.{whole_turn, filling_turn, unfilled_turn}
+use Rattle.std.proofs.Common.{refl, arith, ◌%◌, ◌-◌, length}
+use Rattle.md5_digest.specs.State.{blank}
+use Rattle.md5_digest.proofs.States.{unfilled, put_stored, begun, block_gone, rest_gone}
 use Rattle.md5_digest.proofs.state.State.update.Goals as goal
-use Rattle.md5_digest.proofs.state.State.update.Goals.{then-n-eq64, else-n-eq64+then-to-eq64, else-n-eq64+else-to-eq64}
 
-pub loop-i-preserved : goal.loop-i-preserved
-loop-i-preserved c =
-    let inv = c.loop-i.invariant in
-    let test = c.loop-i-test.true in
-    let room = c.room-n.ensures in (
-      search rules,
-      elim c.if-n-eq64.branch [
-        | then-n-eq64 w ↦
-            whole_turn _ _ _ _ _ _ _ _ _ inv.1.1 test room inv.1.0 w.if-n-eq64.true (w.buffer-is ∙ w.block_taken-buffer.ensures) w.tail-is
-        | else-n-eq64+then-to-eq64 w ↦
-            filling_turn _ _ _ _ _ _ _ _ _ _ inv.1.1 test room inv.1.0 w.if-to-eq64.true w.fill.ensures
-            (w.buffer-is ∙ w.block_taken-buffer-then-to-eq64.ensures) w.tail-is
-        | else-n-eq64+else-to-eq64 w ↦
-            unfilled_turn _ _ _ _ _ _ _ _ _ _ inv.1.1 test room inv.1.0 w.if-to-eq64.false w.fill.ensures w.buffer-is w.tail-is
-      ],
-    )
+pub returns-in_default : goal.returns-in_default
+returns-in_default c =
+    let short = c.in_default.ensures.cases in
+    (refl, unfilled c.args.self c.args.m.now _ (omega arith) (put_stored c.args.self.tail _ c.args.m.now _ _ c.copy_from_slice.ensures.after (omega arith) (omega arith)))
+
+pub loop-block-init : goal.loop-block-init
+loop-block-init c =
+    let split = c.in-Some.ensures.cases in
+    begun c.args.self c.args.m.now c.in-Some.first.now _ _ (64 - c.args.self.count % 64) (omega arith) split.0 split.1
+    (put_stored c.args.self.tail _ c.in-Some.first.now _ _ c.copy_from_slice-2.ensures.after (omega arith) (omega arith)) c.block_taken-buffer.ensures
+
+pub loop-block-preserved : goal.loop-block-preserved
+loop-block-preserved c =
+    block_gone c.args.self c.args.m.now _ _ _ _ _ _ c.loop-block.invariant c.in-Some.ensures.cases.2 c.as_chunks.ensures.front (omega arith)
+    c.block_taken-buffer-in-loop-block.ensures
+
+pub returns : goal.returns
+returns c = (
+  refl,
+  rest_gone c.args.self c.args.m.now _ _ _ _ _ _ c.loop-block.block-index c.loop-block.invariant c.in-Some.ensures.cases.2 (omega arith) (omega arith) c.as_chunks.ensures.back
+      (put_stored blank _ _ 0 (length c.as_chunks.result.1.now) c.copy_from_slice-3.ensures.after refl (omega arith)) refl,
+)

@@ -1,7 +1,0 @@
-use borrow.Author.Rules.{rules}
-use Rattle.base64_text.proofs.Laws.{is_one}
-use Rattle.base64_text.proofs.put_one.Statement.{statement}
-use Rattle.base64_text.proofs.put_one.Tie as tie
-
-pub put_one_spec : {M : Type 1} → statement M
-put_one_spec = tie.close (tie.spec (λ c κs. search rules) (λ c. search rules) (λ c κs. search rules) (λ c κs. search rules) (λ c. search rules) (λ c. search is_one))

@@ -1,9 +1,0 @@
-use borrow.Author.Rules.{rules}
-use Rattle.base64_text.proofs.Laws.{is_three}
-use Rattle.base64_text.proofs.put_three.Statement.{statement}
-use Rattle.base64_text.proofs.put_three.Tie as tie
-
-pub put_three_spec : {M : Type 1} → statement M
-put_three_spec =
-    tie.close
-    (tie.spec (λ c κs. search rules) (λ c. search rules) (λ c. search rules) (λ c κs. search rules) (λ c. search rules) (λ c. search rules) (λ c κs. search rules) (λ c κs. search rules) (λ c κs. search rules) (λ c. search rules) (λ c. search is_three))

@@ -1,8 +1,0 @@
--- `for_bench` gives the defaults but for 128-bit.
-use borrow.Author.Rules.{rules}
-use Rattle.respond.proofs.Decisions.{but_for_128}
-use Rattle.respond.proofs.decision.Settings.for_bench.Statement.{statement}
-use Rattle.respond.proofs.decision.Settings.for_bench.Tie as tie
-
-pub for_bench_spec : {M : Type 1} → statement M
-for_bench_spec = tie.close (tie.spec (λ c κs. search rules) (λ c. search but_for_128))
