@@ -36,7 +36,7 @@ fn put_three(p: Place, out: &mut [u8], a: u8, b: u8, c: u8) -> Place
     let x = letter(a % 4 * 16 + b / 16);
     let y = letter(b % 16 * 4 + c / 64);
     let z = letter(c % 64);
-    p.put_bytes(out, &[w, x, y, z])
+    p.put_four(out, [w, x, y, z])
 }
 
 // Of two bytes at the end.
@@ -48,7 +48,7 @@ fn put_two(p: Place, out: &mut [u8], a: u8, b: u8) -> Place
     let w = letter(a / 4);
     let x = letter(a % 4 * 16 + b / 16);
     let y = letter(b % 16 * 4);
-    p.put_bytes(out, &[w, x, y, b'='])
+    p.put_four(out, [w, x, y, b'='])
 }
 
 // Of one byte at the end.
@@ -59,7 +59,7 @@ fn put_one(p: Place, out: &mut [u8], a: u8) -> Place
 {
     let w = letter(a / 4);
     let x = letter(a % 4 * 16);
-    p.put_bytes(out, &[w, x, b'=', b'='])
+    p.put_four(out, [w, x, b'=', b'='])
 }
 
 // Writes a message as base64.

@@ -6,7 +6,7 @@ ghost use Rattle.c_number.specs.Outcome.{call_number, call_out};
 ghost use Rattle.mic.specs.Mic.{computed_mic, check_mic};
 ghost use Rattle.c_mic.specs.Numbers.{mic_outcome, checking_number};
 
-use c_number::{give, refusal_number};
+use c_number::{give_bytes, refusal_number};
 use place::written::room_holds;
 use wire::check::Checked;
 use wire::refusal::Refusal;
@@ -23,7 +23,7 @@ pub fn compute(key: &[u8], nego: &[u8], chal: &[u8], auth: &[u8], out: &mut [u8]
     let computed = mic::compute(key, nego, chal, auth);
     match computed.verdict {
         Ok(()) => {
-            give(out, &computed.mic);
+            give_bytes(out, &computed.mic);
             0
         }
         Err(e) => refusal_number(e),

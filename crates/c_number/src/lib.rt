@@ -4,13 +4,15 @@
 ghost use Rattle.std.specs.Prelude.{ℕ, List, ◌≡◌, ◌≤◌, ◌<◌, ◌++◌, length, drop, Ok, Err};
 ghost use Rattle.wire.specs.declared.refusal.Refusal.{Refusal};
 ghost use Rattle.wire.specs.declared.refusal.Refusal.TheVariants.{NoRoom};
-ghost use Rattle.place.specs.Written.{bytes_answer, bytes_after};
+ghost use Rattle.place.specs.Written.{at_front, bytes_answer, bytes_after};
 ghost use Rattle.c_number.specs.Number.{place_shown, refusal_number, verdict_number, written_number};
 ghost use Rattle.c_number.specs.Outcome.{Outcome, Finds, FindsBoth, call_number, call_out, rooms_hold, two_array_number, two_array_out, two_array_bytes};
 
+use place::Place;
 use place::written::room_holds;
 use std::convert::AsSlice;
 use wire::check::{Checked, check};
+use wire::number::copy_items;
 use wire::refusal::Refusal;
 
 fn place_shown(at: usize) -> u64
@@ -62,13 +64,23 @@ fn rooms_hold(n: usize, room: usize, m: usize, room2: usize) -> Checked
     check((n <= room) & (m <= room2))
 }
 
-// Items at the front of a lent array that has room for them.
-pub fn give<T: Copy>(out: &mut [T], items: &[T])
+// Items at the front of a lent array that has room for them; the answer is that of a call that was not refused.
+pub fn give<T: Copy>(out: &mut [T], items: &[T]) -> u64
     requires { length items.now ≤ length out.old }
-    ensures { out.new ≡ items.now ++ drop (length items.now) out.old }
+    ensures answer { result ≡ 0 }
+    ensures content { out.new ≡ items.now ++ drop (length items.now) out.old }
 {
     let end = items.len();
-    out[..end].copy_from_slice(items);
+    copy_items(&mut out[..end], items);
+    0
+}
+
+// Bytes at the front of a lent array that has room for them.
+pub fn give_bytes(out: &mut [u8], bytes: &[u8])
+    requires { length bytes.now ≤ length out.old }
+    ensures { out.new ≡ at_front bytes.now out.old }
+{
+    Place { at: 0 }.put_bytes(out, bytes);
 }
 
 // A call that hands out the `n` numbers of a reading, or its refusal. An array with no room for them is refused 33, before anything is read.
@@ -87,10 +99,7 @@ pub fn hand_out<A: AsSlice<u64> + Copy, F: FnOnce() -> Result<A, Refusal>>(
         return refusal_number(Refusal::NoRoom);
     };
     match read() {
-        Ok(found) => {
-            give(out, found.as_slice());
-            0
-        }
+        Ok(found) => give(out, found.as_slice()),
         Err(e) => refusal_number(e),
     }
 }
@@ -117,9 +126,8 @@ pub fn hand_out_beside<
     };
     match read() {
         Ok((numbers, bytes)) => {
-            give(out, numbers.as_slice());
-            give(beside, bytes.as_slice());
-            0
+            give_bytes(beside, bytes.as_slice());
+            give(out, numbers.as_slice())
         }
         Err(e) => refusal_number(e),
     }
@@ -134,6 +142,6 @@ pub fn copy(out: &mut [u8], bytes: &[u8]) -> Result<usize, Refusal>
     let Checked::Held = room_holds(bytes.len(), out.len()) else {
         return Err(Refusal::NoRoom);
     };
-    give(out, bytes);
+    give_bytes(out, bytes);
     Ok(bytes.len())
 }

@@ -6,6 +6,7 @@ ghost use Rattle.md5_digest.specs.State.{fresh, taken};
 ghost use Rattle.hmac_md5.specs.Hmac.{key_block, xored, begun, hmac_finished, hmac};
 
 use md5_digest::state::{State, digest};
+use wire::number::copy_items;
 
 // A digest's state after the block of a key of at most 64 bytes, each byte XOR x. Keys stay slices with a bound: docs/changes/10-mic.md names
 // `begin` and `end`, and a struct of a short key would be made in each of them.
@@ -14,7 +15,7 @@ fn padded(key: &[u8], x: u8) -> State
     ensures { (result.count ≡ 64) × (result ≡ taken fresh (xored x (key_block key.now))) }
 {
     let mut block = [0; 64];
-    block[..key.len()].copy_from_slice(key);
+    copy_items(&mut block[..key.len()], key);
     for byte in block.iter_mut() {
         *byte ^= x;
     }

@@ -1,7 +1,7 @@
 -- Laws of the end: what stands in the last block, and the block before it where that one has no room for the length; the bytes of the words.
 use Rattle.std.proofs.Common.{◌≡◌, ℕ, suc, ◌+◌, ◌-◌, ◌*◌, ◌%◌, ◌≤◌, ◌<◌, List, [], ◌∷◌, ◌++◌, length, take, drop, set, replicate, refl, sym, ap, ◌∙◌, arith, length-set, length-take, length-append, append_assoc}
 use mathlib.Core.List.{append-nil}
-use Rattle.std.proofs.lemmas.List.{length-replicate}
+use Rattle.std.proofs.lemmas.List.{length-replicate, take-replicate}
 use Rattle.std.proofs.Math.ListN.{drop_of_length-le, replicate-append-replicate}
 use Rattle.std.proofs.Math.Seq.{sets, sets-eq, length-sets, take_at}
 use Rattle.std.proofs.Math.Nat.{div-div-eq-div-mul}
@@ -31,11 +31,12 @@ length_of s = bytes_of 8 (8 * s.count)
 abbrev marked : List ℕ → ℕ → List ℕ
 marked l at = sets l at (0x80 ∷ zeros (63 - at))
 
-pub is_marked : (l ys : List ℕ) (at n k : ℕ) → length l ≡ 64 → at < 64 → n ≡ 63 - at → k ≡ 63 - at → ys ≡ zeros k → put_mid (at + 1) n (set l at 0x80) ys ≡ marked l at
-is_marked l ys at n k long h e f g =
-    let same : at + 1 ≡ suc at = omega arith in
-    put_stored (set l at 0x80) ys (zeros (63 - at)) (at + 1) n (g ∙ ap zeros f) (length-replicate (63 - at) 0 ∙ sym e) (simp length-set (omega arith))
-    ∙ ap (λ (j : ℕ). sets (set l at 0x80) j (zeros (63 - at))) same
+pub is_marked : (l ys : List ℕ) (at n : ℕ) → length l ≡ 64 → at < 64 → n ≡ 64 - at → ys ≡ take (64 - at) (0x80 ∷ zeros 63) → put_mid at n l ys ≡ marked l at
+is_marked l ys at n long h e g =
+    let more : 64 - at ≡ suc (63 - at) = omega arith in
+    let part : ys ≡ 0x80 ∷ zeros (63 - at) =
+    g ∙ ap (λ (k : ℕ). take k (0x80 ∷ zeros 63)) more ∙ ap (λ (l : List ℕ). 0x80 ∷ l) (take-replicate (63 - at) 63 0 (omega arith)) in
+    put_stored l ys (0x80 ∷ zeros (63 - at)) at n part (ap suc (length-replicate (63 - at) 0) ∙ sym more ∙ sym e) (omega arith)
 
 -- of a block that its last eight bytes end, only what is before them counts
 same_front : (l k bits : List ℕ) → length l ≡ 64 → length k ≡ 64 → length bits ≡ 8 → take 56 l ≡ take 56 k → sets l 56 bits ≡ sets k 56 bits

@@ -105,6 +105,12 @@ put_stored l xs ys at n e long h =
     ∙ ap (λ (y : List ℕ). take at l ++ (ys ++ y)) (drop-drop (length ys) at l)
     ∙ sym (append_assoc (take at l) ys (drop (at + length ys) l)) ∙ sym (sets-eq ys l at (omega arith))
 
+-- all of a list is put over another
+pub put_over : (l xs : List ℕ) (at : ℕ) → at ≡ 0 → length xs ≡ length l → sets l at xs ≡ xs
+put_over l xs at e h =
+    let none : drop (at + length xs) l ≡ [] = drop_of_length-le l (omega arith) in
+    sets-eq xs l at (omega arith) ∙ ap (λ (r : List ℕ). (take at l ++ xs) ++ r) none ∙ append-nil (take at l ++ xs) ∙ ap (λ (k : ℕ). take k l ++ xs) e
+
 -- s is to take all of m, and b has the blocks of it but for what is left
 pub record Going (s : State) (m left : List ℕ) (b : Buffer) : Type 0 where
   pub count : ℕ

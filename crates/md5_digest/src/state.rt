@@ -4,6 +4,7 @@ ghost use Rattle.md5_digest.specs.Digest.{word_bytes, md5};
 ghost use Rattle.md5_digest.specs.State.{fresh, taken, finished};
 
 use crate::block::{Buffer, block_taken};
+use wire::number::copy_items;
 
 // The buffer after the whole blocks so far, the block that is being filled, and the count of all bytes taken.
 #[derive(Clone, Copy)]
@@ -45,8 +46,10 @@ impl State {
         }
     }
 
-    // A piece of the message: what fills the block, the whole blocks after it from where they stand, and the rest. The state's parts are held
+    // A piece of the message: what fills the block, the whole blocks from where they stand, and the rest. The state's parts are held
     // apart, so that on a small box's stack there is one block and no second state.
+    // Not inlined: a copy of bytes that are known to be zeros, as those in place of a MIC, would want the C library's memset.
+    #[inline(never)]
     pub fn update(self, m: &[u8]) -> State
         requires { self.count + length m.now ≤ 0x800000000000000 }
         ensures { (result.count ≡ self.count + length m.now) × (result ≡ taken self m.now) }
@@ -56,21 +59,25 @@ impl State {
         let mut buffer = self.buffer;
         let mut tail = self.tail;
         let Some((first, rest)) = m.split_at_checked(64 - at) else {
-            tail[at..at + m.len()].copy_from_slice(m);
+            copy_items(&mut tail[at..at + m.len()], m);
             return State {
                 buffer,
                 tail,
                 count,
             };
         };
-        tail[at..].copy_from_slice(first);
-        buffer = block_taken(buffer, &tail);
+        if at == 0 {
+            buffer = block_taken(buffer, first);
+        } else {
+            copy_items(&mut tail[at..], first);
+            buffer = block_taken(buffer, &tail);
+        }
         let (blocks, last) = rest.as_chunks::<64>();
         for block in blocks {
             buffer = block_taken(buffer, block);
         }
         tail = [0; 64];
-        tail[..last.len()].copy_from_slice(last);
+        copy_items(&mut tail[..last.len()], last);
         State {
             buffer,
             tail,
@@ -87,13 +94,14 @@ impl State {
         let at = (self.count % 64) as usize;
         let mut buffer = self.buffer;
         let mut tail = self.tail;
-        tail[at] = 0x80;
-        tail[at + 1..].fill(0);
+        let mut bits = [0; 64];
+        bits[0] = 0x80;
+        copy_items(&mut tail[at..], &bits[..64 - at]);
         if 56 <= at {
             buffer = block_taken(buffer, &tail);
             tail = [0; 64];
         }
-        tail[56..].copy_from_slice(&(8 * self.count).to_le_bytes());
+        copy_items(&mut tail[56..], &(8 * self.count).to_le_bytes());
         word_bytes(block_taken(buffer, &tail))
     }
 }
@@ -103,10 +111,10 @@ fn word_bytes(p: Buffer) -> [u8; 16]
     ensures { result ≡ word_bytes p }
 {
     let mut bytes = [0; 16];
-    bytes[..4].copy_from_slice(&p.a.to_le_bytes());
-    bytes[4..8].copy_from_slice(&p.b.to_le_bytes());
-    bytes[8..12].copy_from_slice(&p.c.to_le_bytes());
-    bytes[12..].copy_from_slice(&p.d.to_le_bytes());
+    copy_items(&mut bytes[..4], &p.a.to_le_bytes());
+    copy_items(&mut bytes[4..8], &p.b.to_le_bytes());
+    copy_items(&mut bytes[8..12], &p.c.to_le_bytes());
+    copy_items(&mut bytes[12..], &p.d.to_le_bytes());
     bytes
 }
 

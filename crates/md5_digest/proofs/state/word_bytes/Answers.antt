@@ -7,8 +7,8 @@ pub returns : goal.returns
 unfolding word_bytes
 returns c =
     rw (
-      c.copy_from_slice.ensures.after ∙ four_bytes _ _ c.to_le_bytes.ensures,
-      c.copy_from_slice-2.ensures.after ∙ four_bytes _ _ c.to_le_bytes-2.ensures,
-      c.copy_from_slice-3.ensures.after ∙ four_bytes _ _ c.to_le_bytes-3.ensures,
-      c.copy_from_slice-4.ensures.after ∙ four_bytes _ _ c.to_le_bytes-4.ensures,
+      c.copy_items.ensures ∙ four_bytes _ _ c.to_le_bytes.ensures,
+      c.copy_items-2.ensures ∙ four_bytes _ _ c.to_le_bytes-2.ensures,
+      c.copy_items-3.ensures ∙ four_bytes _ _ c.to_le_bytes-3.ensures,
+      c.copy_items-4.ensures ∙ four_bytes _ _ c.to_le_bytes-4.ensures,
     ) refl

@@ -6,10 +6,10 @@ use Rattle.md5_digest.proofs.state.State.finish.Goals.{then-at-ge56, else-at-ge5
 pub returns : goal.returns
 returns c =
     let s = c.args.self in
-    let marked = is_marked s.tail _ (s.count % 64) (64 - (s.count % 64 + 1)) _ (omega arith) (omega arith) (omega arith) (omega arith) (c.fill.ensures.after (λ y e. e)) in
+    let marked = is_marked s.tail _ (s.count % 64) (64 - s.count % 64) (omega arith) (omega arith) (omega arith) c.copy_items.ensures in
     let ending : Ending s c.if-at-ge56.buffer c.if-at-ge56.tail =
     elim c.if-at-ge56.branch [
       | then-at-ge56 w ↦ next_block s _ _ _ (omega arith) w.if-at-ge56.true marked (w.buffer-is ∙ w.block_taken-buffer.ensures) w.tail-is
       | else-at-ge56 w ↦ same_block s _ _ (omega arith) w.if-at-ge56.false w.buffer-is (w.tail-is ∙ marked)
     ] in
-    is_finished s _ _ _ _ _ _ ending c.to_le_bytes.ensures c.copy_from_slice.ensures.after c.block_taken.ensures c.word_bytes.ensures
+    is_finished s _ _ _ _ _ _ ending c.to_le_bytes.ensures c.copy_items-2.ensures c.block_taken.ensures c.word_bytes.ensures
