@@ -1,11 +1,12 @@
 -- What reads do to the bytes that their reader is known to have.
-use Rattle.std.proofs.Common.{◌≡◌, ℕ, zero, suc, ◌+◌, ◌-◌, ◌≤◌, ◌<◌, List, [], ◌++◌, None, Some, Option, Result, Ok, Err, refl, sym, ap, ◌∙◌, subst, arith, length, take, drop, slice_range, drop_at, length-take-le, length-drop}
+use Rattle.std.proofs.Common.{◌≡◌, ℕ, zero, suc, ◌+◌, ◌-◌, ◌≤◌, ◌<◌, List, [], ◌++◌, None, Some, IfSome, Option, Result, Ok, Err, refl, sym, ap, ◌∙◌, subst, ◌⊎◌, inl, inr, arith, length, take, drop, slice_range, drop_at, append-nil, take_at, take_all, length-take-le, length-drop}
+use Rattle.std.proofs.lemmas.Bool.{cases_lt}
 use Rattle.std.proofs.KnownBytes.{Consumes-trans}
 use Rattle.std.specs.Io.{ReadsAtMost}
 use Rattle.std.specs.Io.KnownBytes.{Consumes, Keeps, ReadConsumes}
 use borrow.Rule.Slice.PartMut.{put_mid, post_of, mid_of, same_len_mid}
 use lib.Seq.{take-add, take-append-le}
-use Rattle.input.specs.Input.{after_read, OnceRead}
+use Rattle.input.specs.Input.{after_read, OnceRead, WasRead}
 
 -- ---- one read, into the part of the buffer from a place on
 
@@ -45,5 +46,22 @@ pub Consumes-further : (a b c : Option (List ℕ)) (at n : ℕ) (xs ys : List �
     → Consumes b c (slice_range ys at n) → Consumes a c (take n ys)
 Consumes-further a b c at n xs ys before more front read =
     subst (Consumes a c) (take_split at n xs ys more front) (Consumes-trans a b c _ _ before read)
+
+-- ---- the input, where all of the reader's bytes are known: as many of them as the buffer holds
+
+pub WasRead-known : (E : Type 0) (a b : Option (List ℕ)) (n room : ℕ) (buf : List ℕ) (P : List ℕ → Type 0) → WasRead {E = E} a b (Ok n) buf → n ≤ length buf → room ≡ length buf
+    → P (take n buf) → IfSome a (λ xs. P (take room xs))
+WasRead-known E None b n room buf P read within long h = tt
+WasRead-known E (Some x) None n room buf P read within long h = absurd read.0
+WasRead-known E (Some x) (Some y) n room buf P read within long h = subst P (all (cases_lt n room)) h
+  where
+    all : (n < room) ⊎ (room ≤ n) → take n buf ≡ take room x
+    all (inl l) =
+        let none : y ≡ [] = read.1 (omega arith) in
+        let e : x ≡ take n buf = read.0 ∙ ap (λ z. take n buf ++ z) none ∙ append-nil (take n buf) in
+        sym e ∙ sym (take_all room x (omega (arith, ap length e, length-take-le n buf within)))
+    all (inr l) =
+        let same : n ≡ room = omega arith in
+        sym (take_at (take n buf) y n (length-take-le n buf within)) ∙ ap (take n) (sym read.0) ∙ ap (λ k. take k x) same
 
 pub ruleset reads = (OnceRead-of_read, Consumes-further)

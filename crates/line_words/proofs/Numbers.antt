@@ -86,14 +86,17 @@ module _ (base : ℕ) (l k whole : List ℕ) (i left : ℕ) (w : Lowest base l k
             ∙ rw (f, e);
       })
 
-pub all_stored : (base : ℕ) (l m : List ℕ) (k n i left : ℕ) → Lowest base l m (digits base k n) i left → i ≤ 0 → Wrote l m 0 k (digits base k n)
-all_stored base l m k n i left w h =
+pub all_stored : (base : ℕ) (l k whole : List ℕ) (i left : ℕ) → Lowest base l k whole i left → (m : ℕ) → i ≤ 0 → m ≡ length whole → Wrote l k 0 m whole
+all_stored base l k whole i left w m h e =
     let z : i ≡ 0 = omega arith in
-    let s : digits base k n ≡ w.lower = w.split ∙ ap (λ (j : ℕ). digits base j left ++ w.lower) z in
+    let s : whole ≡ w.lower = w.split ∙ ap (λ (j : ℕ). digits base j left ++ w.lower) z in
     record {
-      place = sym (length_digits base k n) ∙ sym (zero-add (length (digits base k n)));
+      place = e ∙ sym (zero-add (length whole));
       content = w.stored ∙ ap (λ (j : ℕ). sets l j w.lower) z ∙ ap (λ (xs : List ℕ). sets l 0 xs) (sym s);
     }
+
+pub digits_stored : (base : ℕ) (l m : List ℕ) (k n i left : ℕ) → Lowest base l m (digits base k n) i left → i ≤ 0 → Wrote l m 0 k (digits base k n)
+digits_stored base l m k n i left w h = all_stored base l m (digits base k n) i left w k h (sym (length_digits base k n))
 
 -- ---- decimals
 

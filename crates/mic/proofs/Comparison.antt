@@ -1,5 +1,5 @@
 -- Sixteen bytes that are compared one by one.
-use Prim.Native.Nat.{ℕ, ◌+◌, ◌<◌}
+use Prim.Native.Nat.{ℕ, ◌+◌, ◌≤◌, ◌<◌}
 use mathlib.Core.Path.{◌≡◌, sym, ap, ◌∙◌}
 use mathlib.Core.Bool.{Bool, true, ◌&&◌}
 use mathlib.Core.List.{List, ◌∷◌}
@@ -31,8 +31,11 @@ stands_next s at xs same i c l h =
           ∙ ap (λ (m : List ℕ). same && stands_at s (at + i) m) (sym d) ∙ c.rest;
     }
 
-pub stands_end : (s : List ℕ) (at : ℕ) (xs : List ℕ) (same : Bool) → Compared s at xs same 16 → length xs ≡ 16 → same ≡ stands_at s at xs
-stands_end s at xs same c l =
-    sym (and-true same) ∙ ap (λ (m : List ℕ). same && stands_at s (at + 16) m) (sym (drop_of_length-le xs {i = 16} (omega arith))) ∙ c.rest
+pub stands_end : (s : List ℕ) (at : ℕ) (xs : List ℕ) (same : Bool) (i : ℕ) → Compared s at xs same i → length xs ≡ 16 → 16 ≤ i → same ≡ stands_at s at xs
+stands_end s at xs same i c l h =
+    sym (and-true same) ∙ ap (λ (m : List ℕ). same && stands_at s (at + i) m) (sym (drop_of_length-le xs {i = i} (omega arith))) ∙ c.rest
 
-pub ruleset compared = (stands_start, stands_next, stands_end)
+pub all_compared : (s : List ℕ) (at : ℕ) (xs : List ℕ) (same : Bool) → Compared s at xs same 16 → length xs ≡ 16 → same ≡ stands_at s at xs
+all_compared s at xs same c l = stands_end s at xs same 16 c l (omega arith)
+
+pub ruleset compared = (stands_start, stands_next, all_compared)
