@@ -1,7 +1,7 @@
 // Base64 with padding (RFC 4648, section 4).
 #![tactic(auto)]
 
-ghost use Rattle.std.specs.Prelude.{◌≡◌, true, false, cond, ◌+◌, ◌≤◌, ◌<◌, length};
+ghost use Rattle.std.specs.Prelude.{◌≡◌, true, false, cond, [], ◌∷◌, ◌+◌, ◌≤◌, ◌<◌, length};
 ghost use Rattle.place.specs.Place.{Wrote};
 ghost use Rattle.base64_text.specs.Base64.{letter, three, two, one, encode, is_letter, value_of, group_holds, first_byte, second_byte, third_byte, group_bytes, is_base64, decode};
 
@@ -26,6 +26,19 @@ fn letter(v: u8) -> u8
     choose(v < 26, v + b'A', small)
 }
 
+// Four characters. Not as an array: that goes as a number of 32 bits, and the compiler makes four groups at a time in place of sixteen.
+fn put_four(p: Place, out: &mut [u8], w: u8, x: u8, y: u8, z: u8) -> Place
+    requires { p.at + 4 ≤ length out.old }
+    ensures { Wrote out.old out.new p.at result.at (w ∷ x ∷ y ∷ z ∷ []) }
+{
+    let at = p.at;
+    out[at] = w;
+    out[at + 1] = x;
+    out[at + 2] = y;
+    out[at + 3] = z;
+    Place { at: at + 4 }
+}
+
 // The characters of three bytes.
 #[tactic(auto, unfolding(crate::specs::Base64::three))]
 fn put_three(p: Place, out: &mut [u8], a: u8, b: u8, c: u8) -> Place
@@ -36,7 +49,7 @@ fn put_three(p: Place, out: &mut [u8], a: u8, b: u8, c: u8) -> Place
     let x = letter(a % 4 * 16 + b / 16);
     let y = letter(b % 16 * 4 + c / 64);
     let z = letter(c % 64);
-    p.put_four(out, [w, x, y, z])
+    put_four(p, out, w, x, y, z)
 }
 
 // Of two bytes at the end.
@@ -48,7 +61,7 @@ fn put_two(p: Place, out: &mut [u8], a: u8, b: u8) -> Place
     let w = letter(a / 4);
     let x = letter(a % 4 * 16 + b / 16);
     let y = letter(b % 16 * 4);
-    p.put_four(out, [w, x, y, b'='])
+    put_four(p, out, w, x, y, b'=')
 }
 
 // Of one byte at the end.
@@ -59,7 +72,7 @@ fn put_one(p: Place, out: &mut [u8], a: u8) -> Place
 {
     let w = letter(a / 4);
     let x = letter(a % 4 * 16);
-    p.put_four(out, [w, x, b'=', b'='])
+    put_four(p, out, w, x, b'=', b'=')
 }
 
 // Writes a message as base64.
