@@ -98,7 +98,7 @@ copies && /^  call void @llvm\.memmove\.p0\.p0\.i64\(ptr %a1, ptr %a0, i64 %r[0-
     sub(/^attributes #[0-9]+ = \{/, "", rest)
     sub(/\}$/, "", rest)
     gsub(/"probe-stack"="inline-asm"|"stack-probe-size"="3072"|"target-cpu"="x86-64"|memory\([a-z: ,]*\)/, "", rest)
-    gsub(/nounwind|noinline|nocallback|nofree|willreturn|noreturn|cold/, "", rest)
+    gsub(/nounwind|noinline|alwaysinline|nocallback|nofree|willreturn|noreturn|cold/, "", rest)
     if (rest !~ /^ *$/) refuse("an attribute that is not known here")
     # What is said of one processor goes.
     gsub(/"[a-z-]*"="[^"]*" */, "")

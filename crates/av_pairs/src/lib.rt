@@ -54,7 +54,9 @@ fn size_holds(id: AvId, len: u16) -> Checked
     check(id.size_allowed(len))
 }
 
-// The pair with this id and length whose head stands at `at`, where so many bytes are left.
+// The pair with this id and length whose head stands at `at`, where so many bytes are left. Inlined, as `step_at` is: its answer has two tags,
+// and handed back through memory it is stored in other pieces than it is loaded in.
+#[inline(always)]
 fn pair_of(id: AvId, len: u16, at: usize, left: usize) -> Result<Option<AvPair>, Refusal>
     requires { at + 4 < 2 ^ 64 }
     ensures { result ≡ pair_of id len at left }
@@ -79,6 +81,7 @@ fn pair_of(id: AvId, len: u16, at: usize, left: usize) -> Result<Option<AvPair>,
 }
 
 // What stands at a place of a list: a pair, no pair at the end, or the refusal of a faulty one. An empty list is at its end everywhere.
+#[inline(always)]
 pub fn step_at(list: &[u8], at: usize) -> Result<Option<AvPair>, Refusal>
     ensures { result ≡ step_at list.now at }
 {
