@@ -7,7 +7,7 @@ ghost use Rattle.md5_digest.specs.Digest.{md5};
 ghost use Rattle.hmac_md5.specs.Hmac.{hmac};
 ghost use Rattle.md5_calls.specs.Calls.{buffer_fits, call_answer, call_after};
 
-use c_number::give;
+use c_number::give_bytes;
 
 fn buffer_fits(size: usize, other: usize, room: usize) -> bool
     ensures { result ≡ buffer_fits size other room }
@@ -23,7 +23,7 @@ pub extern "C" fn md5_of(m: &[u8], out: &mut [u8]) -> u64
 {
     if buffer_fits(m.len(), 0, out.len()) {
         let digest = md5_digest::state::digest(m);
-        give(out, &digest);
+        give_bytes(out, &digest);
         return 0;
     }
     1
@@ -38,7 +38,7 @@ pub extern "C" fn hmac_md5_of(key: &[u8], m: &[u8], out: &mut [u8]) -> u64
 {
     if buffer_fits(m.len(), key.len(), out.len()) {
         let mac = hmac_md5::mac(key, m);
-        give(out, &mac);
+        give_bytes(out, &mac);
         return 0;
     }
     1
