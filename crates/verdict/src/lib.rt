@@ -7,6 +7,8 @@ ghost use Rattle.verdict.specs.Verdict.{read_as};
 use head::Kind;
 use wire::refusal::Refusal;
 
+// Inlined: an answer with two tags that comes back through memory is stored in other pieces than it is loaded in.
+#[inline(always)]
 #[tactic(auto, using(crate::proofs::Laws::challenge_verdict))]
 pub fn read_as(kind: Kind, msg: &[u8]) -> Result<(), Refusal>
     ensures { result ≡ read_as kind msg.now }

@@ -150,7 +150,8 @@ fn put_after_heads(place: Place, out: &mut [u8], flags: NegotiateFlags, parts: &
     place.put_bytes(out, mic)
 }
 
-// The fixed part, from the start of the output on.
+// The fixed part, from the start of the output on. Inlined, as `write` is.
+#[inline(always)]
 fn put_fixed(out: &mut [u8], flags: NegotiateFlags, parts: &Parts, f: Fields) -> Place
     requires { 88 ≤ length out.old }
     ensures next { result.at ≡ 88 }
@@ -196,7 +197,9 @@ fn put_message(out: &mut [u8], flags: NegotiateFlags, parts: &Parts) -> Place
     put_payload(place, out, parts)
 }
 
-// Writes a message of these parts, fields 1 to 6 among them: its length, or the refusal with the output as it was.
+// Writes a message of these parts, fields 1 to 6 among them: its length, or the refusal with the output as it was. Inlined: what a caller
+// lends in one struct would else be laid in memory first.
+#[inline(always)]
 pub fn write(out: &mut [u8], flags: NegotiateFlags, parts: &Parts) -> Result<usize, Refusal>
     ensures answer { result ≡ write_answer (length out.old) flags parts.now.version.now parts.now.mic.now
         parts.now.lm.now parts.now.nt.now parts.now.domain.now parts.now.user.now parts.now.workstation.now parts.now.key.now }
